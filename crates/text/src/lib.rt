@@ -1,0 +1,1 @@
+// Bytes: numbers, comparing, finding, and writing at a place of a lent buffer.
