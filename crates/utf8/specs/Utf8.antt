@@ -1,10 +1,10 @@
 -- UTF-8 by RFC 3629: what a character is (section 4 of the RFC, "Syntax of UTF-8 Byte Sequences"), what valid text is, and
 -- a test that goes byte by byte. `valid-text` (proofs/Valid.antt) says that the test accepts just the valid texts.
-use mathlib.Core.Bool.{Bool, true, false, _&&_, cond}
-use mathlib.Core.Path.{_≡_}
-use Prim.Native.Nat.{ℕ, zero, suc, _+_, _-_, _≤_}
+use mathlib.Core.Bool.{Bool, _&&_, cond}
+use Prim.Native.Nat.{ℕ, _-_, _≤_}
 use mathlib.Core.List.{List, [], _∷_, _++_}
 use lib.Dec.{eqb, leb}
+use Rattle.utf8.specs.declared.State.{State}
 
 -- ---- the RFC's syntax
 
@@ -48,24 +48,24 @@ abbrev pub secondHigh : ℕ → ℕ
 secondHigh b = cond (eqb b 237) 159 (cond (eqb b 244) 143 191)
 
 -- a place in a text: how many bytes of the character are to come, and what the next lies between
-pub record State : Type 0 where
-  pub more : ℕ
-  pub low : ℕ
-  pub high : ℕ
-
 abbrev pub state : ℕ → ℕ → ℕ → State
 state m a b = record { more = m; low = a; high = b }
+
+-- between two characters
+abbrev pub whole : State
+whole = state 0 128 191
 
 -- no byte leads on from here
 abbrev pub dead : State
 dead = state 1 1 0
 
--- the state after one byte more
+-- after the first byte of a character
+abbrev pub begun : ℕ → State
+begun b = cond (eqb (lengthBy b) 0) dead (state (lengthBy b - 1) (secondLow b) (secondHigh b))
+
+-- after one byte more
 abbrev pub step : State → ℕ → State
-step u b =
-    cond (eqb (u .more) 0)
-    (cond (eqb (lengthBy b) 0) dead (state (lengthBy b - 1) (secondLow b) (secondHigh b)))
-    (cond (leb (u .low) b && leb b (u .high)) (state (u .more - 1) 128 191) dead)
+step u b = cond (eqb (u .more) 0) (begun b) (cond (leb (u .low) b && leb b (u .high)) (state (u .more - 1) 128 191) dead)
 
 unfoldable pub run : State → List ℕ → State
 run u [] = u
@@ -73,4 +73,4 @@ run u (b ∷ s) = run (step u b) s
 
 -- the bytes are whole characters
 unfoldable pub valid : List ℕ → Bool
-valid s = eqb (run (state 0 0 0) s .more) 0
+valid s = eqb (run whole s .more) 0

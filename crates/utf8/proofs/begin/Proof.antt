@@ -1,0 +1,31 @@
+-- The length decides between no way on and the bounds of the second byte.
+use mathlib.Core.Path.{sym, _∙_}
+use borrow.Author.Needs.{needs}
+use borrow.Author.Tests.{eq-eqb, ne-eqb}
+use Rattle.utf8.proofs.begin.Statement.{statement}
+use Rattle.utf8.proofs.begin.Tie as tie
+
+length-by-requires : tie.Need-length-by-requires
+length-by-requires c κs = search needs
+
+returns : tie.Need-returns
+returns c = rw (eq-eqb _ _ (sym (c .before .length-by .ensures) ∙ c .if1 .taken))
+
+sub-t4 : tie.Need-sub-t4
+sub-t4 c = search needs
+
+second-low-requires : tie.Need-second-low-requires
+second-low-requires c κs = search needs
+
+second-high-requires : tie.Need-second-high-requires
+second-high-requires c κs = search needs
+
+returns-2 : tie.Need-returns-2
+returns-2 c =
+    let n = c .before .before .before .length-by .ensures in
+    rw (ne-eqb _ _ (λ z. c .before .before .if1 .left (n ∙ z)), ← n, ← c .before .second-low .ensures, ← c .second-high .ensures)
+
+pub begin-spec : {M : Type 1} → statement M
+begin-spec =
+    tie.close
+    (tie.spec length-by-requires returns sub-t4 second-low-requires second-high-requires returns-2)

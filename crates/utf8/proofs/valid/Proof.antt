@@ -1,0 +1,59 @@
+-- The invariant: the run over what is left, from the present state, ends as the run over the whole.
+use mathlib.Core.Path.{_≡_, refl, ap, sym, _∙_}
+use Prim.Native.Nat.{_≤_, _-_}
+use native.Mathlib.Omega.{arith}
+use borrow.Author.Needs.{needs}
+use lib.ListN.{length, drop}
+use lib.Dec.{eqb}
+use Rattle.utf8.specs.Utf8.{whole, run, valid}
+use Rattle.utf8.specs.declared.State.{State}
+use Rattle.utf8.proofs.Run.{run-cons, run-end}
+use Rattle.utf8.proofs.valid.Statement.{statement}
+use Rattle.utf8.proofs.valid.Tie as tie
+
+abbrev Inv-loop : tie.InvT-loop
+Inv-loop s u₀ i₀ u i = (i ≤ length s) × (run u (drop i s) ≡ run whole s)
+
+abbrev μ-loop : tie.MeasureT-loop
+μ-loop s u₀ i₀ u i = length s - i
+
+loop-holds : tie.Need-loop-holds Inv-loop μ-loop
+loop-holds c = (omega arith, refl)
+
+shared-slice-read-step : tie.Need-shared-slice-read-step Inv-loop μ-loop
+shared-slice-read-step c = search needs
+
+step-requires : tie.Need-step-requires Inv-loop μ-loop
+step-requires c κs = search needs
+
+add-i : tie.Need-add-i Inv-loop μ-loop
+add-i c = search needs
+
+loop-less : tie.Need-loop-less Inv-loop μ-loop
+loop-less c = search needs
+
+loop-again : tie.Need-loop-again Inv-loop μ-loop
+loop-again c =
+    let turn = c .before .before in
+    let at = turn .before .loop in
+    (omega arith, rw (c .step .ensures, ← run-cons (at .u) (turn .before .before .before .args .s .now) (at .i) (turn .loop-test .taken)) (at .inv .1))
+
+returns : tie.Need-returns Inv-loop μ-loop
+unfolding valid
+returns c =
+    let at = c .before .before in
+    ap (λ (u : State). eqb (u .more) 0) (sym (run-end (at .loop .u) (at .before .before .args .s .now) (at .loop .i) (c .before .loop-test .left)) ∙ at .loop .inv .1)
+
+pub valid-spec : {M : Type 1} → statement M
+valid-spec =
+    tie.close
+    (tie.spec
+    Inv-loop
+    μ-loop
+    loop-holds
+    shared-slice-read-step
+    step-requires
+    add-i
+    loop-less
+    loop-again
+    returns)
