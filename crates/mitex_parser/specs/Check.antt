@@ -1,0 +1,40 @@
+-- What the check of a tree file answers: refusal 3, 4 or 5, the first that holds, or the tree.
+use mathlib.Core.Bool.{cond}
+use mathlib.Core.Option.{Option}
+use mathlib.Core.Option.Option.{none as nothing, some}
+use Prim.Native.Nat.{ℕ}
+use mathlib.Core.List.{List}
+use lib.ListN.{length}
+use lib.Dec.{leb}
+use Rattle.mitex_syntax.specs.Tree.{Tree, Forest, size, textOf, count}
+use Rattle.mitex_syntax.specs.Views.{childrenOf}
+use Rattle.mitex_parser.specs.Layout.{decode}
+use Rattle.mitex_parser.specs.Depth.{depth, depthMost}
+use Rattle.mitex_parser.specs.Shape.{lowest}
+use Rattle.mitex_parser.specs.declared.Checked.{Checked}
+use Rattle.mitex_parser.specs.declared.Checked.the-variants.{Whole, Refused}
+
+pub data Verdict : Type 0 where
+  refused : ℕ → ℕ → Verdict
+  accepted : Tree → Verdict
+
+abbrev pub byShape : Tree → Option ℕ → Verdict
+byShape t (some row) = refused 5 row
+byShape t nothing = accepted t
+
+abbrev pub byDepth : Option Tree → Verdict
+byDepth nothing = refused 3 0
+byDepth (some t) = cond (leb (depth t) depthMost) (byShape t (lowest 0 0 t)) (refused 4 0)
+
+-- all of 3 is decided for the whole file before 4, and 4 before 5
+unfoldable pub checkTree : List ℕ → Verdict
+checkTree file = byDepth (decode file)
+
+-- the blocks of a document
+abbrev pub blocksOf : Tree → Forest
+blocksOf t = childrenOf t
+
+-- the code's answer: a refusal with its number and row, or where the rows start, how many they are, and how many the blocks are
+abbrev pub answerOf : Verdict → Checked
+answerOf (refused number row) = Refused number row
+answerOf (accepted t) = Whole (length (textOf t)) (size t) (count (blocksOf t))

@@ -1,0 +1,64 @@
+-- What the parts of the check promise, each of what it is handed.
+use mathlib.Core.Path.{_≡_}
+use mathlib.Core.Bool.{Bool, true, false, _&&_, cond}
+use mathlib.Core.Option.{Option}
+use mathlib.Core.Option.Option.{none as nothing, some}
+use Prim.Native.Nat.{ℕ, suc, _*_, _≤_}
+use mathlib.Core.List.{List}
+use lib.ListN.{length, getD}
+use lib.Dec.{eqb, leb}
+use Rattle.text.specs.Numbers.{fourAt}
+use Rattle.mitex_syntax.specs.Syntax.{ScopeRoot}
+use Rattle.mitex_syntax.specs.Tree.{Tree, Forest, rowsOfs, count}
+use Rattle.mitex_syntax.specs.Tree.Tree.{token, node}
+use Rattle.mitex_syntax.specs.Tree.Forest.{none, more}
+use Rattle.mitex_parser.specs.Layout.{fileMost, blocksMost}
+use Rattle.mitex_parser.specs.Depth.{depths}
+use Rattle.mitex_parser.specs.declared.Row.{Row}
+use Rattle.mitex_parser.specs.declared.Row.the-variants.{Bad, Token, Node}
+use Rattle.mitex_parser.specs.declared.Nest.{Nest}
+use Rattle.mitex_parser.specs.declared.Nest.the-variants.{Broken, Deep, Fine}
+use Rattle.mitex_parser.specs.declared.Blocks.{Blocks}
+use Rattle.mitex_parser.specs.declared.Blocks.the-variants.{Amiss, Are}
+use Rattle.mitex_parser.specs.declared.Shape.{Shape}
+use Rattle.mitex_parser.specs.declared.Shape.the-variants.{Fits, Breaks}
+
+abbrev pub isBad : Row → Bool
+isBad Bad = true
+isBad (Token m) = false
+isBad (Node m) = false
+
+-- the rows under the row that stands first
+abbrev pub underOf : List ℕ → ℕ
+underOf rows = cond (eqb (getD rows 1 0) 1) 0 (fourAt 4 rows)
+
+-- rows nest no deeper than `left`, or deeper, or not at all
+abbrev pub Nested : Option Forest → ℕ → Nest → Type 0
+Nested o left Broken = o ≡ nothing
+Nested o left Deep = (f : Forest) → o ≡ some f → suc left ≤ depths f
+Nested o left Fine = (f : Forest) × ((o ≡ some f) × (depths f ≤ left))
+
+-- a root that is one, and how many blocks it has
+abbrev pub blocksIn : Forest → Blocks
+blocksIn none = Amiss
+blocksIn (more t (more u f)) = Amiss
+blocksIn (more (token k s) none) = Amiss
+blocksIn (more (node k f) none) = cond (eqb k ScopeRoot && leb (count f) blocksMost) (Are (count f)) Amiss
+
+-- whether a row breaks a rule
+abbrev pub shapeOf : Option ℕ → Shape
+shapeOf nothing = Fits
+shapeOf (some row) = Breaks row
+
+-- the rows are those of some trees
+pub record SomeRows (rows : List ℕ) : Type 0 where
+  pub forest : Forest
+  pub spelt : rows ≡ rowsOfs forest
+  pub few : length rows ≤ fileMost
+
+-- the areas of a file within the limits
+pub record Areas (rows text : List ℕ) : Type 0 where
+  pub many : ℕ
+  pub so-many : length rows ≡ 8 * many
+  pub few : length rows ≤ fileMost
+  pub short : length text ≤ fileMost
