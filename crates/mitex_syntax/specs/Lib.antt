@@ -1,4 +1,5 @@
 pub mod Syntax
 pub mod Tree
+pub mod Rows
 pub mod Views
 pub mod Spells

@@ -1,45 +1,82 @@
--- The typed views of syntax.rs on trees: `CmdItem`, `EnvItem`, `FormulaItem` and what they find. Places among the children are
--- given as offsets in rows from the node's own row, so that a caller can name the row of what was found.
+-- The typed views of syntax.rs on trees: `CmdItem`, `EnvItem`, `FormulaItem` and what they find among the children of a node.
 use mathlib.Core.Bool.{Bool, true, false, _&&_, _||_, cond}
 use mathlib.Core.Option.{Option}
 use mathlib.Core.Option.Option.{none as nothing, some}
 use Prim.Native.Nat.{ℕ, _+_, _-_}
-use mathlib.Core.List.{List, [], _∷_}
+use mathlib.Core.List.{List, []}
 use lib.ListN.{length, take, drop}
 use lib.Dec.{eqb}
-use Rattle.mitex_syntax.specs.Syntax.{ClauseArgument, ClauseCommandName, ItemBegin}
+use Rattle.text.specs.Ascii.{ascii}
+use Rattle.text.specs.Compare.{same}
+use Rattle.mitex_syntax.specs.Syntax.{ClauseArgument, ClauseCommandName, ItemBegin, TokenDollar, TokenBeginMath, TokenEndMath}
 use Rattle.mitex_syntax.specs.Tree.{Tree, Forest, size, kindOf, textOf}
 use Rattle.mitex_syntax.specs.Tree.Tree.{token, node}
 use Rattle.mitex_syntax.specs.Tree.Forest.{none, more}
+
+-- ---- children that a test picks
+
+-- the first such child, how many rows stand before it among the children, and all such children
+unfoldable pub firstBy : (Tree → Bool) → Forest → Option Tree
+firstBy p none = nothing
+firstBy p (more t f) = cond (p t) (some t) (firstBy p f)
+
+unfoldable pub offsetBy : (Tree → Bool) → Forest → ℕ
+offsetBy p none = 0
+offsetBy p (more t f) = cond (p t) 0 (size t + offsetBy p f)
+
+unfoldable pub allBy : (Tree → Bool) → Forest → Forest
+allBy p none = none
+allBy p (more t f) = cond (p t) (more t (allBy p f)) (allBy p f)
+
+-- of a kind
+abbrev pub isOf : ℕ → Tree → Bool
+isOf k t = eqb (kindOf t) k
+
+abbrev pub firstOf : ℕ → Forest → Option Tree
+firstOf k f = firstBy (isOf k) f
+
+abbrev pub offsetOf : ℕ → Forest → ℕ
+offsetOf k f = offsetBy (isOf k) f
+
+-- a node
+abbrev pub isNodeTree : Tree → Bool
+isNodeTree (token k s) = false
+isNodeTree (node k f) = true
+
+abbrev pub firstNode : Forest → Option Tree
+firstNode f = firstBy isNodeTree f
+
+-- ---- what was found
 
 -- the children of an element; a token has none
 abbrev pub childrenOf : Tree → Forest
 childrenOf (token k s) = none
 childrenOf (node k f) = f
 
--- the first child of a kind
-unfoldable pub firstOf : ℕ → Forest → Option Tree
-firstOf k none = nothing
-firstOf k (more t f) = cond (eqb (kindOf t) k) (some t) (firstOf k f)
-
--- how many rows below its parent the first child of a kind stands, the first child standing o rows below
-unfoldable pub offsetOf : ℕ → ℕ → Forest → ℕ
-offsetOf k o none = o
-offsetOf k o (more t f) = cond (eqb (kindOf t) k) o (offsetOf k (o + size t) f)
+-- kind, text and children of what was found; where nothing was, no kind, no text and no children
+abbrev pub kindIn : Option Tree → ℕ
+kindIn nothing = 0
+kindIn (some t) = kindOf t
 
 abbrev pub textIn : Option Tree → List ℕ
 textIn nothing = []
 textIn (some t) = textOf t
 
--- `CmdItem::name_tok`: the text of the first ClauseCommandName
-abbrev pub cmdName : Forest → List ℕ
-cmdName f = textIn (firstOf ClauseCommandName f)
-
 abbrev pub childrenIn : Option Tree → Forest
 childrenIn nothing = none
 childrenIn (some t) = childrenOf t
 
--- `EnvItem::begin`: the children of the first ItemBegin
+-- ---- commands and environments
+
+-- `CmdItem::name_tok`: the text of the first ClauseCommandName
+abbrev pub cmdName : Forest → List ℕ
+cmdName f = textIn (firstOf ClauseCommandName f)
+
+-- `arguments`: the direct children that are a ClauseArgument
+abbrev pub arguments : Forest → Forest
+arguments f = allBy (isOf ClauseArgument) f
+
+-- `EnvItem::begin`: the children of the first ItemBegin; an environment's arguments are among these
 abbrev pub beginOf : Forest → Forest
 beginOf f = childrenIn (firstOf ItemBegin f)
 
@@ -67,20 +104,28 @@ unfoldable mutual
 abbrev pub envName : Forest → List ℕ
 envName f = textIn (firstTokens (beginOf f))
 
--- the arguments: direct children that are a ClauseArgument
-abbrev pub cons : Bool → Tree → Forest → Forest
-cons true t f = more t f
-cons false t f = f
+-- ---- formulas
 
-unfoldable pub arguments : Forest → Forest
-arguments none = none
-arguments (more t f) = cons (eqb (kindOf t) ClauseArgument) t (arguments f)
+-- a token of this kind with this text
+abbrev pub isTokenOf : ℕ → List ℕ → Option Tree → Bool
+isTokenOf k s o = eqb (kindIn o) k && same (textIn o) s
 
--- the first child that is a node
-unfoldable pub firstNode : Forest → Option Tree
-firstNode none = nothing
-firstNode (more (token k s) f) = firstNode f
-firstNode (more (node k g) f) = some (node k g)
+-- `FormulaItem::is_inline`
+abbrev pub isInline : Forest → Bool
+isInline f = isTokenOf TokenDollar (ascii "$") (firstTokens f) || isTokenOf TokenBeginMath (ascii "\\(") (firstTokens f)
+
+-- `FormulaItem::is_valid`: the formula ends as it began
+abbrev pub isPair : ℕ → List ℕ → ℕ → List ℕ → Forest → Bool
+isPair k s m e f = isTokenOf k s (firstTokens f) && isTokenOf m e (lastTokens f)
+
+abbrev pub isValid : Forest → Bool
+isValid f =
+    isPair TokenDollar (ascii "$") TokenDollar (ascii "$") f
+    || (isPair TokenDollar (ascii "$$") TokenDollar (ascii "$$") f
+    || (isPair TokenBeginMath (ascii "\\(") TokenEndMath (ascii "\\)") f
+    || isPair TokenBeginMath (ascii "\\[") TokenEndMath (ascii "\\]") f))
+
+-- ---- a text between two ends
 
 -- a text without its first and its last byte
 abbrev pub inner : List ℕ → List ℕ
