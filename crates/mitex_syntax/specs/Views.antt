@@ -104,6 +104,13 @@ unfoldable mutual
 abbrev pub envName : Forest → List ℕ
 envName f = textIn (firstTokens (beginOf f))
 
+-- the first argument whose first child node is of the kind
+abbrev pub isArgumentWith : ℕ → Tree → Bool
+isArgumentWith k t = isOf ClauseArgument t && eqb (kindIn (firstNode (childrenOf t))) k
+
+abbrev pub argumentWith : ℕ → Forest → Option Tree
+argumentWith k f = firstBy (isArgumentWith k) f
+
 -- ---- formulas
 
 -- a token of this kind with this text
