@@ -10,7 +10,7 @@ use Rattle.mitex_syntax.specs.Syntax.{ClauseArgument, ScopeRoot, ItemBracket, I
 use Rattle.mitex_syntax.specs.Tree.{Tree, Forest, size, rowsOf, textOf, fileOf, count}
 use Rattle.mitex_syntax.specs.Tree.Tree.{token, node}
 use Rattle.mitex_syntax.specs.Tree.Forest.{none, more}
-use Rattle.mitex_syntax.specs.Views.{firstOf, firstToken, arguments, firstNode}
+use Rattle.mitex_syntax.specs.Views.{firstBy, firstToken, allBy}
 use Rattle.mitex_parser.specs.Layout.{rowAt, lines, grow, split, decode}
 use Rattle.mitex_parser.specs.Depth.{depth}
 use Rattle.mitex_parser.specs.Shape.{lowest, argumentOf, allNodes}
@@ -95,7 +95,7 @@ shapes :
     ∷ Refused 5 2
     ∷ []
     )
-unfolding checkTree decode fileOf rowsOf textOf size lines rowAt grow split valid run count depth lowest firstOf firstToken same
+unfolding checkTree decode fileOf rowsOf textOf size lines rowAt grow split valid run count depth lowest firstBy firstToken same
 shapes = refl
 
 -- the arguments of `\label`, `\includegraphics` and `\color`
@@ -134,7 +134,7 @@ arguments-fit :
     ∷ Whole 12 4 2
     ∷ []
     )
-unfolding checkTree decode fileOf rowsOf textOf size lines rowAt grow split valid run count depth lowest firstOf firstToken arguments firstNode argumentOf allNodes same
+unfolding checkTree decode fileOf rowsOf textOf size lines rowAt grow split valid run count depth lowest firstBy firstToken allBy argumentOf allNodes same
 arguments-fit = refl
 
 -- ---- bytes
