@@ -1,0 +1,122 @@
+-- `\color`, `\textcolor` and `\colorbox`: a model, a colour and a body. `\color` takes them from the children of its first
+-- argument, since Greedy arguments are not grouped; the others take one argument each.
+use mathlib.Core.Bool.{Bool, true, false, _&&_, cond}
+use mathlib.Core.Option.{Option}
+use mathlib.Core.Option.Option.{none as nothing, some}
+use mathlib.Core.List.{List, [], _∷_, _++_}
+use Prim.Native.Nat.{ℕ, _+_}
+use lib.ListN.{length}
+use lib.Dec.{eqb, leb}
+use Rattle.text.specs.Ascii.{ascii}
+use Rattle.text.specs.Compare.{startsWith, endsWith}
+use Rattle.mitex_spec.specs.Rules.{Rule, aliasOr}
+use Rattle.mitex_syntax.specs.Syntax.{ClauseArgument, TokenLBracket, TokenRBracket, isTrivia}
+use Rattle.mitex_syntax.specs.Tree.{Tree, Forest, size, kindOf, textOf}
+use Rattle.mitex_syntax.specs.Tree.Forest.{none, more}
+use Rattle.mitex_syntax.specs.Views.{childrenOf, inner}
+use Rattle.mitex_state.specs.Outcome.{Context, Carry, Outcome, Conv, after, andThen, closing, shift, inMode}
+use Rattle.mitex_state.specs.Outcome.Outcome.{refused, done}
+use Rattle.mitex_state.specs.Children.{each}
+use Rattle.mitex_state.specs.declared.LaTeXMode.{LaTeXMode}
+use Rattle.mitex_state.specs.declared.LaTeXMode.the-variants.{Text, Math}
+use Rattle.mitex_state.specs.declared.Loop.{Loop}
+use Rattle.mitex_state.specs.declared.Loop.the-variants.{Plain, Dollars, Arguments}
+
+-- the elements from some place on: how many rows below the command the first of them stands, and they
+pub record Rest : Type 0 where
+  pub rows : ℕ
+  pub elements : Forest
+
+abbrev pub rest : ℕ → Forest → Rest
+rest o f = record { rows = o; elements = f }
+
+-- past the trivia
+unfoldable pub pastTrivia : ℕ → Forest → Rest
+pastTrivia o none = rest o none
+pastTrivia o (more t f) = cond (isTrivia (kindOf t)) (pastTrivia (o + size t) f) (rest o (more t f))
+
+-- past the first element of a kind
+unfoldable pub past : ℕ → ℕ → Forest → Rest
+past k o none = rest o none
+past k o (more t f) = cond (eqb (kindOf t) k) (rest (o + size t) f) (past k (o + size t) f)
+
+-- from the first element of a kind on
+unfoldable pub seek : ℕ → ℕ → Forest → Rest
+seek k o none = rest o none
+seek k o (more t f) = cond (eqb (kindOf t) k) (rest o (more t f)) (seek k (o + size t) f)
+
+-- the text up to the first element of a kind, or to the end
+unfoldable pub textTo : ℕ → Forest → List ℕ
+textTo k none = []
+textTo k (more t f) = cond (eqb (kindOf t) k) [] (textOf t ++ textTo k f)
+
+-- what is written for a model, and the elements behind it
+pub record Model : Type 0 where
+  pub text : List ℕ
+  pub behind : Rest
+
+abbrev pub model : List ℕ → Rest → Model
+model w r = record { text = w; behind = r }
+
+abbrev pub inModel : List ℕ → List ℕ
+inModel m = ascii "[" ++ (m ++ ascii "], ")
+
+abbrev pub noModel : List ℕ
+noModel = ascii "none, "
+
+-- `\color`: trivia is passed over; a model begins with a direct TokenLBracket and runs to a direct TokenRBracket or the end, and
+-- trivia behind it is passed over too
+abbrev pub bracketModel : ℕ → Forest → Model
+bracketModel o none = model noModel (rest o none)
+bracketModel o (more t f) =
+    cond (eqb (kindOf t) TokenLBracket)
+    (model (inModel (textTo TokenRBracket f))
+    (pastTrivia (past TokenRBracket (o + size t) f .rows) (past TokenRBracket (o + size t) f .elements)))
+    (model noModel (rest o (more t f)))
+
+abbrev pub greedyModel : ℕ → Forest → Model
+greedyModel o f = bracketModel (pastTrivia o f .rows) (pastTrivia o f .elements)
+
+-- `\textcolor` and `\colorbox`: the first argument is a model if its text begins with `[` and ends with `]`
+abbrev pub isModel : List ℕ → Bool
+isModel s = startsWith s (ascii "[") && (endsWith s (ascii "]") && leb 2 (length s))
+
+abbrev pub firstModel : ℕ → Forest → Model
+firstModel o none = model noModel (rest o none)
+firstModel o (more t f) =
+    cond (isModel (textOf t))
+    (model (inModel (inner (textOf t))) (seek ClauseArgument (o + size t) f))
+    (model noModel (rest o (more t f)))
+
+abbrev pub argumentModel : ℕ → Forest → Model
+argumentModel o f = firstModel (seek ClauseArgument o f .rows) (seek ClauseArgument o f .elements)
+
+-- ---- what is written
+
+abbrev pub bodyEnd : LaTeXMode → List ℕ
+bodyEnd Text = ascii "];"
+bodyEnd Math = ascii "]"
+
+-- the colour is one element in Text, or black; in Math each body element stands between its own dollars
+abbrev pub colored : Conv → Context → Loop → ℕ → Forest → Carry → Outcome
+colored conv x l o none c = done c (ascii "black])[" ++ bodyEnd (x .mode))
+colored conv x l o (more t f) c =
+    andThen (shift o (conv (inMode Text x) t c))
+    (λ c′. after (ascii "])[") (closing (bodyEnd (x .mode)) (each (conv x) (o + size t) l f c′)))
+
+abbrev pub withModel : Conv → Context → List ℕ → Loop → Model → Carry → Outcome
+withModel conv x name l m c =
+    after (name ++ (ascii "(" ++ (m .text ++ ascii "["))) (colored conv x l (m .behind .rows) (m .behind .elements) c)
+
+-- a colour command that is absent from the rules or has no alias there
+abbrev pub colorAlias : Option Rule → List ℕ
+colorAlias nothing = ascii "mitexcolor"
+colorAlias (some r) = aliasOr (r .alias) (ascii "mitexcolor")
+
+abbrev pub bodyLoop : LaTeXMode → Loop
+bodyLoop Text = Plain
+bodyLoop Math = Dollars
+
+abbrev pub argumentsLoop : LaTeXMode → Loop
+argumentsLoop Text = Arguments false
+argumentsLoop Math = Arguments true

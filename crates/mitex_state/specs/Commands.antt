@@ -1,0 +1,149 @@
+-- Commands, by their name without the backslash: `\item`, `\label`, `\includegraphics`, `\array`, the colours, and all others by
+-- their rule.
+use mathlib.Core.Bool.{Bool, true, false, _&&_, _||_, not, cond}
+use mathlib.Core.Option.{Option}
+use mathlib.Core.Option.Option.{none as nothing, some}
+use mathlib.Core.List.{List, [], _∷_, _++_}
+use Prim.Native.Nat.{ℕ, _+_, _-_}
+use lib.ListN.{length, drop}
+use lib.Dec.{eqb, leb}
+use Rattle.text.specs.Ascii.{ascii}
+use Rattle.text.specs.Compare.{same, startsWith}
+use Rattle.text.specs.Writing.{spaces}
+use Rattle.utf8.specs.Trim.{trim}
+use Rattle.mitex_spec.specs.Rules.{Rule, getCmd, writtenName}
+use Rattle.mitex_syntax.specs.Syntax.{ClauseArgument, ClauseCommandName}
+use Rattle.mitex_syntax.specs.Tree.{Tree, Forest, size, kindOf, textOf}
+use Rattle.mitex_syntax.specs.Tree.Tree.{token, node}
+use Rattle.mitex_syntax.specs.Tree.Forest.{none, more}
+use Rattle.mitex_syntax.specs.Views.{cmdName, firstOf, offsetOf, textIn, childrenIn, inner}
+use Rattle.mitex_state.specs.Outcome.{Context, Label, Carry, Outcome, Conv, Arm, after, closing, shift, inMode, inEnv, labelled, labelMost}
+use Rattle.mitex_state.specs.Outcome.Label.{unheld, held}
+use Rattle.mitex_state.specs.Outcome.Outcome.{refused, done}
+use Rattle.mitex_state.specs.Texts.{itemName, labelName, imageName, arrayName, colorName, textcolorName, colorboxName, substackName}
+use Rattle.mitex_state.specs.Children.{each}
+use Rattle.mitex_state.specs.Images.{image}
+use Rattle.mitex_state.specs.Colors.{withModel, greedyModel, argumentModel, colorAlias, bodyLoop, argumentsLoop}
+use Rattle.mitex_state.specs.declared.LaTeXMode.{LaTeXMode}
+use Rattle.mitex_state.specs.declared.LaTeXMode.the-variants.{Text, Math}
+use Rattle.mitex_state.specs.declared.LaTeXEnv.{LaTeXEnv}
+use Rattle.mitex_state.specs.declared.LaTeXEnv.the-variants.{None, Figure, Table, Itemize, Enumerate, Matrix, Cases, SubStack, MathCurlyGroup}
+use Rattle.mitex_state.specs.declared.LaTeXEnv.the-variants.{Math as MathEnv}
+use Rattle.mitex_state.specs.declared.Loop.the-variants.{Greedy, Separated, Bracketed}
+
+-- ---- `\item`
+
+abbrev pub itemText : ℕ → List ℕ → List ℕ
+itemText indent mark = ascii "\n" ++ (spaces (indent - 2) ++ mark)
+
+abbrev pub itemIn : LaTeXEnv → ℕ → Carry → Outcome
+itemIn None n c = refused 11 0
+itemIn Figure n c = refused 11 0
+itemIn Table n c = refused 11 0
+itemIn Itemize n c = done c (itemText n (ascii "- "))
+itemIn Enumerate n c = done c (itemText n (ascii "+ "))
+itemIn MathEnv n c = refused 11 0
+itemIn Matrix n c = refused 11 0
+itemIn Cases n c = refused 11 0
+itemIn SubStack n c = refused 11 0
+itemIn MathCurlyGroup n c = refused 11 0
+
+-- ---- `\label`
+
+-- written at once in Text, and nothing in Math
+abbrev pub labelNow : LaTeXMode → List ℕ → Carry → Outcome
+labelNow Text s c = done c (ascii "<" ++ (s ++ ascii ">"))
+labelNow Math s c = done c []
+
+-- replaces the held label
+abbrev pub labelHeld : List ℕ → Carry → Outcome
+labelHeld s c = cond (leb (length s) labelMost) (done (labelled (held s) c) []) (refused 14 0)
+
+abbrev pub labelIn : LaTeXEnv → LaTeXMode → List ℕ → Carry → Outcome
+labelIn None m s c = labelNow m s c
+labelIn Figure m s c = labelHeld s c
+labelIn Table m s c = labelHeld s c
+labelIn Itemize m s c = labelNow m s c
+labelIn Enumerate m s c = labelNow m s c
+labelIn MathEnv m s c = labelHeld s c
+labelIn Matrix m s c = labelHeld s c
+labelIn Cases m s c = labelHeld s c
+labelIn SubStack m s c = labelHeld s c
+labelIn MathCurlyGroup m s c = labelHeld s c
+
+-- the first argument's text without its ends, trimmed
+abbrev pub labelText : Forest → List ℕ
+labelText f = trim (inner (textIn (firstOf ClauseArgument f)))
+
+-- ---- colours
+
+-- `\color` looks into its first argument, the others at their arguments
+abbrev pub colorCommand : List ℕ → Arm
+colorCommand name conv x f c =
+    cond (same name colorName)
+    (withModel conv x (colorAlias (getCmd (x .rules) name)) (bodyLoop (x .mode))
+    (greedyModel (2 + offsetOf ClauseArgument f) (childrenIn (firstOf ClauseArgument f))) c)
+    (withModel conv x (colorAlias (getCmd (x .rules) name)) (argumentsLoop (x .mode)) (argumentModel 1 f) c)
+
+-- ---- all others
+
+-- as an ItemCmd in Text `textbf` and `textit` become `#strong` and `#emph`
+abbrev pub typstName : LaTeXMode → List ℕ → List ℕ → List ℕ
+typstName Text name written =
+    cond (same name (ascii "textbf")) (ascii "#strong") (cond (same name (ascii "textit")) (ascii "#emph") written)
+typstName Math name written = written
+
+-- class 1: the first child that is no command name must be a node; its children are converted, not itself
+unfoldable pub greedy : (Tree → Carry → Outcome) → ℕ → Forest → Carry → Outcome
+greedy conv o none c = refused 12 0
+greedy conv o (more (token k s) f) c = cond (eqb k ClauseCommandName) (greedy conv (o + 1) f c) (refused 12 0)
+greedy conv o (more (node k g) f) c = after (ascii "(") (closing (ascii ")") (shift o (each conv 1 Greedy g c)))
+
+-- class 2: in Math as a function, unless the written name begins with `#`; else each argument as content
+abbrev pub inMathShape : LaTeXMode → List ℕ → Bool
+inMathShape Text w = false
+inMathShape Math w = not (startsWith w (ascii "#"))
+
+abbrev pub mathArguments : Arm
+mathArguments conv x f c = after (ascii "(") (closing (ascii ")") (each (conv x) 1 Separated f c))
+
+abbrev pub textArguments : Arm
+textArguments conv x f c = closing (ascii ";") (each (conv (inMode Text x)) 1 Bracketed f c)
+
+-- by the class; class 0 has no arguments
+abbrev pub byClass : ℕ → List ℕ → Arm
+byClass k w conv x f c =
+    cond (eqb k 0) (done c (ascii " "))
+    (cond (eqb k 1) (greedy (conv x) 1 f c)
+    (cond (inMathShape (x .mode) w) (mathArguments conv x f c) (textArguments conv x f c)))
+
+-- `\substack{abc \\ bcd}` goes by the written name
+abbrev pub stackEnv : List ℕ → Context → Context
+stackEnv w x = cond (same w substackName) (inEnv SubStack x) x
+
+abbrev pub written : ℕ → List ℕ → Arm
+written k w conv x f c = after w (byClass k w conv (stackEnv w x) f c)
+
+abbrev pub normalBy : Option Rule → List ℕ → Arm
+normalBy nothing name conv x f c = refused 9 0
+normalBy (some r) name conv x f c = written (r .class) (typstName (x .mode) name (writtenName r name)) conv x f c
+
+abbrev pub normalCommand : List ℕ → Arm
+normalCommand name conv x f c = normalBy (getCmd (x .rules) name) name conv x f c
+
+-- ---- by name
+
+abbrev pub isColor : List ℕ → Bool
+isColor name = same name colorName || (same name textcolorName || same name colorboxName)
+
+abbrev pub commandNamed : List ℕ → Arm
+commandNamed name conv x f c =
+    cond (same name itemName) (itemIn (x .env) (x .indent) c)
+    (cond (same name labelName) (labelIn (x .env) (x .mode) (labelText f) c)
+    (cond (same name imageName) (done c (image f))
+    (cond (same name arrayName) (done c [])
+    (cond (isColor name) (colorCommand name conv x f c)
+    (normalCommand name conv x f c)))))
+
+abbrev pub command : Arm
+command conv x f c = commandNamed (drop 1 (cmdName f)) conv x f c

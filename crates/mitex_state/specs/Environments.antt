@@ -1,0 +1,144 @@
+-- Environments: lists, environments for Math, normal ones, figures and tables.
+use mathlib.Core.Bool.{Bool, true, false, _&&_, _||_, not, cond}
+use mathlib.Core.Option.{Option}
+use mathlib.Core.Option.Option.{none as nothing, some}
+use mathlib.Core.List.{List, [], _∷_, _++_}
+use Prim.Native.Nat.{ℕ, _+_}
+use lib.Dec.{eqb}
+use Rattle.text.specs.Ascii.{ascii}
+use Rattle.text.specs.Compare.{same}
+use Rattle.utf8.specs.Trim.{trim}
+use Rattle.mitex_spec.specs.Rules.{Rule, getEnv, writtenName}
+use Rattle.mitex_syntax.specs.Syntax.{ClauseArgument, ItemBegin, ItemCmd}
+use Rattle.mitex_syntax.specs.Tree.{Tree, Forest, size, kindOf, textOf}
+use Rattle.mitex_syntax.specs.Tree.Forest.{none, more}
+use Rattle.mitex_syntax.specs.Views.{childrenOf, cmdName, firstOf, offsetOf, envName, beginOf, inner}
+use Rattle.mitex_state.specs.Outcome.{Context, Label, Carry, Outcome, Conv, Arm, after, andThen, closing, shift, inMode, inEnv, inList, labelled}
+use Rattle.mitex_state.specs.Outcome.Label.{unheld, held}
+use Rattle.mitex_state.specs.Outcome.Outcome.{refused, done}
+use Rattle.mitex_state.specs.Texts.{captionName, dollarBegin, dollarEnd}
+use Rattle.mitex_state.specs.Children.{each}
+use Rattle.mitex_state.specs.Tables.{lettersFit, tableHead, hasEnds}
+use Rattle.mitex_state.specs.declared.LaTeXMode.{LaTeXMode}
+use Rattle.mitex_state.specs.declared.LaTeXMode.the-variants.{Text, Math}
+use Rattle.mitex_state.specs.declared.LaTeXEnv.{LaTeXEnv}
+use Rattle.mitex_state.specs.declared.LaTeXEnv.the-variants.{None, Matrix, Cases, Itemize, Enumerate}
+use Rattle.mitex_state.specs.declared.LaTeXEnv.the-variants.{Math as MathEnv, Figure as FigureEnv, Table as TableEnv}
+use Rattle.mitex_state.specs.declared.Loop.the-variants.{Named, Inside, Figure, Table}
+
+-- ---- lists write no text of their own
+
+abbrev pub list : LaTeXEnv → Arm
+list e conv x f c = each (conv (inList e x)) 1 Inside f c
+
+-- ---- environments for Math are functions like `mat(a, b; c, d)`; their arguments are converted inside them
+
+abbrev pub inMath : LaTeXEnv → Context → Context
+inMath e x = inEnv e (inMode Math x)
+
+abbrev pub mathEnv : LaTeXEnv → List ℕ → Arm
+mathEnv e w conv x f c =
+    after (dollarBegin (x .mode) ++ (w ++ ascii "("))
+    (closing (ascii ")" ++ dollarEnd (x .mode))
+    (andThen (shift (1 + offsetOf ItemBegin f) (each (conv (inMath e x)) 1 (Named 0) (beginOf f) c))
+    (λ c′. each (conv (inMath e x)) 1 Inside f c′)))
+
+-- ---- normal environments
+
+abbrev pub normalEnv : List ℕ → Arm
+normalEnv w conv x f c =
+    after (ascii "#" ++ (w ++ ascii "[")) (closing (ascii "];") (each (conv (inEnv None x)) 1 Inside f c))
+
+-- ---- figures
+
+abbrev pub isCaption : Tree → Bool
+isCaption t = eqb (kindOf t) ItemCmd && same (cmdName (childrenOf t)) captionName
+
+-- a caption's first argument, and how many rows below the figure it stands
+pub data Caption : Type 0 where
+  absent : Caption
+  bare : ℕ → Caption
+  caption : ℕ → Tree → Caption
+
+abbrev pub captionAt : ℕ → Tree → Option Tree → Caption
+captionAt o t nothing = bare o
+captionAt o t (some a) = caption (o + 1 + offsetOf ClauseArgument (childrenOf t)) a
+
+-- of two captions the later wins, but one without an argument is refused first
+abbrev pub orLater : Caption → Caption → Caption
+orLater absent l = l
+orLater (bare o) l = bare o
+orLater (caption o t) absent = caption o t
+orLater (caption o t) (bare p) = bare p
+orLater (caption o t) (caption p u) = caption p u
+
+unfoldable pub lastCaption : ℕ → Forest → Caption
+lastCaption o none = absent
+lastCaption o (more t f) =
+    orLater (cond (isCaption t) (captionAt o t (firstOf ClauseArgument (childrenOf t))) absent) (lastCaption (o + size t) f)
+
+-- the caption, then the children
+abbrev pub figureBody : Arm
+figureBody conv x f c = after (ascii ")[") (closing (ascii "];") (each (conv x) 1 Figure f c))
+
+abbrev pub captioned : Caption → Arm
+captioned absent conv x f c = figureBody conv x f c
+captioned (bare o) conv x f c = refused 12 o
+captioned (caption o t) conv x f c =
+    after (ascii "caption: [") (andThen (closing (ascii "],") (shift o (conv x t c))) (figureBody conv x f))
+
+abbrev pub figureEnv : List ℕ → Arm
+figureEnv w conv x f c =
+    after (ascii "#" ++ (w ++ ascii "(")) (captioned (lastCaption 1 f) conv (inEnv FigureEnv x) f c)
+
+-- ---- tables
+
+abbrev pub tableWith : List ℕ → List ℕ → Arm
+tableWith w letters conv x f c =
+    cond (lettersFit letters)
+    (after (ascii "#" ++ (w ++ (ascii "(" ++ tableHead letters))) (each (conv (inEnv TableEnv x)) 1 (Table true) f c))
+    (refused 13 0)
+
+-- the first argument, its ends cut, trimmed
+abbrev pub tableBy : List ℕ → Option Tree → Arm
+tableBy w nothing conv x f c = refused 12 0
+tableBy w (some t) conv x f c = cond (hasEnds (textOf t)) (tableWith w (trim (inner (textOf t))) conv x f c) (refused 12 0)
+
+abbrev pub tableEnv : List ℕ → Arm
+tableEnv w conv x f c = tableBy w (firstOf ClauseArgument (beginOf f)) conv x f c
+
+-- ---- the held label: an environment that ends in Text writes and drops it
+
+abbrev pub heldText : Label → List ℕ
+heldText unheld = []
+heldText (held s) = ascii "<" ++ (s ++ ascii ">")
+
+abbrev pub takeLabel : LaTeXMode → Outcome → Outcome
+takeLabel Text (refused n r) = refused n r
+takeLabel Text (done c w) = done (labelled unheld c) (w ++ heldText (c .label))
+takeLabel Math o = o
+
+-- ---- by class: 3 None, 4 IsMath, 5 IsMatrix, 6 IsCases, 7 IsFigure, 8 IsTable, 9 IsItemize, 10 IsEnumerate
+
+abbrev pub envByClass : ℕ → List ℕ → Arm
+envByClass k w conv x f c =
+    cond (eqb k 9) (list Itemize conv x f c)
+    (cond (eqb k 10) (list Enumerate conv x f c)
+    (takeLabel (x .mode)
+    (cond (eqb k 4) (mathEnv MathEnv w conv x f c)
+    (cond (eqb k 5) (mathEnv Matrix w conv x f c)
+    (cond (eqb k 6) (mathEnv Cases w conv x f c)
+    (cond (eqb k 7) (figureEnv w conv x f c)
+    (cond (eqb k 8) (tableEnv w conv x f c)
+    (normalEnv w conv x f c))))))))
+
+abbrev pub envBy : Option Rule → List ℕ → Arm
+envBy nothing name conv x f c = refused 10 0
+envBy (some r) name conv x f c = envByClass (r .class) (writtenName r name) conv x f c
+
+-- the name is looked up and written trimmed
+abbrev pub environmentNamed : List ℕ → Arm
+environmentNamed name conv x f c = envBy (getEnv (x .rules) name) name conv x f c
+
+abbrev pub environment : Arm
+environment conv x f c = environmentNamed (trim (envName f)) conv x f c

@@ -1,0 +1,11 @@
+pub mod Outcome
+pub mod Texts
+pub mod Tokens
+pub mod Children
+pub mod Groups
+pub mod Images
+pub mod Colors
+pub mod Commands
+pub mod Tables
+pub mod Environments
+pub mod Conversion

@@ -1,0 +1,78 @@
+-- What a conversion comes to. Context goes down (mode, environment, indent), carry goes along (space flag, held label), and
+-- the rows of refusals are counted from the element's own row.
+use mathlib.Core.Bool.{Bool, true, false, cond}
+use mathlib.Core.List.{List, [], _++_}
+use Prim.Native.Nat.{ℕ, _+_}
+use Rattle.mitex_spec.specs.Rules.{Rule}
+use Rattle.mitex_syntax.specs.Tree.{Tree, Forest}
+use Rattle.mitex_state.specs.declared.LaTeXMode.{LaTeXMode}
+use Rattle.mitex_state.specs.declared.LaTeXEnv.{LaTeXEnv}
+
+-- what goes down
+pub record Context : Type 0 where
+  pub rules : List Rule
+  pub mode : LaTeXMode
+  pub env : LaTeXEnv
+  pub indent : ℕ
+
+-- no label and an empty one differ
+pub data Label : Type 0 where
+  unheld : Label
+  held : List ℕ → Label
+
+-- what goes along
+pub record Carry : Type 0 where
+  pub flag : Bool
+  pub label : Label
+
+-- the longest label that can be held
+abbrev pub labelMost : ℕ
+labelMost = 120
+
+-- refused with a number, at a row counted from the element's own; or done, with the carry and the text
+pub data Outcome : Type 0 where
+  refused : ℕ → ℕ → Outcome
+  done : Carry → List ℕ → Outcome
+
+-- a text before what an outcome writes
+abbrev pub after : List ℕ → Outcome → Outcome
+after w (refused n r) = refused n r
+after w (done c v) = done c (w ++ v)
+
+-- an outcome, and then what follows from its carry
+abbrev pub andThen : Outcome → (Carry → Outcome) → Outcome
+andThen (refused n r) k = refused n r
+andThen (done c w) k = after w (k c)
+
+-- a text behind what an outcome writes
+abbrev pub closing : List ℕ → Outcome → Outcome
+closing w (refused n r) = refused n r
+closing w (done c v) = done c (v ++ w)
+
+-- the outcome of an element that stands o rows below
+abbrev pub shift : ℕ → Outcome → Outcome
+shift o (refused n r) = refused n (o + r)
+shift o (done c w) = done c w
+
+-- the meaning of an element, and that of a node's children by the meaning one level below
+abbrev pub Conv : Type 0
+Conv = Context → Tree → Carry → Outcome
+
+abbrev pub Arm : Type 0
+Arm = Conv → Context → Forest → Carry → Outcome
+
+abbrev pub inMode : LaTeXMode → Context → Context
+inMode m x = record { rules = x .rules; mode = m; env = x .env; indent = x .indent }
+
+abbrev pub inEnv : LaTeXEnv → Context → Context
+inEnv e x = record { rules = x .rules; mode = x .mode; env = e; indent = x .indent }
+
+-- a list is two further in
+abbrev pub inList : LaTeXEnv → Context → Context
+inList e x = record { rules = x .rules; mode = x .mode; env = e; indent = x .indent + 2 }
+
+abbrev pub flagged : Bool → Carry → Carry
+flagged b c = record { flag = b; label = c .label }
+
+abbrev pub labelled : Label → Carry → Carry
+labelled l c = record { flag = c .flag; label = l }

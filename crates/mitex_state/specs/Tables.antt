@@ -1,0 +1,49 @@
+-- The head of a table: its column letters l, c, r and |, and the lines that are written for them.
+use mathlib.Core.Bool.{Bool, true, false, _&&_, _||_, cond}
+use mathlib.Core.List.{List, [], _∷_, _++_}
+use Prim.Native.Nat.{ℕ, _+_, _-_}
+use lib.ListN.{length, getD}
+use lib.Dec.{eqb, leb}
+use Rattle.text.specs.Ascii.{ascii}
+use Rattle.text.specs.Writing.{decimal}
+
+-- l, c, r and |
+abbrev pub isColumn : ℕ → Bool
+isColumn b = eqb b 108 || (eqb b 99 || eqb b 114)
+
+abbrev pub isLine : ℕ → Bool
+isLine b = eqb b 124
+
+unfoldable pub lettersFit : List ℕ → Bool
+lettersFit [] = true
+lettersFit (b ∷ s) = (isColumn b || isLine b) && lettersFit s
+
+-- how many columns
+unfoldable pub columns : List ℕ → ℕ
+columns [] = 0
+columns (b ∷ s) = cond (isColumn b) (1 + columns s) (columns s)
+
+abbrev pub alignment : ℕ → List ℕ
+alignment b =
+    cond (eqb b 108) (ascii "left, ") (cond (eqb b 99) (ascii "center, ") (cond (eqb b 114) (ascii "right, ") []))
+
+unfoldable pub alignments : List ℕ → List ℕ
+alignments [] = []
+alignments (b ∷ s) = alignment b ++ alignments s
+
+-- the lines, each behind as many columns as stand before it
+unfoldable pub vlines : ℕ → List ℕ → List ℕ
+vlines n [] = []
+vlines n (b ∷ s) =
+    cond (isLine b) (ascii "table.vline(stroke: .5pt, x: " ++ (decimal n ++ (ascii "), " ++ vlines n s)))
+    (vlines (cond (isColumn b) (n + 1) n) s)
+
+abbrev pub tableHead : List ℕ → List ℕ
+tableHead letters =
+    ascii "stroke: none,\ncolumns: "
+    ++ (decimal (columns letters)
+    ++ (ascii ",\nalign: (" ++ (alignments letters ++ (ascii "),\n" ++ (vlines 0 letters ++ ascii "\n")))))
+
+-- an argument of 2 bytes or more with one-byte ends
+abbrev pub hasEnds : List ℕ → Bool
+hasEnds s = leb 2 (length s) && (leb (getD s 0 0) 127 && leb (getD s (length s - 1) 0) 127)
