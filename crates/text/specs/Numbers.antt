@@ -1,7 +1,11 @@
 -- Numbers in bytes, the lowest byte first, as both files and the ledger have them.
-use Prim.Native.Nat.{ℕ, _+_, _*_, _/_, _%_}
+use Prim.Native.Nat.{ℕ, _+_, _*_, _/_, _%_, _<_}
 use mathlib.Core.List.{List, _∷_}
 use lib.ListN.{getD}
+
+-- each is a byte
+abbrev pub Bytes : List ℕ → Type 0
+Bytes l = (i : ℕ) → getD l i 0 < 256
 
 -- the two bytes of n, before l
 abbrev pub two : ℕ → List ℕ → List ℕ

@@ -1,0 +1,4 @@
+pub mod Numbers
+pub mod Compare
+pub mod Writing
+pub mod Decimal

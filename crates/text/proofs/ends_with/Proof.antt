@@ -1,0 +1,42 @@
+-- The part at the end is compared whole: `ends-same`; a shorter text ends with no longer one.
+use mathlib.Core.Path.{sym, ap, _∙_}
+use Prim.Native.Nat.{_-_}
+use lib.ListN.{length}
+use Rattle.text.specs.Compare.{same}
+use Rattle.text.proofs.Writing.{part-rest}
+use Rattle.text.proofs.Compare.{ends-same, ends-short}
+use borrow.Author.Needs.{needs}
+use Rattle.text.proofs.ends_with.Statement.{statement}
+use Rattle.text.proofs.ends_with.Tie as tie
+
+returns : tie.Need-returns
+returns c = sym (ends-short (c .before .before .before .args .s .now) (c .before .before .before .args .p .now) (c .if1 .taken))
+
+sub-start : tie.Need-sub-start
+sub-start c = search needs
+
+sub-same : tie.Need-sub-same
+sub-same c = search needs
+
+part-same-start : tie.Need-part-same-start
+part-same-start c = search needs
+
+part-same-end : tie.Need-part-same-end
+part-same-end c = search needs
+
+same-requires : tie.Need-same-requires
+same-requires c κs = search needs
+
+returns-2 : tie.Need-returns-2
+returns-2 c =
+    let c₁ = c .before .before in
+    let c₂ = c₁ .before .before .before in
+    let args = c₂ .args in
+    let s = args .s .now in
+    let p = args .p .now in
+    c .same .ensures ∙ ap (λ r. same r p) (part-rest s (length s - length p)) ∙ sym (ends-same s p (c₁ .if1 .left))
+
+pub ends-with-spec : {M : Type 1} → statement M
+ends-with-spec =
+    tie.close
+    (tie.spec returns sub-start sub-same part-same-start part-same-end same-requires returns-2)

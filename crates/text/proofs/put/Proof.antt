@@ -1,0 +1,83 @@
+-- The invariant: the first i bytes stand in the buffer. The bytes that fall outside need no turn (`wrote-inside`).
+use native.Mathlib.Omega.{arith}
+use borrow.Author.Needs.{needs}
+use mathlib.Core.Path.{_≡_, refl}
+use Prim.Native.Nat.{_+_, _≤_, _-_}
+use lib.ListN.{length, take}
+use lib.Seq.{sets}
+use Rattle.text.proofs.Writing.{sets-more, sets-long, wrote-inside}
+use Rattle.text.proofs.put.Statement.{statement}
+use Rattle.text.proofs.put.Tie as tie
+
+abbrev Inv-loop : tie.InvT-loop
+Inv-loop out₀ at s n i₀ out i = (i ≤ n) × (length out ≡ length out₀) × (out ≡ sets out₀ at (take i s))
+
+abbrev μ-loop : tie.MeasureT-loop
+μ-loop out₀ at s n i₀ out i = n - i
+
+inside-requires : tie.Need-inside-requires Inv-loop μ-loop
+inside-requires c κs = search needs
+
+loop-holds : tie.Need-loop-holds Inv-loop μ-loop
+loop-holds c = (omega arith, refl, refl)
+
+shared-slice-read-out : tie.Need-shared-slice-read-out Inv-loop μ-loop
+shared-slice-read-out c = omega arith
+
+add-out : tie.Need-add-out Inv-loop μ-loop
+add-out c = omega arith
+
+slice-write-out : tie.Need-slice-write-out Inv-loop μ-loop
+slice-write-out c = omega arith
+
+add-i : tie.Need-add-i Inv-loop μ-loop
+add-i c = omega arith
+
+loop-less : tie.Need-loop-less Inv-loop μ-loop
+loop-less c = omega arith
+
+loop-again : tie.Need-loop-again Inv-loop μ-loop
+loop-again c =
+    let c₁ = c .before .before in
+    let c₂ = c₁ .before .before .before .before in
+    let loop = c₁ .loop in
+    let args = c₂ .args in
+    let e = sets-more (args .s .now) (args .out .now) (loop .out) (args .at) (loop .i) (omega arith) (loop .inv .2) in
+    (omega arith, sets-long (args .out .now) _ (args .at) (take (loop .i + 1) (args .s .now)) e, e)
+
+forth-requires : tie.Need-forth-requires Inv-loop μ-loop
+forth-requires c κs =
+    let c₁ = c .before .before .before .before .before in
+    c₁ .pre .0
+
+same-length : tie.Need-same-length Inv-loop μ-loop
+same-length c = c .before .before .loop .inv .1
+
+returns : tie.Need-returns Inv-loop μ-loop
+returns c =
+    let c₁ = c .before in
+    let c₂ = c₁ .before in
+    let c₃ = c₂ .before in
+    let c₄ = c₃ .before .before .before in
+    let loop = c₂ .loop in
+    let args = c₄ .args in
+    let inside = c₃ .inside in
+    wrote-inside (args .s .now) (args .out .now) (loop .out) (args .at) _ (loop .i) _ (inside .ensures .0) (inside .ensures .2) (loop .inv .0) (c₁ .loop-test .left) (loop .inv .2) (c .forth .ensures)
+
+pub put-spec : {M : Type 1} → statement M
+put-spec =
+    tie.close
+    (tie.spec
+    Inv-loop
+    μ-loop
+    inside-requires
+    loop-holds
+    shared-slice-read-out
+    add-out
+    slice-write-out
+    add-i
+    loop-less
+    loop-again
+    forth-requires
+    same-length
+    returns)
