@@ -2,10 +2,11 @@
 -- the middle of the file.
 use mathlib.Core.Bool.{Bool, _&&_}
 use mathlib.Core.Path.{_≡_}
-use Prim.Native.Nat.{ℕ}
+use Prim.Native.Nat.{ℕ, _≤_, _<_}
 use mathlib.Core.List.{List, _++_}
-use lib.ListN.{length}
+use lib.ListN.{length, drop}
 use lib.Dec.{T, leb}
+use Rattle.text.specs.Writing.{cap}
 use Rattle.utf8.specs.Utf8.{valid}
 use Rattle.mitex_syntax.specs.Syntax.{isToken, isNode}
 use Rattle.mitex_syntax.specs.Tree.{Tree, Forest, rowsOf, rowsOfs, textOf, textsOf}
@@ -44,3 +45,23 @@ pub record Begins (f : Forest) (rows text : List ℕ) : Type 0 where
   pub rest : List ℕ
   pub text-is : text ≡ textsOf f ++ rest
   pub sound : Sounds f
+
+-- some element is spelt
+pub record SomeTree (rows text : List ℕ) : Type 0 where
+  pub tree : Tree
+  pub spells : Spells tree rows text
+
+-- some node is spelt
+pub record SomeNode (rows text : List ℕ) : Type 0 where
+  pub kind : ℕ
+  pub forest : Forest
+  pub spells : Spells (node kind forest) rows text
+
+-- some elements side by side are, from row byte i and text byte j on, in bytes that are few enough to be counted
+pub record SomeForest (rows text : List ℕ) (i j : ℕ) : Type 0 where
+  pub few : length rows < cap
+  pub short : length text < cap
+  pub low : i ≤ length rows
+  pub begun : j ≤ length text
+  pub forest : Forest
+  pub begins : Begins forest (drop i rows) (drop j text)

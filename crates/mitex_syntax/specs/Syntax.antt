@@ -1,5 +1,5 @@
 -- The kinds of tree elements, 1 to 45, in the order in which the main match of `Converter::convert` names them.
-use mathlib.Core.Bool.{Bool, true, false, _&&_, _||_, not}
+use mathlib.Core.Bool.{Bool, _&&_, _||_, not}
 use Prim.Native.Nat.{ℕ}
 use lib.Dec.{eqb, leb}
 

@@ -1,5 +1,4 @@
 -- Trees, and the bytes that spell them: rows in preorder, the texts of the tokens one after the other, and the whole file.
-use mathlib.Core.Path.{_≡_}
 use Prim.Native.Nat.{ℕ, _+_}
 use mathlib.Core.List.{List, [], _∷_, _++_}
 use lib.ListN.{length}

@@ -1,1 +1,211 @@
-// to come
+// Trees as rows: the kinds of elements, what the rows of an element say, and the typed views of syntax.rs. A node's rows and its
+// text are parts of the caller's tree file.
+ghost use mathlib.Core.Path.{_≡_};
+ghost use Prim.Native.Nat.{_+_, _%_, _≤_, _<_};
+ghost use lib.ListN.{length, take, drop};
+ghost use Rattle.text.specs.Writing.{cap};
+ghost use Rattle.mitex_syntax.specs.Syntax.{isTrivia, isToken, isNode};
+ghost use Rattle.mitex_syntax.specs.Rows.{numOf, extentOf, tokenAt, tokenSum, Spans};
+
+// ---- kinds, in the order in which the main match of `Converter::convert` names them
+
+pub const TOKEN_ERROR: u8 = 1;
+
+pub const ITEM_LR: u8 = 2;
+
+pub const CLAUSE_ARGUMENT: u8 = 3;
+
+pub const SCOPE_ROOT: u8 = 4;
+
+pub const ITEM_TEXT: u8 = 5;
+
+pub const ITEM_BRACKET: u8 = 6;
+
+pub const ITEM_PAREN: u8 = 7;
+
+pub const ITEM_FORMULA: u8 = 8;
+
+pub const ITEM_CURLY: u8 = 9;
+
+pub const CLAUSE_LR: u8 = 10;
+
+pub const ITEM_ATTACH_COMPONENT: u8 = 11;
+
+pub const CLAUSE_COMMAND_NAME: u8 = 12;
+
+pub const ITEM_BEGIN: u8 = 13;
+
+pub const ITEM_END: u8 = 14;
+
+pub const TOKEN_WORD: u8 = 15;
+
+pub const TOKEN_LBRACE: u8 = 16;
+
+pub const TOKEN_RBRACE: u8 = 17;
+
+pub const TOKEN_DOLLAR: u8 = 18;
+
+pub const TOKEN_BEGIN_MATH: u8 = 19;
+
+pub const TOKEN_END_MATH: u8 = 20;
+
+pub const TOKEN_COMMENT: u8 = 21;
+
+pub const ITEM_BLOCK_COMMENT: u8 = 22;
+
+pub const TOKEN_WHITE_SPACE: u8 = 23;
+
+pub const TOKEN_LINE_BREAK: u8 = 24;
+
+pub const TOKEN_APOSTROPHE: u8 = 25;
+
+pub const TOKEN_COMMA: u8 = 26;
+
+pub const TOKEN_SLASH: u8 = 27;
+
+pub const TOKEN_CARET: u8 = 28;
+
+pub const TOKEN_UNDERSCORE: u8 = 29;
+
+pub const TOKEN_HASH: u8 = 30;
+
+pub const TOKEN_ASTERISK: u8 = 31;
+
+pub const TOKEN_AT_SIGN: u8 = 32;
+
+pub const TOKEN_DITTO: u8 = 33;
+
+pub const TOKEN_SEMICOLON: u8 = 34;
+
+pub const TOKEN_LPAREN: u8 = 35;
+
+pub const TOKEN_RPAREN: u8 = 36;
+
+pub const TOKEN_LBRACKET: u8 = 37;
+
+pub const TOKEN_RBRACKET: u8 = 38;
+
+pub const TOKEN_TILDE: u8 = 39;
+
+pub const TOKEN_AMPERSAND: u8 = 40;
+
+pub const ITEM_NEW_LINE: u8 = 41;
+
+pub const TOKEN_COMMAND_SYM: u8 = 42;
+
+pub const ITEM_CMD: u8 = 43;
+
+pub const ITEM_ENV: u8 = 44;
+
+pub const ITEM_TYPST_CODE: u8 = 45;
+
+// Whether the kind is trivia.
+pub fn is_trivia(k: u8) -> bool
+    ensures { λ r. ⌜ r ≡ isTrivia k ⌝ }
+{
+    match k {
+        TOKEN_LINE_BREAK => true,
+        TOKEN_WHITE_SPACE => true,
+        TOKEN_COMMENT => true,
+        ITEM_NEW_LINE => true,
+        _ => false,
+    }
+}
+
+// Whether a token may be of this kind.
+pub fn is_token(k: u8) -> bool
+    ensures { λ r. ⌜ r ≡ isToken k ⌝ }
+{
+    if k == TOKEN_ERROR {
+        return true;
+    }
+    if k == CLAUSE_COMMAND_NAME {
+        return true;
+    }
+    if k < TOKEN_WORD {
+        return false;
+    }
+    if k == ITEM_BLOCK_COMMENT {
+        return false;
+    }
+    k <= TOKEN_COMMAND_SYM
+}
+
+// Whether a node may be of this kind.
+pub fn is_node(k: u8) -> bool
+    ensures { λ r. ⌜ r ≡ isNode k ⌝ }
+{
+    if k == TOKEN_ERROR {
+        return true;
+    }
+    if k == 0 {
+        return false;
+    }
+    if is_token(k) {
+        return false;
+    }
+    k <= ITEM_TYPST_CODE
+}
+
+// ---- rows
+
+// The bytes of the rows and of the text of an element.
+pub struct Span {
+    pub rows: usize,
+    pub text: usize,
+}
+
+// The number of the row at `i`: a token's text length, or how many rows lie under a node.
+pub fn number(rows: &[u8], i: usize) -> usize
+    requires { ⌜ i + 8 ≤ length (now rows) ⌝ }
+    ensures { λ r. ⌜ (r ≡ numOf (drop i (now (rows .entry)))) × (r < cap) ⌝ }
+{
+    text::read_u32(rows, i + 4)
+}
+
+// The bytes of the rows of the element at `i`.
+pub fn extent(rows: &[u8], i: usize) -> usize
+    requires { ⌜ i + 8 ≤ length (now rows) ⌝ }
+    ensures { λ r. ⌜ r ≡ extentOf (drop i (now (rows .entry))) ⌝ }
+{
+    if rows[i + 1] == 1 {
+        return 8;
+    }
+    8 + 8 * number(rows, i)
+}
+
+// The text bytes of the row at `i`, 0 of a node.
+pub fn token_len(rows: &[u8], i: usize) -> usize
+    requires { ⌜ i + 8 ≤ length (now rows) ⌝ }
+    ensures { λ r. ⌜ r ≡ tokenAt (drop i (now (rows .entry))) ⌝ }
+{
+    if rows[i + 1] == 1 {
+        return number(rows, i);
+    }
+    0
+}
+
+// The text bytes of these rows.
+pub fn text_len(rows: &[u8]) -> usize
+    requires { ⌜ (tokenSum (now rows) < cap) × (length (now rows) % 8 ≡ 0) ⌝ }
+    ensures { λ r. ⌜ r ≡ tokenSum (now (rows .entry)) ⌝ }
+{
+    let mut i = 0;
+    let mut sum = 0;
+    while i < rows.len() {
+        sum += token_len(rows, i);
+        i += 8;
+    }
+    sum
+}
+
+// The bytes of the element at `i`.
+pub fn span_at(rows: &[u8], i: usize) -> Span
+    requires { ⌜ Spans (now rows) i ⌝ }
+    ensures rows { λ r. ⌜ r .rows ≡ extentOf (drop i (now (rows .entry))) ⌝ }
+    ensures text { λ r. ⌜ r .text ≡ tokenSum (take (extentOf (drop i (now (rows .entry)))) (drop i (now (rows .entry)))) ⌝ }
+{
+    let e = extent(rows, i);
+    let n = text_len(&rows[i..i + e]);
+    Span { rows: e, text: n }
+}

@@ -1,0 +1,25 @@
+-- `is_node`: each test is a case of `isNode`.
+use mathlib.Core.Path.{sym, ap}
+use Rattle.mitex_syntax.specs.Syntax.{isNode}
+use Rattle.mitex_syntax.proofs.Kinding.{token-not-node, other-node}
+use borrow.Author.Needs.{needs}
+use Rattle.mitex_syntax.proofs.is_node.Statement.{statement}
+use Rattle.mitex_syntax.proofs.is_node.Tie as tie
+
+returns : tie.Need-returns
+returns c = ap isNode (sym (c .if1 .taken))
+
+returns-2 : tie.Need-returns-2
+returns-2 c = ap isNode (sym (c .if2 .taken))
+
+is-token-requires : tie.Need-is-token-requires
+is-token-requires c κs = search needs
+
+returns-3 : tie.Need-returns-3
+returns-3 c = token-not-node (c .before .before .before .before .args .k) (c .before .before .before .if1 .left) _ (c .before .is-token .ensures) (c .if3 .taken)
+
+returns-4 : tie.Need-returns-4
+returns-4 c = other-node (c .before .before .before .before .args .k) (c .before .before .before .if1 .left) _ (c .before .is-token .ensures) (c .if3 .left) (c .before .before .if2 .left)
+
+pub is-node-spec : {M : Type 1} → statement M
+is-node-spec = tie.close (tie.spec returns returns-2 is-token-requires returns-3 returns-4)

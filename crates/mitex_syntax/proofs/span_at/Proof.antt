@@ -1,0 +1,50 @@
+-- `span_at`: the part that `text_len` gets is the element (`part-asks`, `part-says`).
+use Rattle.mitex_syntax.proofs.Reading.{part-asks, part-says}
+use borrow.Author.Needs.{needs}
+use Rattle.mitex_syntax.proofs.span_at.Statement.{statement}
+use Rattle.mitex_syntax.proofs.span_at.Tie as tie
+
+extent-requires : tie.Need-extent-requires
+extent-requires c κs = search needs
+
+add-text-len : tie.Need-add-text-len
+add-text-len c = search needs
+
+sub-text-len : tie.Need-sub-text-len
+sub-text-len c = search needs
+
+part-text-len-start : tie.Need-part-text-len-start
+part-text-len-start c = search needs
+
+part-text-len-end : tie.Need-part-text-len-end
+part-text-len-end c = search needs
+
+text-len-requires : tie.Need-text-len-requires
+text-len-requires c κs =
+    let c₁ = c .before in
+    let extent = c₁ .extent in
+    let c₂ = c₁ .before .before in
+    let args = c₂ .args in
+    let pre = c₂ .pre in
+    part-asks _ (args .i) (extent .result) (extent .ensures) (pre .inside) (pre .short)
+
+returns : tie.Need-returns
+returns c =
+    let text-len = c .text-len in
+    let c₁ = c .before .before in
+    let extent = c₁ .extent in
+    let c₂ = c₁ .before .before in
+    let args = c₂ .args in
+    (extent .ensures, part-says _ (args .i) (extent .result) (extent .ensures) (text-len .result) (text-len .ensures))
+
+pub span-at-spec : {M : Type 1} → statement M
+span-at-spec =
+    tie.close
+    (tie.spec
+    extent-requires
+    add-text-len
+    sub-text-len
+    part-text-len-start
+    part-text-len-end
+    text-len-requires
+    returns)
