@@ -9,3 +9,13 @@ pub mod Commands
 pub mod Tables
 pub mod Environments
 pub mod Conversion
+pub mod Examples
+pub mod ExamplesHand
+pub mod ExamplesTokens
+pub mod ExamplesGroups
+pub mod ExamplesCommands
+pub mod ExamplesLabels
+pub mod ExamplesColors
+pub mod ExamplesImages
+pub mod ExamplesEnvironments
+pub mod ExamplesCells

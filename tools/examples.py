@@ -1,0 +1,303 @@
+#!/usr/bin/env python3
+"""Writes the tables of worked conversions in crates/mitex_state/specs/Examples*.antt.
+
+usage: tools/examples.py VECTORS
+
+VECTORS is a folder of cases, each a folder with `rules.bin` and `tree.bin` (the files that a conversion takes), `stdin`
+(`t` or `m`: Text, Math), `expected` (what the program writes) and `name` (what the case shows). A case becomes one entry of
+a table; the tables go by the family of arms that the cases show, and each is one statement that antt computes. Run
+`rt fmt` afterwards.
+"""
+
+import re
+import struct
+import sys
+from pathlib import Path
+
+SPECS = Path(__file__).resolve().parent.parent / "crates" / "mitex_state" / "specs"
+
+KINDS = """TokenError ItemLR ClauseArgument ScopeRoot ItemText ItemBracket ItemParen ItemFormula ItemCurly ClauseLR
+ItemAttachComponent ClauseCommandName ItemBegin ItemEnd TokenWord TokenLBrace TokenRBrace TokenDollar TokenBeginMath
+TokenEndMath TokenComment ItemBlockComment TokenWhiteSpace TokenLineBreak TokenApostrophe TokenComma TokenSlash TokenCaret
+TokenUnderscore TokenHash TokenAsterisk TokenAtSign TokenDitto TokenSemicolon TokenLParen TokenRParen TokenLBracket
+TokenRBracket TokenTilde TokenAmpersand ItemNewLine TokenCommandSym ItemCmd ItemEnv ItemTypstCode""".split()
+
+# the tables: a name, what it shows, and its cases
+TABLES = [
+    ("Hand", "The cases of the scope paper that concern conversion.", ["hand-00..11", "hand-14..15", "hand-18"]),
+    ("Tokens", "Tokens, what is written unwalked, and the space flag.", ["trap-036..049", "trap-135..138"]),
+    ("Groups", "Formulas, curly groups, `\\left` and `\\right`, attachments.", ["trap-050..063", "trap-150..159"]),
+    ("Commands", "Commands by their rule.", ["trap-000..002", "trap-008..035", "trap-147..148"]),
+    ("Labels", "Labels written at once, held, replaced, written and dropped.", ["trap-064..079", "trap-112"]),
+    ("Colors", "Colours.", ["trap-113..125"]),
+    ("Images", "Images.", ["trap-126..134", "trap-146"]),
+    ("Environments", "Lists, environments for Math, normal environments and figures.",
+     ["trap-003..007", "trap-080..085", "trap-099..106", "trap-108..111"]),
+    ("Cells", "Tables.", ["trap-086..098", "trap-107", "trap-149"]),
+]
+
+
+# ---- the files
+
+
+def file_rows(data):
+    start, count = struct.unpack("<II", data[-8:])
+    return data[:start], [data[start + 8 * i : start + 8 * i + 8] for i in range(count)]
+
+
+def read_rules(data):
+    text, rows = file_rows(data)
+    rules, at = [], 0
+    for row in rows:
+        name_len, alias_len, kind = struct.unpack("<HHB", row[:5])
+        name, at, alias = text[at : at + name_len], at + name_len, None
+        if alias_len != 65535:
+            alias, at = text[at : at + alias_len], at + alias_len
+        rules.append((name, kind, alias))
+    return rules
+
+
+def read_tree(data):
+    """A token is (kind, bytes), a node (kind, list)."""
+    text, rows = file_rows(data)
+    at = 0
+
+    def element(i):
+        nonlocal at
+        kind, is_token, number = rows[i][0], rows[i][1], struct.unpack("<I", rows[i][4:])[0]
+        if is_token:
+            at += number
+            return (KINDS[kind - 1], text[at - number : at]), i + 1
+        children, j = [], i + 1
+        while j < i + 1 + number:
+            child, j = element(j)
+            children.append(child)
+        return (KINDS[kind - 1], children), j
+
+    return element(0)[0]
+
+
+# ---- how they read
+
+
+def readable(s):
+    return all(32 <= b < 127 or b == 10 for b in s)
+
+
+def string(s):
+    return '"' + s.decode().replace("\\", "\\\\").replace('"', '\\"').replace("\n", "\\n") + '"'
+
+
+def listed(items):
+    return " ∷ ".join(items + ["[]"])
+
+
+RUN = re.compile(rb"((?:[\x00-\x7f]|[\xc2-\xf4][\x80-\xbf]+?)(?![\x80-\xbf]))\1{19,}")
+
+
+def parts(s):
+    """Bytes in parts: long runs of a character, text where it is ASCII, numbers elsewhere."""
+    run = RUN.search(s)
+    if run:
+        unit = run[1]
+        return parts(s[: run.start()]) + [f"times {len(run[0]) // len(unit)} {paren(raw(unit))}"] + parts(s[run.end() :])
+    pieces = [p for p in re.split(rb"([\x20-\x7e\n]+)", s) if p]
+    return ["ascii " + string(p) if readable(p) else listed([str(b) for b in p]) for p in pieces]
+
+
+def raw(s):
+    *others, out = parts(s)
+    for p in reversed(others):
+        out = f"{p if p[0] in 'at' else paren(p)} ++ {paren(out)}"
+    return out
+
+
+def short(s):
+    return readable(s) and not RUN.search(s)
+
+
+def paren(s):
+    return s if re.fullmatch(r'[A-Za-z]+|\[\]|"[^"\\]*"', s) else f"({s})"
+
+
+SHORT = {
+    ("TokenWhiteSpace", b" "): "space",
+    ("TokenLineBreak", b"\n"): "break",
+    ("ItemNewLine", b"\\\\"): "newline",
+    ("TokenComment", b"%"): "comment",
+    ("TokenAmpersand", b"&"): "ampersand",
+    ("TokenDollar", b"$"): "dollar",
+}
+TOKENS = {"TokenWord": "word", "ClauseCommandName": "name", "TokenCommandSym": "sym"}
+GROUPS = {
+    "ItemCurly": ("curly", ("TokenLBrace", b"{"), ("TokenRBrace", b"}")),
+    "ItemBracket": ("bracket", ("TokenLBracket", b"["), ("TokenRBracket", b"]")),
+}
+
+
+def trees(children):
+    return paren(listed([tree(c) for c in children]))
+
+
+def env_of(children):
+    """(name, arguments, body) of an environment in the usual form."""
+    if len(children) < 2 or children[0][0] != "ItemBegin" or children[-1][0] != "ItemEnd":
+        return None
+    begin, end = children[0][1], children[-1][1]
+    if len(end) != 1 or not begin or begin[0] != end[0] or begin[0][0] != "TokenCommandSym" or not readable(begin[0][1]):
+        return None
+    return begin[0][1], begin[1:], children[1:-1]
+
+
+def in_ends(t):
+    """A group with its usual ends."""
+    kind, what = t
+    return kind in GROUPS and len(what) >= 2 and (what[0], what[-1]) == GROUPS[kind][1:]
+
+
+def tree(t):
+    kind, what = t
+    if isinstance(what, bytes):
+        if t in SHORT:
+            return SHORT[t]
+        if not short(what):
+            return f"token {kind} ({raw(what)})"
+        return f"{TOKENS[kind]} {string(what)}" if kind in TOKENS else f"tok {kind} {string(what)}"
+    if in_ends(t):
+        return f"{GROUPS[kind][0]} {trees(what[1:-1])}"
+    if kind == "ClauseArgument":
+        for group, word in (("ItemCurly", "braced"), ("ItemBracket", "bracketed")):
+            if len(what) == 1 and what[0][0] == group and in_ends(what[0]):
+                return f"{word} {trees(what[0][1][1:-1])}"
+        return f"arg {trees(what)}"
+    if kind == "ItemCmd" and what and what[0][0] == "ClauseCommandName" and readable(what[0][1]):
+        return f"cmd {string(what[0][1])} {trees(what[1:])}"
+    if kind == "ItemEnv" and env_of(what):
+        name, args, body = env_of(what)
+        return f"env {string(name)} {trees(args)} {trees(body)}"
+    return f"over {kind} {trees(what)}"
+
+
+def rule(r):
+    name, kind, alias = r
+    return f"rule {string(name)} {kind}" if alias is None else f"ruleAs {string(name)} {kind} {string(alias)}"
+
+
+def rules_text(rules, usual, few):
+    """The rules: a case's own stand before the usual ones."""
+    if rules == usual:
+        return "usual"
+    if rules == few:
+        return "few"
+    own = [r for r in rules if r not in usual]
+    names = {r[0] for r in own}
+    assert sorted(own + [r for r in usual if r[0] not in names]) == sorted(rules)
+    return "(" + " ∷ ".join([rule(r) for r in own] + ["usual"]) + ")"
+
+
+def answer(expected):
+    m = re.fullmatch(rb"refused (\d+) at (\d+)\n", expected)
+    if m:
+        return f"refusal {int(m[1])} {int(m[2])}"
+    return f"writes {string(expected)}" if short(expected) else f"text ({raw(expected)})"
+
+
+# ---- the tables
+
+WIDTH = 120
+
+
+def folded(children):
+    """The trees of a root, one to a line where they are long."""
+    line = trees(children)
+    if len(line) <= WIDTH or len(children) < 2:
+        return [line]
+    first, *others = [tree(c) for c in children]
+    return ["(", first] + ["∷ " + t for t in others] + ["∷ []", ")"]
+
+
+def folders(vectors, spans):
+    for span in spans:
+        stem, numbers = span.split("-")
+        first, _, last = numbers.partition("..")
+        for n in range(int(first), int(last or first) + 1):
+            yield vectors / f"{stem}-{n:0{len(first)}d}"
+
+
+def case(folder, usual, few):
+    rules = rules_text(read_rules((folder / "rules.bin").read_bytes()), usual, few)
+    mode = {b"t": "Text", b"m": "Math"}[(folder / "stdin").read_bytes()[:1]]
+    root = read_tree((folder / "tree.bin").read_bytes())
+    assert root[0] == "ScopeRoot"
+    shows = (folder / "name").read_text().strip()
+    parts = [f"case {rules} {mode}"] + folded(root[1]) + [f"({answer((folder / 'expected').read_bytes())})"]
+    line = " ".join(parts)
+    return shows, [line] if len(line) <= WIDTH else parts
+
+
+# what a table may name: the module, and its names
+NAMES = [
+    ("Rattle.text.specs.Ascii", ["ascii"]),
+    ("Rattle.text.specs.Compare", ["same", "startsWith", "endsWith"]),
+    ("Rattle.text.specs.Writing", ["digits"]),
+    ("Rattle.utf8.specs.Chars", ["chars", "concat"]),
+    ("Rattle.utf8.specs.Trim", ["skipWhite", "trimStart", "trimEnd", "trim"]),
+    ("Rattle.mitex_spec.specs.Rules", ["get"]),
+    ("Rattle.mitex_syntax.specs.Syntax", KINDS),
+    ("Rattle.mitex_syntax.specs.Tree", ["size", "textOf"]),
+    ("Rattle.mitex_syntax.specs.Tree.Tree", ["token"]),
+    ("Rattle.mitex_syntax.specs.Views", ["firstBy", "offsetBy", "firstToken", "lastToken"]),
+    ("Rattle.mitex_state.specs.Tokens", ["spaced", "tokenOut"]),
+    ("Rattle.mitex_state.specs.Children", ["othersFollow", "turn", "each"]),
+    ("Rattle.mitex_state.specs.Groups", ["clauseLr"]),
+    ("Rattle.mitex_state.specs.Images", ["split", "stripped", "optionsText"]),
+    ("Rattle.mitex_state.specs.Colors", ["pastTrivia", "past", "seek", "textTo"]),
+    ("Rattle.mitex_state.specs.Commands", ["greedy"]),
+    ("Rattle.mitex_state.specs.Tables", ["lettersFit", "columns", "alignments", "vlines"]),
+    ("Rattle.mitex_state.specs.Environments", ["lastCaption"]),
+    ("Rattle.mitex_state.specs.Conversion", ["step", "convert"]),
+    ("Rattle.mitex_state.specs.Examples", """Case case hold few usual rule ruleAs writes over tok word name sym space break
+        newline comment ampersand dollar times curly bracket arg braced bracketed cmd env""".split()),
+    ("Rattle.mitex_state.specs.Examples.Answer", ["text", "refusal"]),
+    ("Rattle.mitex_state.specs.declared.LaTeXMode.the-variants", ["Text", "Math"]),
+]
+
+# what every table computes by
+UNFOLDED = """hold convert step each turn tokenOut spaced clauseLr greedy split stripped optionsText pastTrivia past seek textTo
+othersFollow lettersFit columns alignments vlines lastCaption size textOf firstBy offsetBy firstToken lastToken get same
+startsWith endsWith digits chars concat skipWhite trimStart trimEnd trim""".split()
+
+
+def uses(body):
+    code = re.sub(r'"(\\.|[^"\\])*"', "", re.sub(r"^ *--.*$", "", body, flags=re.M))
+    words = set(re.findall(r"[A-Za-z]+", code))
+    lines = []
+    for module, names in NAMES:
+        used = [n for n in names if n in words]
+        if used:
+            lines.append(f"use {module}.{{{', '.join(used)}}}")
+    return lines
+
+
+def table(about, cases):
+    lines = ["abbrev pub cases : List Case", "cases ="]
+    for i, (shows, case_lines) in enumerate(cases):
+        lines += [f"    -- {shows}", "    " + ("∷ " if i else "") + case_lines[0]] + ["    " + more for more in case_lines[1:]]
+    body = "\n".join(lines + ["    ∷ []", ""])
+    body += "\n".join(["", "pub cases-hold : hold cases ≡ true", "unfolding " + " ".join(UNFOLDED), "cases-hold = refl", ""])
+    lists = "List, [], _∷_, _++_" if " ++ " in body else "List, [], _∷_"
+    head = ["-- Worked conversions: " + about, "use mathlib.Core.Path.{_≡_, refl}", "use mathlib.Core.Bool.{true}"]
+    head.append("use mathlib.Core.List.{" + lists + "}")
+    return "\n".join(head + uses(body) + ["", body])
+
+
+def main():
+    vectors = Path(sys.argv[1])
+    usual = read_rules((vectors / "trap-002" / "rules.bin").read_bytes())
+    few = read_rules((vectors / "hand-00" / "rules.bin").read_bytes())
+    for name, about, spans in TABLES:
+        cases = [case(folder, usual, few) for folder in folders(vectors, spans)]
+        (SPECS / f"Examples{name}.antt").write_text(table(about, cases))
+
+
+main()
