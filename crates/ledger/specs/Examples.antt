@@ -1,0 +1,63 @@
+-- Worked rows.
+use mathlib.Core.Path.{_≡_, refl}
+use mathlib.Core.Bool.{Bool, true, false}
+use mathlib.Core.List.{List, [], _∷_, _++_}
+use Prim.Native.Nat.{ℕ}
+use lib.ListN.{replicate}
+use Rattle.mitex_state.specs.Outcome.{Label, Carry}
+use Rattle.mitex_state.specs.Outcome.Label.{unheld, held}
+use Rattle.ledger.specs.Ledger.{Row, encodeCarry, encodeRow, decodeRow, allZero, rowFits, fits, moveRow, sameCarry, Piece, rowsFrom, encodeRows}
+
+abbrev labelled : Row
+labelled = record { end = 258; carry = record { flag = true; label = held (101 ∷ []) } }
+
+abbrev plain : ℕ → Row
+plain n = record { end = n; carry = record { flag = false; label = unheld } }
+
+abbrev row : List ℕ → List ℕ
+row l = l ++ replicate 119 0
+
+row-labelled : encodeRow labelled ≡ row (2 ∷ 1 ∷ 0 ∷ 0 ∷ 1 ∷ 1 ∷ 1 ∷ 0 ∷ 101 ∷ [])
+unfolding encodeRow encodeCarry
+row-labelled = refl
+
+row-plain : encodeRow (plain 5) ≡ row (5 ∷ 0 ∷ 0 ∷ 0 ∷ 0 ∷ 0 ∷ 0 ∷ 0 ∷ 0 ∷ [])
+unfolding encodeRow encodeCarry
+row-plain = refl
+
+back : decodeRow (row (2 ∷ 1 ∷ 0 ∷ 0 ∷ 1 ∷ 1 ∷ 1 ∷ 0 ∷ 101 ∷ [])) ≡ labelled
+unfolding decodeRow
+back = refl
+
+moved : moveRow 100 90 (row (2 ∷ 1 ∷ 0 ∷ 0 ∷ 1 ∷ 1 ∷ 1 ∷ 0 ∷ 101 ∷ [])) ≡ row (248 ∷ 0 ∷ 0 ∷ 0 ∷ 1 ∷ 1 ∷ 1 ∷ 0 ∷ 101 ∷ [])
+unfolding moveRow
+moved = refl
+
+-- a ledger may be longer than its rows; with no rows it fits where the kept length is 0
+fitting : (fits 1 5 (row (5 ∷ 0 ∷ 0 ∷ 0 ∷ 0 ∷ 0 ∷ 0 ∷ 0 ∷ 0 ∷ []) ++ (7 ∷ [])) ≡ true) × (fits 0 0 (7 ∷ []) ≡ true) × (fits 0 1 [] ≡ false)
+unfolding fits rowFits allZero
+fitting = (refl, refl, refl)
+
+-- another length, a mark of 2, an unheld label with a length, a byte 7, a byte behind the label, no whole row
+unfit : (fits 1 6 (row (5 ∷ 0 ∷ 0 ∷ 0 ∷ 0 ∷ 0 ∷ 0 ∷ 0 ∷ 0 ∷ [])) ≡ false)
+    × (fits 1 5 (row (5 ∷ 0 ∷ 0 ∷ 0 ∷ 2 ∷ 0 ∷ 0 ∷ 0 ∷ 0 ∷ [])) ≡ false)
+    × (fits 1 5 (row (5 ∷ 0 ∷ 0 ∷ 0 ∷ 0 ∷ 0 ∷ 1 ∷ 0 ∷ 0 ∷ [])) ≡ false)
+    × (fits 1 5 (row (5 ∷ 0 ∷ 0 ∷ 0 ∷ 0 ∷ 1 ∷ 0 ∷ 1 ∷ 0 ∷ [])) ≡ false)
+    × (fits 1 5 (row (5 ∷ 0 ∷ 0 ∷ 0 ∷ 0 ∷ 1 ∷ 0 ∷ 0 ∷ 9 ∷ [])) ≡ false)
+    × (fits 1 5 (5 ∷ 0 ∷ 0 ∷ 0 ∷ 0 ∷ 0 ∷ 0 ∷ 0 ∷ replicate 119 0) ≡ false)
+unfolding fits rowFits allZero
+unfit = (refl, refl, refl, refl, refl, refl)
+
+-- lengths that fall
+falling : fits 2 4 (encodeRows (plain 5 ∷ plain 4 ∷ [])) ≡ false
+unfolding fits rowFits allZero encodeRow encodeCarry
+falling = refl
+
+-- no label and an empty one differ
+differing : sameCarry (record { flag = true; label = unheld }) (record { flag = true; label = held [] }) ≡ false
+unfolding sameCarry
+differing = refl
+
+rows : rowsFrom 1 (record { text = 97 ∷ []; after = labelled .carry } ∷ record { text = []; after = (plain 0) .carry } ∷ [])
+    ≡ record { end = 2; carry = labelled .carry } ∷ plain 2 ∷ []
+rows = refl

@@ -1,0 +1,1 @@
+// The ledger: a row of 128 bytes for each block.
