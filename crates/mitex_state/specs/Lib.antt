@@ -19,3 +19,5 @@ pub mod ExamplesColors
 pub mod ExamplesImages
 pub mod ExamplesEnvironments
 pub mod ExamplesCells
+pub mod State
+pub mod Contract

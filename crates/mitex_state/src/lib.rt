@@ -1,4 +1,12 @@
 // The converter's state, and what its loops over children do with a child. The meaning of a conversion is in specs/.
+ghost use mathlib.Core.Path.{_≡_};
+ghost use Prim.Native.Nat.{_+_, _<_, _≤_, _^_};
+ghost use lib.ListN.{length};
+ghost use Rattle.text.specs.Writing.{cap};
+ghost use Rattle.mitex_state.specs.Outcome.{flagged, labelled, labelMost};
+ghost use Rattle.mitex_state.specs.Outcome.Label.{held, unheld};
+ghost use Rattle.mitex_state.specs.State.{carryOf, stepOf, newOf, placed, withMode, enteredEnv, exitedEnv, Carried};
+ghost use Rattle.mitex_state.specs.Contract.{Place, Went, Declined, Closed};
 
 // The mode of the text that is written.
 pub enum LaTeXMode {
@@ -107,4 +115,186 @@ pub enum Act {
     // the end of a cell, and one at the end of a line
     Close,
     CloseLast,
+}
+
+// What a walk answers: the converter and the next place, with refusal 0; or a refusal and its row.
+pub struct Walked {
+    pub converter: Converter,
+    pub at: usize,
+    pub refusal: u8,
+    pub row: usize,
+}
+
+// By how much an environment indents.
+pub fn step_of(env: LaTeXEnv) -> usize
+    ensures { λ r. ⌜ r ≡ stepOf env ⌝ }
+{
+    match env {
+        LaTeXEnv::None => 0,
+        LaTeXEnv::Figure => 0,
+        LaTeXEnv::Table => 0,
+        LaTeXEnv::Itemize => 2,
+        LaTeXEnv::Enumerate => 2,
+        LaTeXEnv::Math => 0,
+        LaTeXEnv::Matrix => 0,
+        LaTeXEnv::Cases => 0,
+        LaTeXEnv::SubStack => 0,
+        LaTeXEnv::MathCurlyGroup => 0,
+    }
+}
+
+impl Converter {
+    pub fn new(mode: LaTeXMode) -> Converter
+        ensures { λ r. ⌜ r ≡ newOf mode ⌝ }
+    {
+        let env = LaTeXEnv::None;
+        let label = [0u8; 120];
+        Converter {
+            mode,
+            env,
+            indent: 0,
+            label,
+            label_len: 0,
+            label_held: false,
+            skip_next_space: true,
+        }
+    }
+
+    // The converter in a mode; the caller keeps the mode before.
+    pub fn entered_mode(self, context: LaTeXMode) -> Converter
+        ensures { λ r. ⌜ r ≡ withMode context self ⌝ }
+    {
+        Converter {
+            mode: context,
+            ..self
+        }
+    }
+
+    // The converter back in the mode before.
+    pub fn exited_mode(self, prev: LaTeXMode) -> Converter
+        ensures { λ r. ⌜ r ≡ withMode prev self ⌝ }
+    {
+        Converter { mode: prev, ..self }
+    }
+
+    // The converter in an environment; a list is two further in.
+    pub fn entered_env(self, context: LaTeXEnv) -> Converter
+        requires { ⌜ self .indent + stepOf context < 2 ^ 64 ⌝ }
+        ensures { λ r. ⌜ r ≡ enteredEnv context self ⌝ }
+    {
+        let step = step_of(context);
+        Converter {
+            env: context,
+            indent: self.indent + step,
+            ..self
+        }
+    }
+
+    // The converter back in the environment before; the indent of a list is at least 2.
+    pub fn exited_env(self, prev: LaTeXEnv) -> Converter
+        requires { ⌜ stepOf (self .env) ≤ self .indent ⌝ }
+        ensures { λ r. ⌜ r ≡ exitedEnv prev self ⌝ }
+    {
+        let was = self.env;
+        let step = step_of(was);
+        Converter {
+            env: prev,
+            indent: self.indent - step,
+            ..self
+        }
+    }
+
+    // The flag set so.
+    pub fn with_flag(self, flag: bool) -> Converter
+        ensures { λ r. ⌜ Carried self (flagged flag (carryOf self)) r ⌝ }
+    {
+        Converter {
+            skip_next_space: flag,
+            ..self
+        }
+    }
+
+    // With no label held.
+    pub fn without_label(self) -> Converter
+        ensures { λ r. ⌜ Carried self (labelled unheld (carryOf self)) r ⌝ }
+    {
+        Converter {
+            label_len: 0,
+            label_held: false,
+            ..self
+        }
+    }
+
+    // With this label held.
+    pub fn with_label(self, s: &[u8]) -> Converter
+        requires { ⌜ length (now s) ≤ labelMost ⌝ }
+        ensures { λ r. ⌜ Carried self (labelled (held (now (s .entry))) (carryOf self)) r ⌝ }
+    {
+        let mut label = self.label;
+        let mut i = 0;
+        while i < s.len() {
+            label[i] = s[i];
+            i += 1;
+        }
+        Converter {
+            label,
+            label_len: s.len(),
+            label_held: true,
+            ..self
+        }
+    }
+}
+
+// A walk that went well.
+pub fn went(c: Converter, at: usize) -> Walked
+    ensures { λ r. ⌜ Went c at r ⌝ }
+{
+    Walked {
+        converter: c,
+        at,
+        refusal: 0,
+        row: 0,
+    }
+}
+
+// A walk that was refused.
+pub fn refuse(c: Converter, number: u8, row: usize) -> Walked
+    ensures { λ r. ⌜ Declined number row r ⌝ }
+{
+    Walked {
+        converter: c,
+        at: 0,
+        refusal: number,
+        row,
+    }
+}
+
+// What follows a walk: a refusal is handed on, and a converter that comes back is brought to a mode, environment and indent, with a
+// text written behind.
+pub fn close(
+    out: &mut [u8],
+    a: Walked,
+    mode: LaTeXMode,
+    env: LaTeXEnv,
+    indent: usize,
+    s: &[u8],
+) -> Walked
+    requires { ⌜ ((a .refusal ≡ 0 → a .at ≤ cap) × (length (now out) ≤ cap)) ⌝ }
+    ensures { λ r. ⌜ Closed a (record { mode = mode; env = env; indent = indent }) (now (s .entry)) (now (out .entry)) r (now (out .exit)) ⌝ }
+{
+    if a.refusal != 0 {
+        return a;
+    }
+    let c = a.converter;
+    let p = a.at;
+    let q = text::put(out, p, s);
+    went(
+        Converter {
+            mode,
+            env,
+            indent,
+            ..c
+        },
+        q,
+    )
 }
