@@ -8,7 +8,7 @@
 -- The flag and the label are what the block hands to the next one: its carry.
 use mathlib.Core.Bool.{Bool, true, false, _&&_, _||_, cond, Bool·beq}
 use mathlib.Core.List.{List, [], _∷_, _++_}
-use Prim.Native.Nat.{ℕ, zero, suc, _+_, _*_, _-_}
+use Prim.Native.Nat.{ℕ, zero, suc, _+_, _*_, _-_, _≤_}
 use lib.ListN.{length, take, drop, getD, replicate}
 use lib.Dec.{leb, eqb}
 use Rattle.text.specs.Numbers.{four, fourAt}
@@ -36,6 +36,10 @@ isHeld (held b) = true
 abbrev pub labelBytes : Label → List ℕ
 labelBytes unheld = []
 labelBytes (held b) = b
+
+-- a label that has room in a row
+abbrev pub Short : Carry → Type 0
+Short c = length (labelBytes (c .label)) ≤ labelMost
 
 -- a row behind its length
 unfoldable pub encodeCarry : Carry → List ℕ
