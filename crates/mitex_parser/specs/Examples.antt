@@ -6,16 +6,16 @@ use Rattle.text.specs.Ascii.{ascii}
 use Rattle.text.specs.Compare.{same}
 use Rattle.text.specs.Numbers.{four}
 use Rattle.utf8.specs.Utf8.{run, valid}
-use Rattle.mitex_syntax.specs.Syntax.{ClauseArgument, ScopeRoot, ItemBracket, ItemFormula, ItemCurly, ClauseLR, ClauseCommandName, ItemBegin, ItemEnd, TokenWord, ItemBlockComment, TokenCommandSym, ItemCmd, ItemEnv}
+use Rattle.mitex_syntax.specs.Syntax.{ClauseArgument, ScopeRoot, ItemBracket, ItemCurly, ClauseLR, ClauseCommandName, ItemBegin, ItemEnd, TokenWord, ItemBlockComment, TokenCommandSym, ItemCmd, ItemEnv}
 use Rattle.mitex_syntax.specs.Tree.{Tree, Forest, size, rowsOf, textOf, fileOf, count}
 use Rattle.mitex_syntax.specs.Tree.Tree.{token, node}
 use Rattle.mitex_syntax.specs.Tree.Forest.{none, more}
-use Rattle.mitex_syntax.specs.Views.{firstBy, firstToken, allBy}
+use Rattle.mitex_syntax.specs.Views.{firstBy, firstToken}
 use Rattle.mitex_parser.specs.Layout.{rowAt, lines, grow, split, decode}
 use Rattle.mitex_parser.specs.Depth.{depth}
-use Rattle.mitex_parser.specs.Shape.{lowest, argumentOf, allNodes}
-use Rattle.mitex_parser.specs.Check.{Verdict, checkTree, answerOf}
-use Rattle.mitex_parser.specs.Check.Verdict.{refused, accepted}
+use Rattle.mitex_parser.specs.Shape.{lowest}
+use Rattle.mitex_parser.specs.Check.{checkTree, answerOf}
+use Rattle.mitex_parser.specs.Check.Verdict.{accepted}
 use Rattle.mitex_parser.specs.declared.Checked.{Checked}
 use Rattle.mitex_parser.specs.declared.Checked.the-variants.{Whole, Refused}
 
@@ -134,7 +134,7 @@ arguments-fit :
     ∷ Whole 12 4 2
     ∷ []
     )
-unfolding checkTree decode fileOf rowsOf textOf size lines rowAt grow split valid run count depth lowest firstBy firstToken allBy argumentOf allNodes same
+unfolding checkTree decode fileOf rowsOf textOf size lines rowAt grow split valid run count depth lowest firstBy firstToken same
 arguments-fit = refl
 
 -- ---- bytes

@@ -1,7 +1,7 @@
 -- The layout of a tree file (refusal 3): the trailer, the rows one by one while their token texts fill the text area, the
 -- nesting of the rows, and the root over its blocks. `decode` gives the tree of a file that is laid out right; `decode-sound`
 -- and `decode-complete` (proofs/Decode.antt) say that these are the files of trees within the limits, and no others.
-use mathlib.Core.Bool.{Bool, true, false, _&&_, cond}
+use mathlib.Core.Bool.{Bool, _&&_, cond}
 use mathlib.Core.Path.{_≡_}
 use mathlib.Core.Option.{Option}
 use mathlib.Core.Option.Option.{none as nothing, some}
@@ -46,14 +46,19 @@ rowArea b = take (8 * countOf b) (drop (startOf b) b)
 
 -- ---- the rows
 
--- the row that stands first, where `text` is left: a token with its text length, or a node with how many rows lie under it
+-- the row that stands first, where `text` is left: a token with its text length
+abbrev pub tokenRow : List ℕ → List ℕ → Row
+tokenRow rows text =
+    cond (leb (fourAt 4 rows) (length text) && tokenFits (getD rows 0 0) (take (fourAt 4 rows) text)) (Token (fourAt 4 rows)) Bad
+
+-- or a node with how many rows lie under it
+abbrev pub nodeRow : List ℕ → Row
+nodeRow rows = cond (eqb (getD rows 1 0) 0 && isNode (getD rows 0 0)) (Node (fourAt 4 rows)) Bad
+
+-- kind, 0 node or 1 token, two zero bytes, then the number
 unfoldable pub rowAt : List ℕ → List ℕ → Row
 rowAt rows text =
-    cond (eqb (getD rows 2 0) 0 && eqb (getD rows 3 0) 0)
-    (cond (eqb (getD rows 1 0) 1)
-    (cond (leb (fourAt 4 rows) (length text) && tokenFits (getD rows 0 0) (take (fourAt 4 rows) text)) (Token (fourAt 4 rows)) Bad)
-    (cond (eqb (getD rows 1 0) 0 && isNode (getD rows 0 0)) (Node (fourAt 4 rows)) Bad))
-    Bad
+    cond (eqb (getD rows 2 0) 0 && eqb (getD rows 3 0) 0) (cond (eqb (getD rows 1 0) 1) (tokenRow rows text) (nodeRow rows)) Bad
 
 -- a row that was read: a token with its text, or a node with how many rows lie under it
 pub data Line : Type 0 where

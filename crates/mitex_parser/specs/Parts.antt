@@ -3,16 +3,19 @@ use mathlib.Core.Path.{_≡_}
 use mathlib.Core.Bool.{Bool, true, false, _&&_, cond}
 use mathlib.Core.Option.{Option}
 use mathlib.Core.Option.Option.{none as nothing, some}
-use Prim.Native.Nat.{ℕ, suc, _*_, _≤_}
-use mathlib.Core.List.{List}
+use Prim.Native.Nat.{ℕ, suc, _*_, _≤_, _<_}
+use mathlib.Core.List.{List, [], _∷_, _++_}
 use lib.ListN.{length, getD}
-use lib.Dec.{eqb, leb}
-use Rattle.text.specs.Numbers.{fourAt}
-use Rattle.mitex_syntax.specs.Syntax.{ScopeRoot}
-use Rattle.mitex_syntax.specs.Tree.{Tree, Forest, rowsOfs, count}
+use lib.Dec.{T, eqb, leb}
+use Rattle.text.specs.Numbers.{four, fourAt}
+use Rattle.text.specs.Writing.{cap}
+use Rattle.mitex_syntax.specs.Syntax.{ScopeRoot, isNode}
+use Rattle.mitex_syntax.specs.Tree.{Forest, rowsOfs, count}
 use Rattle.mitex_syntax.specs.Tree.Tree.{token, node}
 use Rattle.mitex_syntax.specs.Tree.Forest.{none, more}
-use Rattle.mitex_parser.specs.Layout.{fileMost, blocksMost}
+use Rattle.mitex_syntax.specs.Spells.{tokenFits}
+use Rattle.mitex_parser.specs.Layout.{fileMost, blocksMost, Line}
+use Rattle.mitex_parser.specs.Layout.Line.{tok, nod}
 use Rattle.mitex_parser.specs.Depth.{depths}
 use Rattle.mitex_parser.specs.declared.Row.{Row}
 use Rattle.mitex_parser.specs.declared.Row.the-variants.{Bad, Token, Node}
@@ -21,7 +24,26 @@ use Rattle.mitex_parser.specs.declared.Nest.the-variants.{Broken, Deep, 
 use Rattle.mitex_parser.specs.declared.Blocks.{Blocks}
 use Rattle.mitex_parser.specs.declared.Blocks.the-variants.{Amiss, Are}
 use Rattle.mitex_parser.specs.declared.Shape.{Shape}
-use Rattle.mitex_parser.specs.declared.Shape.the-variants.{Fits, Breaks}
+use Rattle.mitex_parser.specs.declared.Shape.the-variants.{Right, Breaks}
+
+-- ---- rows that were read
+
+-- their bytes, and the text of their tokens
+unfoldable pub bytesOf : List Line → List ℕ
+bytesOf [] = []
+bytesOf (tok k s ∷ ls) = k ∷ 1 ∷ 0 ∷ 0 ∷ four (length s) (bytesOf ls)
+bytesOf (nod k n ∷ ls) = k ∷ 0 ∷ 0 ∷ 0 ∷ four n (bytesOf ls)
+
+unfoldable pub textsIn : List Line → List ℕ
+textsIn [] = []
+textsIn (tok k s ∷ ls) = s ++ textsIn ls
+textsIn (nod k n ∷ ls) = textsIn ls
+
+-- each is one of its kind, and its number fits four bytes
+unfoldable pub Fits : List Line → Type 0
+Fits [] = Unit {0}
+Fits (tok k s ∷ ls) = T (tokenFits k s) × (length s < cap) × Fits ls
+Fits (nod k n ∷ ls) = T (isNode k) × (n < cap) × Fits ls
 
 abbrev pub isBad : Row → Bool
 isBad Bad = true
@@ -31,6 +53,8 @@ isBad (Node m) = false
 -- the rows under the row that stands first
 abbrev pub underOf : List ℕ → ℕ
 underOf rows = cond (eqb (getD rows 1 0) 1) 0 (fourAt 4 rows)
+
+-- ---- answers
 
 -- rows nest no deeper than `left`, or deeper, or not at all
 abbrev pub Nested : Option Forest → ℕ → Nest → Type 0
@@ -47,8 +71,10 @@ blocksIn (more (node k f) none) = cond (eqb k ScopeRoot && leb (count f) blocksM
 
 -- whether a row breaks a rule
 abbrev pub shapeOf : Option ℕ → Shape
-shapeOf nothing = Fits
+shapeOf nothing = Right
 shapeOf (some row) = Breaks row
+
+-- ---- what is asked
 
 -- the rows are those of some trees
 pub record SomeRows (rows : List ℕ) : Type 0 where

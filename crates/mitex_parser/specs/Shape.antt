@@ -1,7 +1,6 @@
 -- The tree-shape rules (refusal 5), one definition a rule. `lowest` is the lowest row that breaks one: a rule on a command, an
 -- environment or a ClauseLR is broken by its own row. `Shaped` says that no row does.
-use mathlib.Core.Bool.{Bool, true, false, _&&_, _||_, cond}
-use mathlib.Core.Path.{_≡_}
+use mathlib.Core.Bool.{Bool, true, false, _&&_, _||_, not, cond}
 use mathlib.Core.Option.{Option}
 use mathlib.Core.Option.Option.{none as nothing, some}
 use Prim.Native.Nat.{ℕ, _+_, _-_}
@@ -11,10 +10,10 @@ use lib.Dec.{T, eqb, leb}
 use Rattle.text.specs.Ascii.{ascii}
 use Rattle.text.specs.Compare.{same}
 use Rattle.mitex_syntax.specs.Syntax.{ClauseArgument, ItemBracket, ItemCurly, ClauseLR, ItemBegin, ItemEnd, TokenCommandSym, ItemCmd, ItemEnv}
-use Rattle.mitex_syntax.specs.Tree.{Tree, Forest, kindOf, size, textOf}
+use Rattle.mitex_syntax.specs.Tree.{Tree, Forest, size, textOf}
 use Rattle.mitex_syntax.specs.Tree.Tree.{token, node}
 use Rattle.mitex_syntax.specs.Tree.Forest.{none, more}
-use Rattle.mitex_syntax.specs.Views.{firstOf, textIn, cmdName, beginOf, firstTokens, arguments, firstNode, childrenOf}
+use Rattle.mitex_syntax.specs.Views.{firstOf, kindIn, textIn, cmdName, beginOf, firstTokens, argumentWith}
 
 -- the text begins with a backslash
 abbrev pub slashed : List ℕ → Bool
@@ -50,10 +49,6 @@ lrFits none = false
 lrFits (more (token k s) f) = slashed s
 lrFits (more (node k g) f) = false
 
-abbrev pub kindIn : Option Tree → ℕ
-kindIn nothing = 0
-kindIn (some t) = kindOf t
-
 -- an ItemEnv has a direct ItemBegin, and the first token of the first such is a TokenCommandSym
 abbrev pub envFits : Forest → Bool
 envFits f = eqb (kindIn (firstTokens (beginOf f))) TokenCommandSym
@@ -62,23 +57,13 @@ envFits f = eqb (kindIn (firstTokens (beginOf f))) TokenCommandSym
 abbrev pub labelFits : Forest → Bool
 labelFits f = goodEnds (textIn (firstOf ClauseArgument f))
 
--- the kind of an argument: that of its first child node; 0 where it has none
-abbrev pub argumentKind : Tree → ℕ
-argumentKind t = kindIn (firstNode (childrenOf t))
-
--- the first of some arguments that is of the kind
-unfoldable pub argumentOf : ℕ → Forest → Option Tree
-argumentOf k none = nothing
-argumentOf k (more t f) = cond (eqb (argumentKind t) k) (some t) (argumentOf k f)
-
 abbrev pub isSome : {A : Type 0} → Option A → Bool
 isSome nothing = false
 isSome (some a) = true
 
--- each argument has a child node
-unfoldable pub allNodes : Forest → Bool
-allNodes none = true
-allNodes (more t f) = isSome (firstNode (childrenOf t)) && allNodes f
+-- no argument is without a child node; the kind of what is not there is 0
+abbrev pub allNodes : Forest → Bool
+allNodes f = not (isSome (argumentWith 0 f))
 
 abbrev pub endsIn : Option Tree → Bool
 endsIn nothing = true
@@ -88,8 +73,7 @@ endsIn (some t) = goodEnds (textOf t)
 -- ItemBracket argument have good ends
 abbrev pub imageFits : Forest → Bool
 imageFits f =
-    allNodes (arguments f)
-    && (goodEnds (textIn (argumentOf ItemCurly (arguments f))) && endsIn (argumentOf ItemBracket (arguments f)))
+    allNodes f && (goodEnds (textIn (argumentWith ItemCurly f)) && endsIn (argumentWith ItemBracket f))
 
 -- `\color` has an argument
 abbrev pub colorFits : Forest → Bool

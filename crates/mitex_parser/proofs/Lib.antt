@@ -1,0 +1,5 @@
+pub mod Grow
+pub mod Rows
+pub mod Decode
+pub mod Nesting
+pub mod Runs

@@ -1,0 +1,40 @@
+-- The two tests of `tokenRow`, in its order.
+use mathlib.Core.Path.{sym, _∙_}
+use borrow.Author.Tests.{le-leb, lt-leb}
+use lib.Seq.{length-take-le}
+use borrow.Author.Needs.{needs}
+use Rattle.mitex_parser.proofs.token_row.Statement.{statement}
+use Rattle.mitex_parser.proofs.token_row.Tie as tie
+
+read-u32-requires : tie.Need-read-u32-requires
+read-u32-requires c κs = search needs
+
+shared-slice-read-token-fits : tie.Need-shared-slice-read-token-fits
+shared-slice-read-token-fits c = search needs
+
+slice-aggregate-token-fits : tie.Need-slice-aggregate-token-fits
+slice-aggregate-token-fits c = sym (length-take-le _ _ (c .before .before .if1 .taken))
+
+token-fits-requires : tie.Need-token-fits-requires
+token-fits-requires c κs = search needs
+
+returns : tie.Need-returns
+returns c = rw (sym (c .before .before .before .before .before .read-u32 .ensures .0), le-leb _ _ (c .before .before .before .before .if1 .taken), sym (c .before .token-fits .ensures) ∙ c .if2 .taken)
+
+returns-2 : tie.Need-returns-2
+returns-2 c = rw (sym (c .before .before .before .before .before .read-u32 .ensures .0), le-leb _ _ (c .before .before .before .before .if1 .taken), sym (c .before .token-fits .ensures) ∙ c .if2 .left)
+
+returns-3 : tie.Need-returns-3
+returns-3 c = rw (sym (c .before .read-u32 .ensures .0), lt-leb _ _ (c .if1 .left))
+
+pub token-row-spec : {M : Type 1} → statement M
+token-row-spec =
+    tie.close
+    (tie.spec
+    read-u32-requires
+    shared-slice-read-token-fits
+    slice-aggregate-token-fits
+    token-fits-requires
+    returns
+    returns-2
+    returns-3)

@@ -1,0 +1,85 @@
+-- Row by row, each node's rows are whole trees; what is left decides (`Rest`). The measure is what is left of the rows.
+use borrow.Author.Needs.{needs}
+use borrow.Author.Tests.{not-true, not-false}
+use native.Mathlib.Omega.{arith}
+use mathlib.Core.Path.{_≡_}
+use mathlib.Core.List.{List}
+use lib.ListN.{length}
+use Rattle.mitex_parser.specs.Layout.{Line}
+use Rattle.mitex_parser.specs.Parts.{bytesOf, Fits}
+use Rattle.mitex_parser.proofs.Nesting.{Rest, rest-start, rest-falls, rest-next, rest-end, past-length}
+use Rattle.mitex_parser.proofs.whole.Statement.{statement}
+use Rattle.mitex_parser.proofs.whole.Tie as tie
+
+abbrev Inv-loop : tie.InvT-loop
+Inv-loop rows rest₀ rest = (ls : List Line) → rows ≡ bytesOf ls → Fits ls → Rest ls rest
+
+abbrev μ-loop : tie.MeasureT-loop
+μ-loop rows rest₀ rest = length rest
+
+loop-holds : tie.Need-loop-holds Inv-loop μ-loop
+loop-holds c = λ ls e h. rest-start ls _ e h
+
+under-requires : tie.Need-under-requires Inv-loop μ-loop
+under-requires c κs = search needs
+
+sub-lands : tie.Need-sub-lands Inv-loop μ-loop
+sub-lands c = search needs
+
+part-lands-start : tie.Need-part-lands-start Inv-loop μ-loop
+part-lands-start c = search needs
+
+part-lands-end : tie.Need-part-lands-end Inv-loop μ-loop
+part-lands-end c = search needs
+
+lands-requires : tie.Need-lands-requires Inv-loop μ-loop
+lands-requires c κs = search needs
+
+returns : tie.Need-returns Inv-loop μ-loop
+returns c =
+    let row = c .before .before .before in
+    λ ls e h.
+    rest-falls (row .before .before .loop .inv ls e h) (row .before .loop-test .taken) (row .under .result) (row .under .ensures .0)
+    (c .before .lands .result) (c .before .lands .ensures) (not-true _ (c .if1 .taken))
+
+sub-rest : tie.Need-sub-rest Inv-loop μ-loop
+sub-rest c = search needs
+
+part-rest-start : tie.Need-part-rest-start Inv-loop μ-loop
+part-rest-start c = search needs
+
+part-rest-end : tie.Need-part-rest-end Inv-loop μ-loop
+part-rest-end c = search needs
+
+loop-less : tie.Need-loop-less Inv-loop μ-loop
+loop-less c = let row = c .before .before .before .before in omega (arith, past-length (row .before .before .loop .rest .now) 8)
+
+loop-again : tie.Need-loop-again Inv-loop μ-loop
+loop-again c =
+    let row = c .before .before .before .before in
+    λ ls e h.
+    rest-next (row .before .before .loop .inv ls e h) (row .before .loop-test .taken) (row .under .result) (row .under .ensures .0)
+    (c .before .before .lands .result) (c .before .before .lands .ensures) (not-false _ (c .before .if1 .left))
+
+returns-2 : tie.Need-returns-2 Inv-loop μ-loop
+returns-2 c = λ ls e h. rest-end (c .before .loop .inv ls e h) (c .loop-test .left)
+
+pub whole-spec : {M : Type 1} → statement M
+whole-spec =
+    tie.close
+    (tie.spec
+    Inv-loop
+    μ-loop
+    loop-holds
+    under-requires
+    sub-lands
+    part-lands-start
+    part-lands-end
+    lands-requires
+    returns
+    sub-rest
+    part-rest-start
+    part-rest-end
+    loop-less
+    loop-again
+    returns-2)
