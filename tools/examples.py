@@ -24,16 +24,16 @@ TokenRBracket TokenTilde TokenAmpersand ItemNewLine TokenCommandSym ItemCmd Item
 
 # the tables: a name, what it shows, and its cases
 TABLES = [
-    ("Hand", "The cases of the scope paper that concern conversion.", ["hand-00..11", "hand-14..15", "hand-18"]),
-    ("Tokens", "Tokens, what is written unwalked, and the space flag.", ["trap-036..049", "trap-135..138"]),
-    ("Groups", "Formulas, curly groups, `\\left` and `\\right`, attachments.", ["trap-050..063", "trap-150..159"]),
-    ("Commands", "Commands by their rule.", ["trap-000..002", "trap-008..035", "trap-147..148"]),
-    ("Labels", "Labels written at once, held, replaced, written and dropped.", ["trap-064..079", "trap-112"]),
-    ("Colors", "Colours.", ["trap-113..125"]),
-    ("Images", "Images.", ["trap-126..134", "trap-146"]),
-    ("Environments", "Lists, environments for Math, normal environments and figures.",
+    ("Hand", "the cases tried by hand that concern conversion.", ["hand-00..11", "hand-14..15", "hand-18"]),
+    ("Tokens", "tokens, what is written unwalked, and the space flag.", ["trap-036..049", "trap-135..138"]),
+    ("Groups", "formulas, curly groups, `\\left` and `\\right`, attachments.", ["trap-050..063", "trap-150..159"]),
+    ("Commands", "commands by their rule.", ["trap-000..002", "trap-008..035", "trap-147..148"]),
+    ("Labels", "labels written at once, held, replaced, written and dropped.", ["trap-064..079", "trap-112"]),
+    ("Colors", "colours.", ["trap-113..125"]),
+    ("Images", "images.", ["trap-126..134", "trap-146"]),
+    ("Environments", "lists, environments for Math, normal environments and figures.",
      ["trap-003..007", "trap-080..085", "trap-099..106", "trap-108..111"]),
-    ("Cells", "Tables.", ["trap-086..098", "trap-107", "trap-149"]),
+    ("Cells", "tables.", ["trap-086..098", "trap-107", "trap-149"]),
 ]
 
 
@@ -238,34 +238,13 @@ def case(folder, usual, few):
 # what a table may name: the module, and its names
 NAMES = [
     ("Rattle.text.specs.Ascii", ["ascii"]),
-    ("Rattle.text.specs.Compare", ["same", "startsWith", "endsWith"]),
-    ("Rattle.text.specs.Writing", ["digits"]),
-    ("Rattle.utf8.specs.Chars", ["chars", "concat"]),
-    ("Rattle.utf8.specs.Trim", ["skipWhite", "trimStart", "trimEnd", "trim"]),
-    ("Rattle.mitex_spec.specs.Rules", ["get"]),
     ("Rattle.mitex_syntax.specs.Syntax", KINDS),
-    ("Rattle.mitex_syntax.specs.Tree", ["size", "textOf"]),
     ("Rattle.mitex_syntax.specs.Tree.Tree", ["token"]),
-    ("Rattle.mitex_syntax.specs.Views", ["firstBy", "offsetBy", "firstToken", "lastToken"]),
-    ("Rattle.mitex_state.specs.Tokens", ["spaced", "tokenOut"]),
-    ("Rattle.mitex_state.specs.Children", ["othersFollow", "turn", "each"]),
-    ("Rattle.mitex_state.specs.Groups", ["clauseLr"]),
-    ("Rattle.mitex_state.specs.Images", ["split", "stripped", "optionsText"]),
-    ("Rattle.mitex_state.specs.Colors", ["pastTrivia", "past", "seek", "textTo"]),
-    ("Rattle.mitex_state.specs.Commands", ["greedy"]),
-    ("Rattle.mitex_state.specs.Tables", ["lettersFit", "columns", "alignments", "vlines"]),
-    ("Rattle.mitex_state.specs.Environments", ["lastCaption"]),
-    ("Rattle.mitex_state.specs.Conversion", ["step", "convert"]),
     ("Rattle.mitex_state.specs.Examples", """Case case hold few usual rule ruleAs writes over tok word name sym space break
         newline comment ampersand dollar times curly bracket arg braced bracketed cmd env""".split()),
     ("Rattle.mitex_state.specs.Examples.Answer", ["text", "refusal"]),
     ("Rattle.mitex_state.specs.declared.LaTeXMode.the-variants", ["Text", "Math"]),
 ]
-
-# what every table computes by
-UNFOLDED = """hold convert step each turn tokenOut spaced clauseLr greedy split stripped optionsText pastTrivia past seek textTo
-othersFollow lettersFit columns alignments vlines lastCaption size textOf firstBy offsetBy firstToken lastToken get same
-startsWith endsWith digits chars concat skipWhite trimStart trimEnd trim""".split()
 
 
 def uses(body):
@@ -284,7 +263,7 @@ def table(about, cases):
     for i, (shows, case_lines) in enumerate(cases):
         lines += [f"    -- {shows}", "    " + ("∷ " if i else "") + case_lines[0]] + ["    " + more for more in case_lines[1:]]
     body = "\n".join(lines + ["    ∷ []", ""])
-    body += "\n".join(["", "pub cases-hold : hold cases ≡ true", "unfolding " + " ".join(UNFOLDED), "cases-hold = refl", ""])
+    body += "\n".join(["", "pub cases-hold : hold cases ≡ true", "unfolding hold", "cases-hold = refl", ""])
     lists = "List, [], _∷_, _++_" if " ++ " in body else "List, [], _∷_"
     head = ["-- Worked conversions: " + about, "use mathlib.Core.Path.{_≡_, refl}", "use mathlib.Core.Bool.{true}"]
     head.append("use mathlib.Core.List.{" + lists + "}")

@@ -7,15 +7,27 @@ use Prim.Native.Nat.{ℕ, zero, suc}
 use Prim.Native.String.{String}
 use lib.Dec.{eqb}
 use Rattle.text.specs.Ascii.{ascii}
-use Rattle.text.specs.Compare.{same}
-use Rattle.mitex_spec.specs.Rules.{Rule}
+use Rattle.text.specs.Compare.{same, startsWith, endsWith}
+use Rattle.text.specs.Writing.{digits}
+use Rattle.utf8.specs.Chars.{chars, concat}
+use Rattle.utf8.specs.Trim.{skipWhite, trimStart, trimEnd, trim}
+use Rattle.mitex_spec.specs.Rules.{Rule, get}
 use Rattle.mitex_syntax.specs.Syntax.{ClauseArgument, ScopeRoot, ItemBracket, ItemCurly, ClauseCommandName, ItemBegin, ItemEnd, TokenWord, TokenLBrace, TokenRBrace, TokenDollar, TokenComment, TokenWhiteSpace, TokenLineBreak, TokenLBracket, TokenRBracket, TokenAmpersand, ItemNewLine, TokenCommandSym, ItemCmd, ItemEnv}
-use Rattle.mitex_syntax.specs.Tree.{Tree, Forest}
+use Rattle.mitex_syntax.specs.Tree.{Tree, Forest, size, textOf}
 use Rattle.mitex_syntax.specs.Tree.Tree.{token, node}
 use Rattle.mitex_syntax.specs.Tree.Forest.{none, more}
+use Rattle.mitex_syntax.specs.Views.{firstBy, offsetBy, firstToken, lastToken}
 use Rattle.mitex_state.specs.Outcome.{Outcome}
 use Rattle.mitex_state.specs.Outcome.Outcome.{refused, done}
-use Rattle.mitex_state.specs.Conversion.{convert, levels, startContext, newCarry}
+use Rattle.mitex_state.specs.Tokens.{spaced, tokenOut}
+use Rattle.mitex_state.specs.Children.{othersFollow, turn, each}
+use Rattle.mitex_state.specs.Groups.{clauseLr}
+use Rattle.mitex_state.specs.Images.{split, stripped, optionsText}
+use Rattle.mitex_state.specs.Colors.{pastTrivia, past, seek, textTo}
+use Rattle.mitex_state.specs.Commands.{greedy}
+use Rattle.mitex_state.specs.Tables.{lettersFit, columns, alignments, vlines}
+use Rattle.mitex_state.specs.Environments.{lastCaption}
+use Rattle.mitex_state.specs.Conversion.{step, convert, levels, startContext, newCarry}
 use Rattle.mitex_state.specs.declared.LaTeXMode.{LaTeXMode}
 
 -- ---- trees
@@ -144,6 +156,8 @@ case rs m ts a = record { rules = rs; mode = m; blocks = ts; answer = a }
 abbrev pub holds : Case → Bool
 holds c = answers (convert levels (startContext (c .rules) (c .mode)) (over ScopeRoot (c .blocks)) newCarry) (c .answer)
 
+-- whoever unfolds this unfolds all that a conversion computes by
 unfoldable pub hold : List Case → Bool
+unfolding convert step each turn tokenOut spaced clauseLr greedy split stripped optionsText pastTrivia past seek textTo othersFollow lettersFit columns alignments vlines lastCaption size textOf firstBy offsetBy firstToken lastToken get same startsWith endsWith digits chars concat skipWhite trimStart trimEnd trim
 hold [] = true
 hold (c ∷ cs) = holds c && hold cs

@@ -1,26 +1,10 @@
--- Worked conversions: Images.
+-- Worked conversions: images.
 use mathlib.Core.Path.{_≡_, refl}
 use mathlib.Core.Bool.{true}
 use mathlib.Core.List.{List, [], _∷_, _++_}
 use Rattle.text.specs.Ascii.{ascii}
-use Rattle.text.specs.Compare.{same, startsWith, endsWith}
-use Rattle.text.specs.Writing.{digits}
-use Rattle.utf8.specs.Chars.{chars, concat}
-use Rattle.utf8.specs.Trim.{skipWhite, trimStart, trimEnd, trim}
-use Rattle.mitex_spec.specs.Rules.{get}
 use Rattle.mitex_syntax.specs.Syntax.{TokenError, TokenWord}
-use Rattle.mitex_syntax.specs.Tree.{size, textOf}
 use Rattle.mitex_syntax.specs.Tree.Tree.{token}
-use Rattle.mitex_syntax.specs.Views.{firstBy, offsetBy, firstToken, lastToken}
-use Rattle.mitex_state.specs.Tokens.{spaced, tokenOut}
-use Rattle.mitex_state.specs.Children.{othersFollow, turn, each}
-use Rattle.mitex_state.specs.Groups.{clauseLr}
-use Rattle.mitex_state.specs.Images.{split, stripped, optionsText}
-use Rattle.mitex_state.specs.Colors.{pastTrivia, past, seek, textTo}
-use Rattle.mitex_state.specs.Commands.{greedy}
-use Rattle.mitex_state.specs.Tables.{lettersFit, columns, alignments, vlines}
-use Rattle.mitex_state.specs.Environments.{lastCaption}
-use Rattle.mitex_state.specs.Conversion.{step, convert}
 use Rattle.mitex_state.specs.Examples.{Case, case, hold, usual, writes, tok, word, space, curly, arg, braced, bracketed, cmd}
 use Rattle.mitex_state.specs.declared.LaTeXMode.the-variants.{Text, Math}
 
@@ -67,5 +51,5 @@ cases =
     ∷ []
 
 pub cases-hold : hold cases ≡ true
-unfolding hold convert step each turn tokenOut spaced clauseLr greedy split stripped optionsText pastTrivia past seek textTo othersFollow lettersFit columns alignments vlines lastCaption size textOf firstBy offsetBy firstToken lastToken get same startsWith endsWith digits chars concat skipWhite trimStart trimEnd trim
+unfolding hold
 cases-hold = refl
