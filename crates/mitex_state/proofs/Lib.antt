@@ -1,2 +1,4 @@
 pub mod Holding
 pub mod Agreeing
+pub mod Outcomes
+pub mod Loops
