@@ -17,7 +17,7 @@ use Rattle.mitex_syntax.specs.Tree.{Tree, Forest, size, kindOf, textOf}
 use Rattle.mitex_syntax.specs.Tree.Tree.{token, node}
 use Rattle.mitex_syntax.specs.Tree.Forest.{none, more}
 use Rattle.mitex_syntax.specs.Views.{cmdName, firstOf, offsetOf, textIn, childrenIn, inner}
-use Rattle.mitex_state.specs.Outcome.{Context, Label, Carry, Outcome, Conv, Arm, after, closing, shift, inMode, inEnv, labelled, labelMost}
+use Rattle.mitex_state.specs.Outcome.{Context, Carry, Outcome, Conv, Arm, after, closing, shift, inMode, inEnv, labelled, labelMost}
 use Rattle.mitex_state.specs.Outcome.Label.{unheld, held}
 use Rattle.mitex_state.specs.Outcome.Outcome.{refused, done}
 use Rattle.mitex_state.specs.Texts.{itemName, labelName, imageName, arrayName, colorName, textcolorName, colorboxName, substackName}
@@ -30,6 +30,10 @@ use Rattle.mitex_state.specs.declared.LaTeXEnv.{LaTeXEnv}
 use Rattle.mitex_state.specs.declared.LaTeXEnv.the-variants.{None, Figure, Table, Itemize, Enumerate, Matrix, Cases, SubStack, MathCurlyGroup}
 use Rattle.mitex_state.specs.declared.LaTeXEnv.the-variants.{Math as MathEnv}
 use Rattle.mitex_state.specs.declared.Loop.the-variants.{Greedy, Separated, Bracketed}
+use Rattle.mitex_state.specs.declared.Command.{Command}
+use Rattle.mitex_state.specs.declared.Command.the-variants.{Item, Label, IncludeGraphics, Array, Color, ColorArguments, Normal}
+use Rattle.mitex_state.specs.declared.Arguments.{Arguments}
+use Rattle.mitex_state.specs.declared.Arguments.the-variants.{NoArguments, GreedyArgument, MathArguments, TextArguments}
 
 -- ---- `\item`
 
@@ -77,13 +81,16 @@ labelText f = trim (inner (textIn (firstOf ClauseArgument f)))
 
 -- ---- colours
 
--- `\color` looks into its first argument, the others at their arguments
-abbrev pub colorCommand : List ℕ → Arm
-colorCommand name conv x f c =
-    cond (same name colorName)
-    (withModel conv x (colorAlias (getCmd (x .rules) name)) (bodyLoop (x .mode))
-    (greedyModel (2 + offsetOf ClauseArgument f) (childrenIn (firstOf ClauseArgument f))) c)
-    (withModel conv x (colorAlias (getCmd (x .rules) name)) (argumentsLoop (x .mode)) (argumentModel 1 f) c)
+-- `\color` looks into its first argument
+abbrev pub color : List ℕ → Arm
+color name conv x f c =
+    withModel conv x (colorAlias (getCmd (x .rules) name)) (bodyLoop (x .mode))
+    (greedyModel (2 + offsetOf ClauseArgument f) (childrenIn (firstOf ClauseArgument f))) c
+
+-- `\textcolor` and `\colorbox` look at their arguments
+abbrev pub colorArguments : List ℕ → Arm
+colorArguments name conv x f c =
+    withModel conv x (colorAlias (getCmd (x .rules) name)) (argumentsLoop (x .mode)) (argumentModel 1 f) c
 
 -- ---- all others
 
@@ -99,30 +106,34 @@ greedy conv o none c = refused 12 0
 greedy conv o (more (token k s) f) c = cond (eqb k ClauseCommandName) (greedy conv (o + 1) f c) (refused 12 0)
 greedy conv o (more (node k g) f) c = after (ascii "(") (closing (ascii ")") (shift o (each conv 1 Greedy g c)))
 
--- class 2: in Math as a function, unless the written name begins with `#`; else each argument as content
-abbrev pub inMathShape : LaTeXMode → List ℕ → Bool
-inMathShape Text w = false
-inMathShape Math w = not (startsWith w (ascii "#"))
-
+-- class 2 in Math: as a function
 abbrev pub mathArguments : Arm
 mathArguments conv x f c = after (ascii "(") (closing (ascii ")") (each (conv x) 1 Separated f c))
 
+-- class 2 otherwise: each argument as content, in Text
 abbrev pub textArguments : Arm
 textArguments conv x f c = closing (ascii ";") (each (conv (inMode Text x)) 1 Bracketed f c)
 
--- by the class; class 0 has no arguments
-abbrev pub byClass : ℕ → List ℕ → Arm
-byClass k w conv x f c =
-    cond (eqb k 0) (done c (ascii " "))
-    (cond (eqb k 1) (greedy (conv x) 1 f c)
-    (cond (inMathShape (x .mode) w) (mathArguments conv x f c) (textArguments conv x f c)))
+-- by class, mode and written name: class 0 has no arguments, class 1 a Greedy one; a name that begins with `#` takes content in Math too
+abbrev pub otherArguments : LaTeXMode → List ℕ → Arguments
+otherArguments Text w = TextArguments
+otherArguments Math w = cond (startsWith w (ascii "#")) TextArguments MathArguments
+
+abbrev pub argumentsOf : ℕ → LaTeXMode → List ℕ → Arguments
+argumentsOf k m w = cond (eqb k 0) NoArguments (cond (eqb k 1) GreedyArgument (otherArguments m w))
+
+abbrev pub argumentsBy : Arguments → Arm
+argumentsBy NoArguments conv x f c = done c (ascii " ")
+argumentsBy GreedyArgument conv x f c = greedy (conv x) 1 f c
+argumentsBy MathArguments conv x f c = mathArguments conv x f c
+argumentsBy TextArguments conv x f c = textArguments conv x f c
 
 -- `\substack{abc \\ bcd}` goes by the written name
 abbrev pub stackEnv : List ℕ → Context → Context
 stackEnv w x = cond (same w substackName) (inEnv SubStack x) x
 
 abbrev pub written : ℕ → List ℕ → Arm
-written k w conv x f c = after w (byClass k w conv (stackEnv w x) f c)
+written k w conv x f c = after w (argumentsBy (argumentsOf k (x .mode) w) conv (stackEnv w x) f c)
 
 abbrev pub normalBy : Option Rule → List ℕ → Arm
 normalBy nothing name conv x f c = refused 9 0
@@ -133,17 +144,28 @@ normalCommand name conv x f c = normalBy (getCmd (x .rules) name) name conv x f 
 
 -- ---- by name
 
-abbrev pub isColor : List ℕ → Bool
-isColor name = same name colorName || (same name textcolorName || same name colorboxName)
+abbrev pub commandOf : List ℕ → Command
+commandOf name =
+    cond (same name itemName) Item
+    (cond (same name labelName) Label
+    (cond (same name imageName) IncludeGraphics
+    (cond (same name arrayName) Array
+    (cond (same name colorName) Color
+    (cond (same name textcolorName) ColorArguments
+    (cond (same name colorboxName) ColorArguments
+    Normal))))))
+
+abbrev pub commandBy : Command → List ℕ → Arm
+commandBy Item name conv x f c = itemIn (x .env) (x .indent) c
+commandBy Label name conv x f c = labelIn (x .env) (x .mode) (labelText f) c
+commandBy IncludeGraphics name conv x f c = done c (image f)
+commandBy Array name conv x f c = done c []
+commandBy Color name conv x f c = color name conv x f c
+commandBy ColorArguments name conv x f c = colorArguments name conv x f c
+commandBy Normal name conv x f c = normalCommand name conv x f c
 
 abbrev pub commandNamed : List ℕ → Arm
-commandNamed name conv x f c =
-    cond (same name itemName) (itemIn (x .env) (x .indent) c)
-    (cond (same name labelName) (labelIn (x .env) (x .mode) (labelText f) c)
-    (cond (same name imageName) (done c (image f))
-    (cond (same name arrayName) (done c [])
-    (cond (isColor name) (colorCommand name conv x f c)
-    (normalCommand name conv x f c)))))
+commandNamed name conv x f c = commandBy (commandOf name) name conv x f c
 
 abbrev pub command : Arm
 command conv x f c = commandNamed (drop 1 (cmdName f)) conv x f c

@@ -15,43 +15,53 @@ use Rattle.mitex_state.specs.Children.{each}
 use Rattle.mitex_state.specs.Groups.{children, formula, curlyGroup, clauseLr, attachComponent}
 use Rattle.mitex_state.specs.Commands.{command}
 use Rattle.mitex_state.specs.Environments.{environment}
+use Rattle.mitex_state.specs.declared.Element.{Element}
+use Rattle.mitex_state.specs.declared.Element.the-variants.{Children, Formula, CurlyGroup, ClauseLr, AttachComponent, Silent, Command, Environment, TypstCode, Unexpected, Token}
 use Rattle.mitex_state.specs.declared.LaTeXMode.{LaTeXMode}
 use Rattle.mitex_state.specs.declared.LaTeXEnv.the-variants.{None}
 use Rattle.mitex_state.specs.declared.Loop.the-variants.{Plain}
 
--- TokenError, ItemBegin and ItemEnd outside of an environment
-abbrev pub unexpected : Arm
-unexpected conv x f c = refused 7 0
+-- ---- the arms of the Rust's match, in its order
 
-abbrev pub nothingWritten : Arm
-nothingWritten conv x f c = done c []
+abbrev pub elementOf : ℕ → Element
+elementOf k =
+    cond (eqb k TokenError) Unexpected
+    (cond (eqb k ItemLR) Children
+    (cond (eqb k ClauseArgument) Children
+    (cond (eqb k ScopeRoot) Children
+    (cond (eqb k ItemText) Children
+    (cond (eqb k ItemBracket) Children
+    (cond (eqb k ItemParen) Children
+    (cond (eqb k ItemFormula) Formula
+    (cond (eqb k ItemCurly) CurlyGroup
+    (cond (eqb k ClauseLR) ClauseLr
+    (cond (eqb k ItemAttachComponent) AttachComponent
+    (cond (eqb k ItemBegin) Unexpected
+    (cond (eqb k ItemEnd) Unexpected
+    (cond (eqb k ItemBlockComment) Silent
+    (cond (eqb k ItemCmd) Command
+    (cond (eqb k ItemEnv) Environment
+    (cond (eqb k ItemTypstCode) TypstCode
+    Token))))))))))))))))
 
-abbrev pub typstCode : Arm
-typstCode conv x f c = done c (textsOf f)
-
--- the arm of a kind of node, in the order of the Rust's match
-abbrev pub armOf : ℕ → Arm
-armOf k =
-    cond (eqb k ItemLR) children
-    (cond (eqb k ClauseArgument) children
-    (cond (eqb k ScopeRoot) children
-    (cond (eqb k ItemText) children
-    (cond (eqb k ItemBracket) children
-    (cond (eqb k ItemParen) children
-    (cond (eqb k ItemFormula) formula
-    (cond (eqb k ItemCurly) curlyGroup
-    (cond (eqb k ClauseLR) clauseLr
-    (cond (eqb k ItemAttachComponent) attachComponent
-    (cond (eqb k ItemBlockComment) nothingWritten
-    (cond (eqb k ItemCmd) command
-    (cond (eqb k ItemEnv) environment
-    (cond (eqb k ItemTypstCode) typstCode
-    unexpected)))))))))))))
+-- what a node means; a token's kind names no node
+abbrev pub armBy : Element → Arm
+armBy Unexpected conv x f c = refused 7 0
+armBy Children conv x f c = children conv x f c
+armBy Formula conv x f c = formula conv x f c
+armBy CurlyGroup conv x f c = curlyGroup conv x f c
+armBy ClauseLr conv x f c = clauseLr conv x f c
+armBy AttachComponent conv x f c = attachComponent conv x f c
+armBy Silent conv x f c = done c []
+armBy Command conv x f c = command conv x f c
+armBy Environment conv x f c = environment conv x f c
+armBy TypstCode conv x f c = done c (textsOf f)
+armBy Token conv x f c = refused 7 0
 
 -- a node clears the flag first
 unfoldable pub step : Conv → Conv
 step conv x (token k s) c = tokenOut x k s c
-step conv x (node k f) c = armOf k conv x f (flagged false c)
+step conv x (node k f) c = armBy (elementOf k) conv x f (flagged false c)
 
 unfoldable pub convert : ℕ → Conv
 convert zero x t c = refused 7 0
@@ -72,10 +82,6 @@ newCarry = record { flag = true; label = unheld }
 
 abbrev pub startCarry : Carry
 startCarry = record { flag = false; label = unheld }
-
--- the meaning of an element in a document
-abbrev pub converted : List Rule → LaTeXMode → Conv
-converted rules m x t c = convert levels x t c
 
 -- the blocks one after the other, the first of them at row 1
 abbrev pub blocksFrom : List Rule → LaTeXMode → ℕ → Forest → Carry → Outcome

@@ -22,7 +22,7 @@ use Rattle.mitex_state.specs.Tables.{lettersFit, tableHead, hasEnds}
 use Rattle.mitex_state.specs.declared.LaTeXMode.{LaTeXMode}
 use Rattle.mitex_state.specs.declared.LaTeXMode.the-variants.{Text, Math}
 use Rattle.mitex_state.specs.declared.LaTeXEnv.{LaTeXEnv}
-use Rattle.mitex_state.specs.declared.LaTeXEnv.the-variants.{None, Matrix, Cases, Itemize, Enumerate}
+use Rattle.mitex_state.specs.declared.LaTeXEnv.the-variants.{None, Matrix, Cases, Itemize, Enumerate, SubStack, MathCurlyGroup}
 use Rattle.mitex_state.specs.declared.LaTeXEnv.the-variants.{Math as MathEnv, Figure as FigureEnv, Table as TableEnv}
 use Rattle.mitex_state.specs.declared.Loop.the-variants.{Named, Inside, Figure, Table}
 
@@ -118,23 +118,34 @@ takeLabel Text (refused n r) = refused n r
 takeLabel Text (done c w) = done (labelled unheld c) (w ++ heldText (c .label))
 takeLabel Math o = o
 
--- ---- by class: 3 None, 4 IsMath, 5 IsMatrix, 6 IsCases, 7 IsFigure, 8 IsTable, 9 IsItemize, 10 IsEnumerate
+-- ---- by class, in the order of `ContextFeature`: from 3 on None, IsMath, IsMatrix, IsCases, IsFigure, IsTable, IsItemize, IsEnumerate
 
-abbrev pub envByClass : ℕ → List ℕ → Arm
-envByClass k w conv x f c =
-    cond (eqb k 9) (list Itemize conv x f c)
-    (cond (eqb k 10) (list Enumerate conv x f c)
-    (takeLabel (x .mode)
-    (cond (eqb k 4) (mathEnv MathEnv w conv x f c)
-    (cond (eqb k 5) (mathEnv Matrix w conv x f c)
-    (cond (eqb k 6) (mathEnv Cases w conv x f c)
-    (cond (eqb k 7) (figureEnv w conv x f c)
-    (cond (eqb k 8) (tableEnv w conv x f c)
-    (normalEnv w conv x f c))))))))
+abbrev pub envOf : ℕ → LaTeXEnv
+envOf k =
+    cond (eqb k 4) MathEnv
+    (cond (eqb k 5) Matrix
+    (cond (eqb k 6) Cases
+    (cond (eqb k 7) FigureEnv
+    (cond (eqb k 8) TableEnv
+    (cond (eqb k 9) Itemize
+    (cond (eqb k 10) Enumerate
+    None))))))
+
+abbrev pub envArm : LaTeXEnv → List ℕ → Arm
+envArm None w conv x f c = takeLabel (x .mode) (normalEnv w conv x f c)
+envArm FigureEnv w conv x f c = takeLabel (x .mode) (figureEnv w conv x f c)
+envArm TableEnv w conv x f c = takeLabel (x .mode) (tableEnv w conv x f c)
+envArm Itemize w conv x f c = list Itemize conv x f c
+envArm Enumerate w conv x f c = list Enumerate conv x f c
+envArm MathEnv w conv x f c = takeLabel (x .mode) (mathEnv MathEnv w conv x f c)
+envArm Matrix w conv x f c = takeLabel (x .mode) (mathEnv Matrix w conv x f c)
+envArm Cases w conv x f c = takeLabel (x .mode) (mathEnv Cases w conv x f c)
+envArm SubStack w conv x f c = takeLabel (x .mode) (mathEnv SubStack w conv x f c)
+envArm MathCurlyGroup w conv x f c = takeLabel (x .mode) (mathEnv MathCurlyGroup w conv x f c)
 
 abbrev pub envBy : Option Rule → List ℕ → Arm
 envBy nothing name conv x f c = refused 10 0
-envBy (some r) name conv x f c = envByClass (r .class) (writtenName r name) conv x f c
+envBy (some r) name conv x f c = envArm (envOf (r .class)) (writtenName r name) conv x f c
 
 -- the name is looked up and written trimmed
 abbrev pub environmentNamed : List ℕ → Arm

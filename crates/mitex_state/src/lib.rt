@@ -117,6 +117,43 @@ pub enum Act {
     CloseLast,
 }
 
+// The arms of the converter's match on the kind of an element.
+pub enum Element {
+    // refused: TokenError, and ItemBegin or ItemEnd outside of an environment
+    Unexpected,
+    Children,
+    Formula,
+    CurlyGroup,
+    ClauseLr,
+    AttachComponent,
+    // a block comment
+    Silent,
+    Command,
+    Environment,
+    TypstCode,
+    Token,
+}
+
+// The commands that have an arm of their own, and all others.
+pub enum Command {
+    Item,
+    Label,
+    IncludeGraphics,
+    Array,
+    Color,
+    // `\textcolor` and `\colorbox`
+    ColorArguments,
+    Normal,
+}
+
+// How a command takes its arguments.
+pub enum Arguments {
+    NoArguments,
+    GreedyArgument,
+    MathArguments,
+    TextArguments,
+}
+
 // What a walk answers: the converter and the next place, with refusal 0; or a refusal and its row.
 pub struct Walked {
     pub converter: Converter,
