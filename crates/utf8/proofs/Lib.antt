@@ -1,1 +1,4 @@
 pub mod Run
+pub mod White
+pub mod Chars
+pub mod Trimming

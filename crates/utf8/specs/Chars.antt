@@ -1,9 +1,14 @@
 -- The characters of a text. Each begins at a byte that continues no other; for valid text these are the characters of
--- RFC 3629 (`chars-text`, proofs/Chars.antt), and any bytes have characters in this sense.
+-- RFC 3629 (`chars-text`, proofs/Chars.antt), and any bytes have characters in this sense. White_Space, a property of
+-- Unicode, is the table of its code points.
 use mathlib.Core.Bool.{Bool, true, false, _&&_, _||_, cond}
-use Prim.Native.Nat.{ℕ}
-use mathlib.Core.List.{List, [], _∷_, _++_}
-use lib.Dec.{eqb, leb}
+use mathlib.Core.Path.{_≡_}
+use mathlib.Core.List.{List, [], _∷_, _++_, map}
+use Prim.Native.Nat.{ℕ, _+_, _/_, _%_, _<_}
+use lib.Dec.{leb, ltb}
+use lib.ListN.{length, take, drop}
+use Rattle.text.specs.Compare.{same}
+use Rattle.utf8.specs.Utf8.{Char}
 
 -- the byte continues a character
 abbrev pub continues : ℕ → Bool
@@ -29,15 +34,47 @@ unfoldable pub concat : List (List ℕ) → List ℕ
 concat [] = []
 concat (c ∷ cs) = c ++ concat cs
 
+-- the first of some characters, no bytes where there is none
+abbrev pub first : List (List ℕ) → List ℕ
+first [] = []
+first (c ∷ cs) = c
+
+-- how many bytes the first character of a text has
+abbrev pub charLen : List ℕ → ℕ
+charLen s = length (first (chars s))
+
+-- the last character of a text begins at k
+pub record LastAt (s : List ℕ) (k : ℕ) : Type 0 where
+  pub within : k < length s
+  pub parts : chars s ≡ chars (take k s) ++ (drop k s ∷ [])
+
+-- each is a character of the RFC
+abbrev pub AllChar : List (List ℕ) → Type 0
+AllChar [] = Unit
+AllChar (c ∷ cs) = Char c × AllChar cs
+
 -- ---- White_Space
 
--- of the characters of two and three bytes that begin E1 9A, E2 80, E2 81 and E3 80
-abbrev pub isWhite : List ℕ → Bool
-isWhite [] = false
-isWhite (a ∷ []) = (leb 9 a && leb a 13) || eqb a 32
-isWhite (a ∷ b ∷ []) = eqb a 194 && (eqb b 133 || eqb b 160)
-isWhite (a ∷ b ∷ c ∷ []) =
-    (eqb a 225 && (eqb b 154 && eqb c 128))
-    || ((eqb a 226 && ((eqb b 128 && ((leb 128 c && leb c 138) || (eqb c 168 || (eqb c 169 || eqb c 175)))) || (eqb b 129 && eqb c 159)))
-    || (eqb a 227 && (eqb b 128 && eqb c 128)))
-isWhite (a ∷ b ∷ c ∷ d ∷ s) = false
+-- Unicode's code points with the property: U+0009 to 000D, 0020, 0085, 00A0, 1680, 2000 to 200A, 2028, 2029, 202F, 205F, 3000
+abbrev pub whiteSpace : List ℕ
+whiteSpace =
+    9 ∷ 10 ∷ 11 ∷ 12 ∷ 13 ∷ 32 ∷ 133 ∷ 160 ∷ 5760
+    ∷ 8192 ∷ 8193 ∷ 8194 ∷ 8195 ∷ 8196 ∷ 8197 ∷ 8198 ∷ 8199 ∷ 8200 ∷ 8201 ∷ 8202
+    ∷ 8232 ∷ 8233 ∷ 8239 ∷ 8287 ∷ 12288 ∷ []
+
+-- the bytes of a code point (the table of the RFC's section 3)
+unfoldable pub encode : ℕ → List ℕ
+encode n =
+    cond (ltb n 128) (n ∷ [])
+    (cond (ltb n 2048) ((192 + n / 64) ∷ (128 + n % 64) ∷ [])
+    (cond (ltb n 65536) ((224 + n / 4096) ∷ (128 + n / 64 % 64) ∷ (128 + n % 64) ∷ [])
+    ((240 + n / 262144) ∷ (128 + n / 4096 % 64) ∷ (128 + n / 64 % 64) ∷ (128 + n % 64) ∷ [])))
+
+-- the bytes are one of these texts
+unfoldable pub among : List (List ℕ) → List ℕ → Bool
+among [] c = false
+among (d ∷ ds) c = same c d || among ds c
+
+-- the character is white space
+unfoldable pub isWhite : List ℕ → Bool
+isWhite c = among (map encode whiteSpace) c

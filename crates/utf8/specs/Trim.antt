@@ -1,6 +1,6 @@
 -- Trimming by Unicode's White_Space property, on characters.
 use mathlib.Core.Bool.{cond}
-use mathlib.Core.List.{List, [], _∷_, _++_, reverse}
+use mathlib.Core.List.{List, [], _∷_, reverse}
 use Prim.Native.Nat.{ℕ}
 use Rattle.utf8.specs.Chars.{chars, concat, isWhite}
 

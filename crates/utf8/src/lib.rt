@@ -1,6 +1,11 @@
 // UTF-8 by RFC 3629: the length of a character by its first byte, and whether bytes are valid text.
 
 ghost use mathlib.Core.Path.{_≡_};
+ghost use Prim.Native.Nat.{_<_};
+ghost use lib.ListN.{length};
+ghost use mathlib.Core.List.{[], _∷_};
+ghost use Rattle.utf8.specs.Chars.{continues, charLen, LastAt, isWhite};
+ghost use Rattle.utf8.specs.Trim.{trimStart, trimEnd, trim};
 ghost use Rattle.utf8.specs.Utf8.{lengthBy, secondLow, secondHigh, begun, step, valid};
 
 // A place in a text: how many bytes of the character are to come, and what the next lies between.
@@ -115,4 +120,145 @@ pub fn valid(s: &[u8]) -> bool
         i += 1;
     }
     u.more == 0
+}
+
+// Whether the byte continues a character.
+pub fn continues(b: u8) -> bool
+    ensures { λ r. ⌜ r ≡ continues b ⌝ }
+{
+    128 <= b && b <= 191
+}
+
+// How many bytes the first character has: up to the next byte that continues none.
+pub fn char_len(s: &[u8]) -> usize
+    ensures { λ r. ⌜ r ≡ charLen (now (s .entry)) ⌝ }
+{
+    if s.len() == 0 {
+        return 0;
+    }
+    let mut n = 1;
+    while n < s.len() {
+        if !continues(s[n]) {
+            return n;
+        }
+        n += 1;
+    }
+    n
+}
+
+// Where the last character of some bytes begins.
+fn last_at(s: &[u8]) -> usize
+    requires { ⌜ 0 < length (now s) ⌝ }
+    ensures { λ r. ⌜ LastAt (now (s .entry)) r ⌝ }
+{
+    let mut k = s.len() - 1;
+    while 0 < k {
+        if !continues(s[k]) {
+            return k;
+        }
+        k -= 1;
+    }
+    k
+}
+
+// U+0009 to 000D and 0020.
+fn white_one(a: u8) -> bool
+    ensures { λ r. ⌜ r ≡ isWhite (a ∷ []) ⌝ }
+{
+    if a <= 13 {
+        return 9 <= a;
+    }
+    a == 32
+}
+
+// U+0085 and 00A0.
+fn white_two(a: u8, b: u8) -> bool
+    ensures { λ r. ⌜ r ≡ isWhite (a ∷ b ∷ []) ⌝ }
+{
+    a == 194 && (b == 133 || b == 160)
+}
+
+// U+2000 to 200A, 2028, 2029 and 202F, by their third byte.
+fn white_20(c: u8) -> bool
+    ensures { λ r. ⌜ r ≡ isWhite (226 ∷ 128 ∷ c ∷ []) ⌝ }
+{
+    if c <= 138 {
+        return 128 <= c;
+    }
+    if c <= 169 {
+        return 168 <= c;
+    }
+    c == 175
+}
+
+// U+1680, those of 20xx, 205F and 3000.
+fn white_three(a: u8, b: u8, c: u8) -> bool
+    ensures { λ r. ⌜ r ≡ isWhite (a ∷ b ∷ c ∷ []) ⌝ }
+{
+    if a == 226 {
+        if b == 128 {
+            return white_20(c);
+        }
+        return b == 129 && c == 159;
+    }
+    if a == 225 {
+        return b == 154 && c == 128;
+    }
+    if a == 227 {
+        return b == 128 && c == 128;
+    }
+    false
+}
+
+// Whether the bytes are one character with Unicode's property White_Space.
+pub fn is_white(c: &[u8]) -> bool
+    ensures { λ r. ⌜ r ≡ isWhite (now (c .entry)) ⌝ }
+{
+    if c.len() == 1 {
+        return white_one(c[0]);
+    }
+    if c.len() == 2 {
+        return white_two(c[0], c[1]);
+    }
+    if c.len() == 3 {
+        return white_three(c[0], c[1], c[2]);
+    }
+    false
+}
+
+// The part without the white space that the text begins with.
+pub fn trim_start(s: &[u8]) -> &[u8]
+    ensures { λ r. ⌜ now r ≡ trimStart (now (s .entry)) ⌝ }
+{
+    let mut t = s;
+    while 0 < t.len() {
+        let n = char_len(t);
+        if !is_white(&t[..n]) {
+            return t;
+        }
+        t = &t[n..];
+    }
+    t
+}
+
+// The part without the white space that the text ends with.
+pub fn trim_end(s: &[u8]) -> &[u8]
+    ensures { λ r. ⌜ now r ≡ trimEnd (now (s .entry)) ⌝ }
+{
+    let mut t = s;
+    while 0 < t.len() {
+        let k = last_at(t);
+        if !is_white(&t[k..]) {
+            return t;
+        }
+        t = &t[..k];
+    }
+    t
+}
+
+// The part without white space at either end.
+pub fn trim(s: &[u8]) -> &[u8]
+    ensures { λ r. ⌜ now r ≡ trim (now (s .entry)) ⌝ }
+{
+    trim_end(trim_start(s))
 }
