@@ -2,3 +2,5 @@ pub mod Holding
 pub mod Agreeing
 pub mod Outcomes
 pub mod Loops
+pub mod Keeping
+pub mod Blocks

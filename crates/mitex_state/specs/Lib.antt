@@ -21,3 +21,4 @@ pub mod ExamplesEnvironments
 pub mod ExamplesCells
 pub mod State
 pub mod Contract
+pub mod Keeping

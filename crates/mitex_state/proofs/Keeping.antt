@@ -1,0 +1,297 @@
+-- What every conversion keeps: one law for each way to compose outcomes, one for each arm over any meaning of the level below,
+-- then one induction on the levels.
+use mathlib.Core.Path.{_≡_, refl, subst}
+use mathlib.Core.Bool.{Bool, true, false, _||_, cond}
+use mathlib.Core.Option.{Option}
+use mathlib.Core.Option.Option.{none as nothing, some}
+use mathlib.Core.List.{List}
+use Prim.Native.Nat.{ℕ, zero, suc, _+_}
+use native.Mathlib.Omega.{arith}
+use borrow.Author.Tests.{leb-true}
+use lib.ListN.{length, drop}
+use lib.Dec.{T, eqb, leb}
+use Rattle.text.specs.Compare.{same}
+use Rattle.utf8.specs.Trim.{trim}
+use Rattle.mitex_spec.specs.Rules.{Rule, getCmd, getEnv, writtenName}
+use Rattle.mitex_syntax.specs.Syntax.{TokenError, ItemLR, ClauseArgument, ScopeRoot, ItemText, ItemBracket, ItemParen, ItemFormula, ItemCurly, ClauseLR, ItemAttachComponent, ClauseCommandName, TokenWhiteSpace, TokenLineBreak, ItemBlockComment, TokenCommandSym, ItemCmd, ItemEnv, ItemTypstCode}
+use Rattle.mitex_syntax.specs.Tree.{Tree, Forest, size, kindOf, textOf}
+use Rattle.mitex_syntax.specs.Tree.Tree.{token, node}
+use Rattle.mitex_syntax.specs.Tree.Forest.{none, more}
+use Rattle.mitex_syntax.specs.Views.{cmdName, firstOf, offsetOf, childrenIn, envName, beginOf, inner, isValid}
+use Rattle.mitex_state.specs.Outcome.{Context, Carry, Outcome, Conv, Arm, after, andThen, closing, shift, flagged, labelled, labelMost}
+use Rattle.mitex_state.specs.Outcome.Label.{unheld}
+use Rattle.mitex_state.specs.Outcome.Outcome.{refused, done}
+use Rattle.mitex_state.specs.Texts.{itemName, labelName, imageName, arrayName, colorName}
+use Rattle.mitex_state.specs.Tokens.{space, symbolBy, tokenOut}
+use Rattle.mitex_state.specs.Children.{actOf, nextLoop, before, behind, converts, turn, each}
+use Rattle.mitex_state.specs.Groups.{children, formula, curlyGroup, clauseLr, attachComponent}
+use Rattle.mitex_state.specs.Colors.{Model, greedyModel, argumentModel, withModel, colored, colorAlias, bodyLoop, argumentsLoop}
+use Rattle.mitex_state.specs.Commands.{itemIn, labelNow, labelHeld, labelIn, colorCommand, greedy, inMathShape, byClass, normalBy, isColor, commandNamed, command}
+use Rattle.mitex_state.specs.Tables.{lettersFit, hasEnds}
+use Rattle.mitex_state.specs.Environments.{Caption, absent, bare, caption, lastCaption, mathEnv, captioned, tableBy, takeLabel, envByClass, envBy, environment}
+use Rattle.mitex_state.specs.Conversion.{armOf, nothingWritten, typstCode, unexpected, step, convert}
+use Rattle.mitex_state.specs.Keeping.{Short, isWalkNumber, Kept, Keeps}
+use Rattle.mitex_state.specs.Keeping.Kept.{stops, goes}
+use Rattle.mitex_state.specs.declared.LaTeXMode.{LaTeXMode}
+use Rattle.mitex_state.specs.declared.LaTeXMode.the-variants.{Text, Math}
+use Rattle.mitex_state.specs.declared.LaTeXEnv.{LaTeXEnv}
+use Rattle.mitex_state.specs.declared.LaTeXEnv.the-variants.{None, Figure, Table, Itemize, Enumerate, Matrix, Cases, SubStack, MathCurlyGroup}
+use Rattle.mitex_state.specs.declared.LaTeXEnv.the-variants.{Math as MathEnv}
+use Rattle.mitex_state.specs.declared.Loop.{Loop}
+use Rattle.mitex_state.specs.declared.Act.{Act}
+
+-- ---- how outcomes compose
+
+kept-after : {S : Type 0} (w : List ℕ) {p : Outcome} → Kept S p → Kept S (after w p)
+kept-after w (stops t) = stops t
+kept-after w (goes h) = goes h
+
+kept-closing : {S : Type 0} (w : List ℕ) {p : Outcome} → Kept S p → Kept S (closing w p)
+kept-closing w (stops t) = stops t
+kept-closing w (goes h) = goes h
+
+kept-shift : {S : Type 0} (o : ℕ) {p : Outcome} → Kept S p → Kept S (shift o p)
+kept-shift o (stops t) = stops t
+kept-shift o (goes h) = goes h
+
+kept-from : {S S′ : Type 0} {p : Outcome} → (S → S′) → Kept S′ p → Kept S p
+kept-from g (stops t) = stops t
+kept-from g (goes h) = goes (λ s. h (g s))
+
+kept-andThen : {S : Type 0} {p : Outcome} (k : Carry → Outcome) → Kept S p → Keeps k → Kept S (andThen p k)
+kept-andThen k (stops t) g = stops t
+kept-andThen k (goes {c} {w} h) g = kept-after w (kept-from h (g c))
+
+kept-cond : {S : Type 0} (b : Bool) {p q : Outcome} → (b ≡ true → Kept S p) → Kept S q → Kept S (cond b p q)
+kept-cond true h g = h refl
+kept-cond false h g = g
+
+-- a text before and one behind
+kept-between : {S : Type 0} (w v : List ℕ) {p : Outcome} → Kept S p → Kept S (after w (closing v p))
+kept-between w v h = kept-after w (kept-closing v h)
+
+-- ---- loops
+
+module _ (conv : Tree → Carry → Outcome) (keeps : (t : Tree) → Keeps (conv t)) where
+  keeps-turn : (a : Act) (t : Tree) → Keeps (turn conv a t)
+  unfolding turn
+  keeps-turn a t c =
+      kept-between (before a (textOf t)) (behind a) (kept-cond (converts a) (λ e. keeps t c) (goes (λ s. s)))
+
+  keeps-each : (o : ℕ) (l : Loop) (f : Forest) → Keeps (each conv o l f)
+  unfolding each
+  keeps-each o l none c = goes (λ s. s)
+  keeps-each o l (more t f) c =
+      kept-andThen (each conv (o + size t) (nextLoop l (kindOf t) (actOf l t f)) f) (kept-shift o (keeps-turn (actOf l t f) t c))
+      (keeps-each (o + size t) (nextLoop l (kindOf t) (actOf l t f)) f)
+
+  keeps-greedy : (o : ℕ) (f : Forest) → Keeps (greedy conv o f)
+  unfolding greedy
+  keeps-greedy o none c = stops tt
+  keeps-greedy o (more (token k s) f) c =
+      kept-cond (eqb k ClauseCommandName) (λ e. keeps-greedy (o + 1) f c) (stops tt)
+  keeps-greedy o (more (node k g) f) c = kept-between _ _ (kept-shift o (keeps-each 1 _ g c))
+
+-- ---- tokens
+
+keeps-space : (b : Bool) (s : List ℕ) → Keeps (space b s)
+keeps-space true s c = goes (λ h. h)
+keeps-space false s c = goes (λ h. h)
+
+keeps-symbol : (name : List ℕ) (r : Option Rule) → Keeps (symbolBy name r)
+keeps-symbol name nothing c = stops tt
+keeps-symbol name (some r) c = goes (λ h. h)
+
+keeps-token : (x : Context) (k : ℕ) (s : List ℕ) → Keeps (tokenOut x k s)
+unfolding tokenOut
+keeps-token x k s c =
+    kept-cond (eqb k TokenWhiteSpace) (λ e. keeps-space (c .flag) s c)
+    (kept-cond (eqb k TokenLineBreak) (λ e. goes (λ h. h))
+    (kept-cond (eqb k TokenError || eqb k ClauseCommandName) (λ e. stops tt)
+    (kept-cond (eqb k TokenCommandSym) (λ e. keeps-symbol (drop 1 s) (getCmd (x .rules) (drop 1 s)) (flagged false c)) (goes (λ h. h)))))
+
+-- ---- the arms, over any meaning of the level below
+
+abbrev KeepsConv : Conv → Type 0
+KeepsConv conv = (x : Context) (t : Tree) → Keeps (conv x t)
+
+abbrev KeepsArm : Arm → Type 0
+KeepsArm arm = (conv : Conv) → KeepsConv conv → (x : Context) (f : Forest) → Keeps (arm conv x f)
+
+keeps-children : KeepsArm children
+keeps-children conv h x f = keeps-each (conv x) (h x) 1 _ f
+
+keeps-formula : KeepsArm formula
+keeps-formula conv h x f c = kept-cond (isValid f) (λ e. kept-between _ _ (keeps-each (conv _) (h _) 1 _ f c)) (stops tt)
+
+keeps-curly : KeepsArm curlyGroup
+keeps-curly conv h x f = keeps-each (conv _) (h _) 1 _ f
+
+keeps-lr : KeepsArm clauseLr
+unfolding clauseLr
+keeps-lr conv h x none c = goes (λ s. s)
+keeps-lr conv h x (more t f) c = kept-between _ _ (keeps-each (conv x) (h x) (1 + size t) _ f c)
+
+keeps-attach : KeepsArm attachComponent
+keeps-attach conv h x f = keeps-each (conv x) (h x) 1 _ f
+
+-- ---- commands
+
+keeps-item : (e : LaTeXEnv) (n : ℕ) → Keeps (itemIn e n)
+keeps-item None n c = stops tt
+keeps-item Figure n c = stops tt
+keeps-item Table n c = stops tt
+keeps-item Itemize n c = goes (λ s. s)
+keeps-item Enumerate n c = goes (λ s. s)
+keeps-item MathEnv n c = stops tt
+keeps-item Matrix n c = stops tt
+keeps-item Cases n c = stops tt
+keeps-item SubStack n c = stops tt
+keeps-item MathCurlyGroup n c = stops tt
+
+keeps-now : (m : LaTeXMode) (s : List ℕ) → Keeps (labelNow m s)
+keeps-now Text s c = goes (λ h. h)
+keeps-now Math s c = goes (λ h. h)
+
+-- only here a label comes in, and it is measured
+keeps-held : (s : List ℕ) → Keeps (labelHeld s)
+keeps-held s c = kept-cond (leb (length s) labelMost) (λ e. goes (λ h. leb-true (length s) labelMost e)) (stops tt)
+
+keeps-label : (e : LaTeXEnv) (m : LaTeXMode) (s : List ℕ) → Keeps (labelIn e m s)
+keeps-label None m s = keeps-now m s
+keeps-label Figure m s = keeps-held s
+keeps-label Table m s = keeps-held s
+keeps-label Itemize m s = keeps-now m s
+keeps-label Enumerate m s = keeps-now m s
+keeps-label MathEnv m s = keeps-held s
+keeps-label Matrix m s = keeps-held s
+keeps-label Cases m s = keeps-held s
+keeps-label SubStack m s = keeps-held s
+keeps-label MathCurlyGroup m s = keeps-held s
+
+module _ (conv : Conv) (h : KeepsConv conv) (x : Context) where
+  keeps-colored : (l : Loop) (o : ℕ) (f : Forest) → Keeps (colored conv x l o f)
+  keeps-colored l o none c = goes (λ s. s)
+  keeps-colored l o (more t f) c =
+      kept-andThen _ (kept-shift o (h _ t c)) (λ c′. kept-between _ _ (keeps-each (conv x) (h x) (o + size t) l f c′))
+
+  keeps-model : (name : List ℕ) (l : Loop) (m : Model) → Keeps (withModel conv x name l m)
+  keeps-model name l m c = kept-after _ (keeps-colored l (m .behind .rows) (m .behind .elements) c)
+
+  keeps-color : (name : List ℕ) (f : Forest) → Keeps (colorCommand name conv x f)
+  keeps-color name f c = kept-cond (same name colorName)
+      (λ e. keeps-model (colorAlias (getCmd (x .rules) name)) (bodyLoop (x .mode))
+      (greedyModel (2 + offsetOf ClauseArgument f) (childrenIn (firstOf ClauseArgument f))) c)
+      (keeps-model (colorAlias (getCmd (x .rules) name)) (argumentsLoop (x .mode)) (argumentModel 1 f) c)
+
+  keeps-class : (k : ℕ) (w : List ℕ) (f : Forest) → Keeps (byClass k w conv x f)
+  keeps-class k w f c =
+      kept-cond (eqb k 0) (λ e. goes (λ s. s))
+      (kept-cond (eqb k 1) (λ e. keeps-greedy (conv x) (h x) 1 f c)
+      (kept-cond (inMathShape (x .mode) w) (λ e. kept-between _ _ (keeps-each (conv x) (h x) 1 _ f c))
+      (kept-closing _ (keeps-each (conv _) (h _) 1 _ f c))))
+
+keeps-normal : (r : Option Rule) (name : List ℕ) → KeepsArm (normalBy r name)
+keeps-normal nothing name conv h x f c = stops tt
+keeps-normal (some r) name conv h x f c = kept-after _ (keeps-class conv h _ (r .class) _ f c)
+
+keeps-named : (name : List ℕ) → KeepsArm (commandNamed name)
+keeps-named name conv h x f c =
+    kept-cond (same name itemName) (λ e. keeps-item (x .env) (x .indent) c)
+    (kept-cond (same name labelName) (λ e. keeps-label (x .env) (x .mode) _ c)
+    (kept-cond (same name imageName) (λ e. goes (λ s. s))
+    (kept-cond (same name arrayName) (λ e. goes (λ s. s))
+    (kept-cond (isColor name) (λ e. keeps-color conv h x name f c)
+    (keeps-normal (getCmd (x .rules) name) name conv h x f c)))))
+
+-- ---- environments
+
+keeps-take : {S : Type 0} (m : LaTeXMode) {p : Outcome} → Kept S p → Kept S (takeLabel m p)
+keeps-take Text (stops t) = stops t
+keeps-take Text (goes {c} h) = goes {c = labelled unheld c} (λ s. omega arith)
+keeps-take Math h = h
+
+module _ (conv : Conv) (h : KeepsConv conv) (x : Context) (f : Forest) where
+  keeps-math : (e : LaTeXEnv) (w : List ℕ) → Keeps (mathEnv e w conv x f)
+  keeps-math e w c =
+      kept-between _ _
+      (kept-andThen _ (kept-shift _ (keeps-each (conv _) (h _) 1 _ (beginOf f) c)) (λ c′. keeps-each (conv _) (h _) 1 _ f c′))
+
+  keeps-figure : (t : Caption) → Keeps (captioned t conv x f)
+  keeps-figure absent c = kept-between _ _ (keeps-each (conv x) (h x) 1 _ f c)
+  keeps-figure (bare o) c = stops tt
+  keeps-figure (caption o t) c =
+      kept-after _
+      (kept-andThen _ (kept-closing _ (kept-shift o (h x t c))) (λ c′. kept-between _ _ (keeps-each (conv x) (h x) 1 _ f c′)))
+
+  keeps-table : (w : List ℕ) (t : Option Tree) → Keeps (tableBy w t conv x f)
+  keeps-table w nothing c = stops tt
+  keeps-table w (some t) c =
+      kept-cond (hasEnds (textOf t))
+      (λ e. kept-cond (lettersFit (trim (inner (textOf t)))) (λ e′. kept-after _ (keeps-each (conv _) (h _) 1 _ f c)) (stops tt))
+      (stops tt)
+
+module _ (conv : Conv) (h : KeepsConv conv) (x : Context) (f : Forest) where
+  keeps-env-class : (k : ℕ) (w : List ℕ) → Keeps (envByClass k w conv x f)
+  keeps-env-class k w c =
+      kept-cond (eqb k 9) (λ e. keeps-each (conv _) (h _) 1 _ f c)
+      (kept-cond (eqb k 10) (λ e. keeps-each (conv _) (h _) 1 _ f c)
+      (keeps-take (x .mode)
+      (kept-cond (eqb k 4) (λ e. keeps-math conv h x f _ w c)
+      (kept-cond (eqb k 5) (λ e. keeps-math conv h x f _ w c)
+      (kept-cond (eqb k 6) (λ e. keeps-math conv h x f _ w c)
+      (kept-cond (eqb k 7) (λ e. kept-after _ (keeps-figure conv h _ f (lastCaption 1 f) c))
+      (kept-cond (eqb k 8) (λ e. keeps-table conv h x f w (firstOf ClauseArgument (beginOf f)) c)
+      (kept-between _ _ (keeps-each (conv _) (h _) 1 _ f c)))))))))
+
+keeps-env : (r : Option Rule) (name : List ℕ) → KeepsArm (envBy r name)
+keeps-env nothing name conv h x f c = stops tt
+keeps-env (some r) name conv h x f c = keeps-env-class conv h x f (r .class) (writtenName r name) c
+
+-- ---- every kind
+
+pick-arm : (b : Bool) (p q : Arm) → KeepsArm p → KeepsArm q → KeepsArm (cond b p q)
+pick-arm true p q h g = h
+pick-arm false p q h g = g
+
+keeps-arm : (k : ℕ) → KeepsArm (armOf k)
+keeps-arm k =
+    pick-arm (eqb k ItemLR) children _ keeps-children
+    (pick-arm (eqb k ClauseArgument) children _ keeps-children
+    (pick-arm (eqb k ScopeRoot) children _ keeps-children
+    (pick-arm (eqb k ItemText) children _ keeps-children
+    (pick-arm (eqb k ItemBracket) children _ keeps-children
+    (pick-arm (eqb k ItemParen) children _ keeps-children
+    (pick-arm (eqb k ItemFormula) formula _ keeps-formula
+    (pick-arm (eqb k ItemCurly) curlyGroup _ keeps-curly
+    (pick-arm (eqb k ClauseLR) clauseLr _ keeps-lr
+    (pick-arm (eqb k ItemAttachComponent) attachComponent _ keeps-attach
+    (pick-arm (eqb k ItemBlockComment) nothingWritten _ (λ conv h x f c. goes (λ s. s))
+    (pick-arm (eqb k ItemCmd) command _ (λ conv h x f. keeps-named (drop 1 (cmdName f)) conv h x f)
+    (pick-arm (eqb k ItemEnv) environment _ (λ conv h x f. keeps-env (getEnv (x .rules) (trim (envName f))) (trim (envName f)) conv h x f)
+    (pick-arm (eqb k ItemTypstCode) typstCode unexpected (λ conv h x f c. goes (λ s. s)) (λ conv h x f c. stops tt))))))))))))))
+
+-- ---- every level
+
+of-done : {S : Type 0} {c : Carry} {w : List ℕ} → Kept S (done c w) → S → Short c
+of-done (goes h) = h
+
+of-refused : {S : Type 0} {n r : ℕ} → Kept S (refused n r) → T (isWalkNumber n)
+of-refused (stops t) = t
+
+pub keeps : (d : ℕ) (x : Context) (t : Tree) → Keeps (convert d x t)
+unfolding convert step
+keeps zero x t c = stops tt
+keeps (suc d) x (token k s) c = keeps-token x k s c
+keeps (suc d) x (node k f) c = keeps-arm k (convert d) (keeps d) x f (flagged false c)
+
+-- an accepted element leaves a label that can be held, if it began with one
+pub keeps-short : (d : ℕ) (x : Context) (t : Tree) (c c′ : Carry) (w : List ℕ) → convert d x t c ≡ done c′ w → Short c → Short c′
+keeps-short d x t c c′ w e = of-done (subst (Kept (Short c)) e (keeps d x t c))
+
+-- a refusal has one of the numbers 7 to 14
+pub keeps-number : (d : ℕ) (x : Context) (t : Tree) (c : Carry) (n r : ℕ) → convert d x t c ≡ refused n r → T (isWalkNumber n)
+keeps-number d x t c n r e = of-refused (subst (Kept (Short c)) e (keeps d x t c))
+
+pub never-six : (d : ℕ) (x : Context) (t : Tree) (c : Carry) (n r : ℕ) → convert d x t c ≡ refused n r → n ≡ 6 → ⊥
+never-six d x t c n r e six = subst (λ (m : ℕ). T (isWalkNumber m)) six (keeps-number d x t c n r e)
