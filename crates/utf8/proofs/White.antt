@@ -9,7 +9,7 @@ use lib.Dec.{leb, eqb}
 use lib.ListN.{length, getD}
 use borrow.Author.Tests.{eqb-true, eqb-false}
 use Rattle.text.specs.Compare.{same}
-use Rattle.utf8.specs.Chars.{encode, among, isWhite}
+use Rattle.utf8.specs.Chars.{isWhite}
 
 -- the test passes at every number below n
 abbrev every : (ℕ → Bool) → ℕ → Bool
@@ -40,12 +40,12 @@ every-at p (suc n) e k h =
     at (eqb k n) refl
 
 pub white-one : (a : ℕ) → a < 256 → isWhite (a ∷ []) ≡ cond (leb a 13) (leb 9 a) (eqb a 32)
-unfolding isWhite among same encode
+unfolding same
 white-one a h =
     same-bool _ _ (every-at (λ a. Bool·beq (isWhite (a ∷ [])) (cond (leb a 13) (leb 9 a) (eqb a 32))) 256 refl a h)
 
 pub white-20 : (c : ℕ) → c < 256 → isWhite (226 ∷ 128 ∷ c ∷ []) ≡ cond (leb c 138) (leb 128 c) (cond (leb c 169) (leb 168 c) (eqb c 175))
-unfolding isWhite among same encode
+unfolding same
 white-20 c h =
     same-bool _ _
     (every-at (λ c. Bool·beq (isWhite (226 ∷ 128 ∷ c ∷ [])) (cond (leb c 138) (leb 128 c) (cond (leb c 169) (leb 168 c) (eqb c 175)))) 256 refl c h)
@@ -71,7 +71,7 @@ white-bytes-3 (x ∷ y ∷ z ∷ []) r h e = e
 white-bytes-3 (x ∷ y ∷ z ∷ w ∷ c) r h e = absurd (omega arith)
 
 pub white-bytes-other : (c : List ℕ) → (length c ≡ 1 → ⊥) → (length c ≡ 2 → ⊥) → (length c ≡ 3 → ⊥) → false ≡ isWhite c
-unfolding isWhite among same encode
+unfolding same
 white-bytes-other [] h k l = refl
 white-bytes-other (x ∷ []) h k l = absurd (h refl)
 white-bytes-other (x ∷ y ∷ []) h k l = absurd (k refl)

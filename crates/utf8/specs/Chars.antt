@@ -63,7 +63,7 @@ whiteSpace =
     ∷ 8232 ∷ 8233 ∷ 8239 ∷ 8287 ∷ 12288 ∷ []
 
 -- the bytes of a code point (the table of the RFC's section 3)
-unfoldable pub encode : ℕ → List ℕ
+abbrev pub encode : ℕ → List ℕ
 encode n =
     cond (ltb n 128) (n ∷ [])
     (cond (ltb n 2048) ((192 + n / 64) ∷ (128 + n % 64) ∷ [])
@@ -71,10 +71,10 @@ encode n =
     ((240 + n / 262144) ∷ (128 + n / 4096 % 64) ∷ (128 + n / 64 % 64) ∷ (128 + n % 64) ∷ [])))
 
 -- the bytes are one of these texts
-unfoldable pub among : List (List ℕ) → List ℕ → Bool
+abbrev pub among : List (List ℕ) → List ℕ → Bool
 among [] c = false
 among (d ∷ ds) c = same c d || among ds c
 
 -- the character is white space
-unfoldable pub isWhite : List ℕ → Bool
+abbrev pub isWhite : List ℕ → Bool
 isWhite c = among (map encode whiteSpace) c
