@@ -1,6 +1,6 @@
 -- The root and its blocks: converting the root element from the state of `Converter::new` is converting its blocks one after the
 -- other, each from the carry that the one before it left, and counting its rows from where it stands.
-use mathlib.Core.Path.{_≡_, refl, sym, ap, _∙_}
+use mathlib.Core.Path.{_≡_, refl, _∙_}
 use mathlib.Core.List.{List, []}
 use Prim.Native.Nat.{ℕ, suc, _+_}
 use Rattle.mitex_spec.specs.Rules.{Rule}

@@ -10,10 +10,9 @@ use native.Mathlib.Omega.{arith}
 use borrow.Author.Tests.{leb-true}
 use lib.ListN.{length, drop}
 use lib.Dec.{T, eqb, leb}
-use Rattle.text.specs.Compare.{same}
 use Rattle.utf8.specs.Trim.{trim}
 use Rattle.mitex_spec.specs.Rules.{Rule, getCmd, getEnv, writtenName}
-use Rattle.mitex_syntax.specs.Syntax.{TokenError, ItemLR, ClauseArgument, ScopeRoot, ItemText, ItemBracket, ItemParen, ItemFormula, ItemCurly, ClauseLR, ItemAttachComponent, ClauseCommandName, TokenWhiteSpace, TokenLineBreak, ItemBlockComment, TokenCommandSym, ItemCmd, ItemEnv, ItemTypstCode}
+use Rattle.mitex_syntax.specs.Syntax.{TokenError, ClauseArgument, ClauseCommandName, TokenWhiteSpace, TokenLineBreak, TokenCommandSym}
 use Rattle.mitex_syntax.specs.Tree.{Tree, Forest, size, kindOf, textOf}
 use Rattle.mitex_syntax.specs.Tree.Tree.{token, node}
 use Rattle.mitex_syntax.specs.Tree.Forest.{none, more}
@@ -21,24 +20,30 @@ use Rattle.mitex_syntax.specs.Views.{cmdName, firstOf, offsetOf, childrenIn, en
 use Rattle.mitex_state.specs.Outcome.{Context, Carry, Outcome, Conv, Arm, after, andThen, closing, shift, flagged, labelled, labelMost}
 use Rattle.mitex_state.specs.Outcome.Label.{unheld}
 use Rattle.mitex_state.specs.Outcome.Outcome.{refused, done}
-use Rattle.mitex_state.specs.Texts.{itemName, labelName, imageName, arrayName, colorName}
 use Rattle.mitex_state.specs.Tokens.{space, symbolBy, tokenOut}
 use Rattle.mitex_state.specs.Children.{actOf, nextLoop, before, behind, converts, turn, each}
 use Rattle.mitex_state.specs.Groups.{children, formula, curlyGroup, clauseLr, attachComponent}
-use Rattle.mitex_state.specs.Colors.{Model, greedyModel, argumentModel, withModel, colored, colorAlias, bodyLoop, argumentsLoop}
-use Rattle.mitex_state.specs.Commands.{itemIn, labelNow, labelHeld, labelIn, colorCommand, greedy, inMathShape, byClass, normalBy, isColor, commandNamed, command}
+use Rattle.mitex_state.specs.Colors.{Model, greedyModel, argumentModel, colored, withModel, colorAlias, bodyLoop, argumentsLoop}
+use Rattle.mitex_state.specs.Commands.{itemIn, labelNow, labelHeld, labelIn, typstName, greedy, argumentsOf, argumentsBy, stackEnv, written, normalBy, commandOf, commandBy}
 use Rattle.mitex_state.specs.Tables.{lettersFit, hasEnds}
-use Rattle.mitex_state.specs.Environments.{Caption, absent, bare, caption, lastCaption, mathEnv, captioned, tableBy, takeLabel, envByClass, envBy, environment}
-use Rattle.mitex_state.specs.Conversion.{armOf, nothingWritten, typstCode, unexpected, step, convert}
+use Rattle.mitex_state.specs.Environments.{Caption, absent, bare, caption, lastCaption, mathEnv, captioned, tableBy, takeLabel, envOf, envArm, envBy}
+use Rattle.mitex_state.specs.Conversion.{elementOf, armBy, step, convert}
 use Rattle.mitex_state.specs.Keeping.{Short, isWalkNumber, Kept, Keeps}
 use Rattle.mitex_state.specs.Keeping.Kept.{stops, goes}
 use Rattle.mitex_state.specs.declared.LaTeXMode.{LaTeXMode}
 use Rattle.mitex_state.specs.declared.LaTeXMode.the-variants.{Text, Math}
 use Rattle.mitex_state.specs.declared.LaTeXEnv.{LaTeXEnv}
-use Rattle.mitex_state.specs.declared.LaTeXEnv.the-variants.{None, Figure, Table, Itemize, Enumerate, Matrix, Cases, SubStack, MathCurlyGroup}
-use Rattle.mitex_state.specs.declared.LaTeXEnv.the-variants.{Math as MathEnv}
+use Rattle.mitex_state.specs.declared.LaTeXEnv.the-variants.{None, Itemize, Enumerate, Matrix, Cases, SubStack, MathCurlyGroup}
+use Rattle.mitex_state.specs.declared.LaTeXEnv.the-variants.{Math as MathEnv, Figure as FigureEnv, Table as TableEnv}
 use Rattle.mitex_state.specs.declared.Loop.{Loop}
 use Rattle.mitex_state.specs.declared.Act.{Act}
+use Rattle.mitex_state.specs.declared.Command.{Command}
+use Rattle.mitex_state.specs.declared.Command.the-variants.{Item, Label, IncludeGraphics, Array, Color, ColorArguments, Normal}
+use Rattle.mitex_state.specs.declared.Arguments.{Arguments}
+use Rattle.mitex_state.specs.declared.Arguments.the-variants.{NoArguments, GreedyArgument, MathArguments, TextArguments}
+use Rattle.mitex_state.specs.declared.Element.{Element}
+use Rattle.mitex_state.specs.declared.Element.the-variants.{Children, Formula, CurlyGroup, ClauseLr, AttachComponent, Silent, Environment, TypstCode, Unexpected, Token}
+use Rattle.mitex_state.specs.declared.Element.the-variants.{Command as ACommand}
 
 -- ---- how outcomes compose
 
@@ -139,8 +144,8 @@ keeps-attach conv h x f = keeps-each (conv x) (h x) 1 _ f
 
 keeps-item : (e : LaTeXEnv) (n : ℕ) → Keeps (itemIn e n)
 keeps-item None n c = stops tt
-keeps-item Figure n c = stops tt
-keeps-item Table n c = stops tt
+keeps-item FigureEnv n c = stops tt
+keeps-item TableEnv n c = stops tt
 keeps-item Itemize n c = goes (λ s. s)
 keeps-item Enumerate n c = goes (λ s. s)
 keeps-item MathEnv n c = stops tt
@@ -159,8 +164,8 @@ keeps-held s c = kept-cond (leb (length s) labelMost) (λ e. goes (λ h. leb-tru
 
 keeps-label : (e : LaTeXEnv) (m : LaTeXMode) (s : List ℕ) → Keeps (labelIn e m s)
 keeps-label None m s = keeps-now m s
-keeps-label Figure m s = keeps-held s
-keeps-label Table m s = keeps-held s
+keeps-label FigureEnv m s = keeps-held s
+keeps-label TableEnv m s = keeps-held s
 keeps-label Itemize m s = keeps-now m s
 keeps-label Enumerate m s = keeps-now m s
 keeps-label MathEnv m s = keeps-held s
@@ -178,31 +183,31 @@ module _ (conv : Conv) (h : KeepsConv conv) (x : Context) where
   keeps-model : (name : List ℕ) (l : Loop) (m : Model) → Keeps (withModel conv x name l m)
   keeps-model name l m c = kept-after _ (keeps-colored l (m .behind .rows) (m .behind .elements) c)
 
-  keeps-color : (name : List ℕ) (f : Forest) → Keeps (colorCommand name conv x f)
-  keeps-color name f c = kept-cond (same name colorName)
-      (λ e. keeps-model (colorAlias (getCmd (x .rules) name)) (bodyLoop (x .mode))
-      (greedyModel (2 + offsetOf ClauseArgument f) (childrenIn (firstOf ClauseArgument f))) c)
-      (keeps-model (colorAlias (getCmd (x .rules) name)) (argumentsLoop (x .mode)) (argumentModel 1 f) c)
+  keeps-arguments : (a : Arguments) (f : Forest) → Keeps (argumentsBy a conv x f)
+  keeps-arguments NoArguments f c = goes (λ s. s)
+  keeps-arguments GreedyArgument f c = keeps-greedy (conv x) (h x) 1 f c
+  keeps-arguments MathArguments f c = kept-between _ _ (keeps-each (conv x) (h x) 1 _ f c)
+  keeps-arguments TextArguments f c = kept-closing _ (keeps-each (conv _) (h _) 1 _ f c)
 
-  keeps-class : (k : ℕ) (w : List ℕ) (f : Forest) → Keeps (byClass k w conv x f)
-  keeps-class k w f c =
-      kept-cond (eqb k 0) (λ e. goes (λ s. s))
-      (kept-cond (eqb k 1) (λ e. keeps-greedy (conv x) (h x) 1 f c)
-      (kept-cond (inMathShape (x .mode) w) (λ e. kept-between _ _ (keeps-each (conv x) (h x) 1 _ f c))
-      (kept-closing _ (keeps-each (conv _) (h _) 1 _ f c))))
+keeps-written : (k : ℕ) (w : List ℕ) → KeepsArm (written k w)
+keeps-written k w conv h x f c = kept-after w (keeps-arguments conv h (stackEnv w x) (argumentsOf k (x .mode) w) f c)
 
 keeps-normal : (r : Option Rule) (name : List ℕ) → KeepsArm (normalBy r name)
 keeps-normal nothing name conv h x f c = stops tt
-keeps-normal (some r) name conv h x f c = kept-after _ (keeps-class conv h _ (r .class) _ f c)
+keeps-normal (some r) name conv h x f c =
+    keeps-written (r .class) (typstName (x .mode) name (writtenName r name)) conv h x f c
 
-keeps-named : (name : List ℕ) → KeepsArm (commandNamed name)
-keeps-named name conv h x f c =
-    kept-cond (same name itemName) (λ e. keeps-item (x .env) (x .indent) c)
-    (kept-cond (same name labelName) (λ e. keeps-label (x .env) (x .mode) _ c)
-    (kept-cond (same name imageName) (λ e. goes (λ s. s))
-    (kept-cond (same name arrayName) (λ e. goes (λ s. s))
-    (kept-cond (isColor name) (λ e. keeps-color conv h x name f c)
-    (keeps-normal (getCmd (x .rules) name) name conv h x f c)))))
+keeps-command : (k : Command) (name : List ℕ) → KeepsArm (commandBy k name)
+keeps-command Item name conv h x f c = keeps-item (x .env) (x .indent) c
+keeps-command Label name conv h x f c = keeps-label (x .env) (x .mode) _ c
+keeps-command IncludeGraphics name conv h x f c = goes (λ s. s)
+keeps-command Array name conv h x f c = goes (λ s. s)
+keeps-command Color name conv h x f c =
+    keeps-model conv h x (colorAlias (getCmd (x .rules) name)) (bodyLoop (x .mode))
+    (greedyModel (2 + offsetOf ClauseArgument f) (childrenIn (firstOf ClauseArgument f))) c
+keeps-command ColorArguments name conv h x f c =
+    keeps-model conv h x (colorAlias (getCmd (x .rules) name)) (argumentsLoop (x .mode)) (argumentModel 1 f) c
+keeps-command Normal name conv h x f c = keeps-normal (getCmd (x .rules) name) name conv h x f c
 
 -- ---- environments
 
@@ -231,45 +236,36 @@ module _ (conv : Conv) (h : KeepsConv conv) (x : Context) (f : Forest) where
       (λ e. kept-cond (lettersFit (trim (inner (textOf t)))) (λ e′. kept-after _ (keeps-each (conv _) (h _) 1 _ f c)) (stops tt))
       (stops tt)
 
-module _ (conv : Conv) (h : KeepsConv conv) (x : Context) (f : Forest) where
-  keeps-env-class : (k : ℕ) (w : List ℕ) → Keeps (envByClass k w conv x f)
-  keeps-env-class k w c =
-      kept-cond (eqb k 9) (λ e. keeps-each (conv _) (h _) 1 _ f c)
-      (kept-cond (eqb k 10) (λ e. keeps-each (conv _) (h _) 1 _ f c)
-      (keeps-take (x .mode)
-      (kept-cond (eqb k 4) (λ e. keeps-math conv h x f _ w c)
-      (kept-cond (eqb k 5) (λ e. keeps-math conv h x f _ w c)
-      (kept-cond (eqb k 6) (λ e. keeps-math conv h x f _ w c)
-      (kept-cond (eqb k 7) (λ e. kept-after _ (keeps-figure conv h _ f (lastCaption 1 f) c))
-      (kept-cond (eqb k 8) (λ e. keeps-table conv h x f w (firstOf ClauseArgument (beginOf f)) c)
-      (kept-between _ _ (keeps-each (conv _) (h _) 1 _ f c)))))))))
+keeps-in : (e : LaTeXEnv) (w : List ℕ) → KeepsArm (envArm e w)
+keeps-in None w conv h x f c = keeps-take (x .mode) (kept-between _ _ (keeps-each (conv _) (h _) 1 _ f c))
+keeps-in FigureEnv w conv h x f c = keeps-take (x .mode) (kept-after _ (keeps-figure conv h _ f (lastCaption 1 f) c))
+keeps-in TableEnv w conv h x f c = keeps-take (x .mode) (keeps-table conv h x f w (firstOf ClauseArgument (beginOf f)) c)
+keeps-in Itemize w conv h x f c = keeps-each (conv _) (h _) 1 _ f c
+keeps-in Enumerate w conv h x f c = keeps-each (conv _) (h _) 1 _ f c
+keeps-in MathEnv w conv h x f c = keeps-take (x .mode) (keeps-math conv h x f _ w c)
+keeps-in Matrix w conv h x f c = keeps-take (x .mode) (keeps-math conv h x f _ w c)
+keeps-in Cases w conv h x f c = keeps-take (x .mode) (keeps-math conv h x f _ w c)
+keeps-in SubStack w conv h x f c = keeps-take (x .mode) (keeps-math conv h x f _ w c)
+keeps-in MathCurlyGroup w conv h x f c = keeps-take (x .mode) (keeps-math conv h x f _ w c)
 
 keeps-env : (r : Option Rule) (name : List ℕ) → KeepsArm (envBy r name)
 keeps-env nothing name conv h x f c = stops tt
-keeps-env (some r) name conv h x f c = keeps-env-class conv h x f (r .class) (writtenName r name) c
+keeps-env (some r) name conv h x f c = keeps-in (envOf (r .class)) (writtenName r name) conv h x f c
 
--- ---- every kind
+-- ---- every kind of node
 
-pick-arm : (b : Bool) (p q : Arm) → KeepsArm p → KeepsArm q → KeepsArm (cond b p q)
-pick-arm true p q h g = h
-pick-arm false p q h g = g
-
-keeps-arm : (k : ℕ) → KeepsArm (armOf k)
-keeps-arm k =
-    pick-arm (eqb k ItemLR) children _ keeps-children
-    (pick-arm (eqb k ClauseArgument) children _ keeps-children
-    (pick-arm (eqb k ScopeRoot) children _ keeps-children
-    (pick-arm (eqb k ItemText) children _ keeps-children
-    (pick-arm (eqb k ItemBracket) children _ keeps-children
-    (pick-arm (eqb k ItemParen) children _ keeps-children
-    (pick-arm (eqb k ItemFormula) formula _ keeps-formula
-    (pick-arm (eqb k ItemCurly) curlyGroup _ keeps-curly
-    (pick-arm (eqb k ClauseLR) clauseLr _ keeps-lr
-    (pick-arm (eqb k ItemAttachComponent) attachComponent _ keeps-attach
-    (pick-arm (eqb k ItemBlockComment) nothingWritten _ (λ conv h x f c. goes (λ s. s))
-    (pick-arm (eqb k ItemCmd) command _ (λ conv h x f. keeps-named (drop 1 (cmdName f)) conv h x f)
-    (pick-arm (eqb k ItemEnv) environment _ (λ conv h x f. keeps-env (getEnv (x .rules) (trim (envName f))) (trim (envName f)) conv h x f)
-    (pick-arm (eqb k ItemTypstCode) typstCode unexpected (λ conv h x f c. goes (λ s. s)) (λ conv h x f c. stops tt))))))))))))))
+keeps-arm : (e : Element) → KeepsArm (armBy e)
+keeps-arm Unexpected conv h x f c = stops tt
+keeps-arm Children conv h x f c = keeps-children conv h x f c
+keeps-arm Formula conv h x f c = keeps-formula conv h x f c
+keeps-arm CurlyGroup conv h x f c = keeps-curly conv h x f c
+keeps-arm ClauseLr conv h x f c = keeps-lr conv h x f c
+keeps-arm AttachComponent conv h x f c = keeps-attach conv h x f c
+keeps-arm Silent conv h x f c = goes (λ s. s)
+keeps-arm ACommand conv h x f c = keeps-command (commandOf (drop 1 (cmdName f))) (drop 1 (cmdName f)) conv h x f c
+keeps-arm Environment conv h x f c = keeps-env (getEnv (x .rules) (trim (envName f))) (trim (envName f)) conv h x f c
+keeps-arm TypstCode conv h x f c = goes (λ s. s)
+keeps-arm Token conv h x f c = stops tt
 
 -- ---- every level
 
@@ -283,7 +279,7 @@ pub keeps : (d : ℕ) (x : Context) (t : Tree) → Keeps (convert d x t)
 unfolding convert step
 keeps zero x t c = stops tt
 keeps (suc d) x (token k s) c = keeps-token x k s c
-keeps (suc d) x (node k f) c = keeps-arm k (convert d) (keeps d) x f (flagged false c)
+keeps (suc d) x (node k f) c = keeps-arm (elementOf k) (convert d) (keeps d) x f (flagged false c)
 
 -- an accepted element leaves a label that can be held, if it began with one
 pub keeps-short : (d : ℕ) (x : Context) (t : Tree) (c c′ : Carry) (w : List ℕ) → convert d x t c ≡ done c′ w → Short c → Short c′
