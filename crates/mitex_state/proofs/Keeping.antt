@@ -22,11 +22,11 @@ use Rattle.mitex_state.specs.Outcome.Label.{unheld}
 use Rattle.mitex_state.specs.Outcome.Outcome.{refused, done}
 use Rattle.mitex_state.specs.Tokens.{space, symbolBy, tokenOut}
 use Rattle.mitex_state.specs.Children.{actOf, nextLoop, before, behind, converts, turn, each}
-use Rattle.mitex_state.specs.Groups.{children, formula, curlyGroup, clauseLr, attachComponent}
+use Rattle.mitex_state.specs.Groups.{children, formula, curlyIn, curlyGroup, clauseLr, attachComponent}
 use Rattle.mitex_state.specs.Colors.{Model, greedyModel, argumentModel, colored, withModel, colorAlias, bodyLoop, argumentsLoop}
 use Rattle.mitex_state.specs.Commands.{itemIn, labelNow, labelHeld, labelIn, typstName, greedy, argumentsOf, argumentsBy, stackEnv, written, normalBy, commandOf, commandBy}
 use Rattle.mitex_state.specs.Tables.{lettersFit, hasEnds}
-use Rattle.mitex_state.specs.Environments.{Caption, absent, bare, caption, lastCaption, mathEnv, captioned, tableBy, takeLabel, envOf, envArm, envBy}
+use Rattle.mitex_state.specs.Environments.{Caption, absent, bare, caption, lastCaption, mathEnv, captioned, tableBy, takeLabel, envOf, plainEnv, envBody, isList, envBy}
 use Rattle.mitex_state.specs.Conversion.{elementOf, armBy, step, convert}
 use Rattle.mitex_state.specs.Keeping.{Short, isWalkNumber, Kept, Keeps}
 use Rattle.mitex_state.specs.Keeping.Kept.{stops, goes}
@@ -129,8 +129,12 @@ keeps-children conv h x f = keeps-each (conv x) (h x) 1 _ f
 keeps-formula : KeepsArm formula
 keeps-formula conv h x f c = kept-cond (isValid f) (λ e. kept-between _ _ (keeps-each (conv _) (h _) 1 _ f c)) (stops tt)
 
+keeps-curly-in : (m : LaTeXMode) → KeepsArm (curlyIn m)
+keeps-curly-in Text conv h x f = keeps-each (conv _) (h _) 1 _ f
+keeps-curly-in Math conv h x f = keeps-each (conv _) (h _) 1 _ f
+
 keeps-curly : KeepsArm curlyGroup
-keeps-curly conv h x f = keeps-each (conv _) (h _) 1 _ f
+keeps-curly conv h x f = keeps-curly-in (x .mode) conv h x f
 
 keeps-lr : KeepsArm clauseLr
 unfolding clauseLr
@@ -211,10 +215,11 @@ keeps-command Normal name conv h x f c = keeps-normal (getCmd (x .rules) name) n
 
 -- ---- environments
 
-keeps-take : {S : Type 0} (m : LaTeXMode) {p : Outcome} → Kept S p → Kept S (takeLabel m p)
-keeps-take Text (stops t) = stops t
-keeps-take Text (goes {c} h) = goes {c = labelled unheld c} (λ s. omega arith)
-keeps-take Math h = h
+keeps-take : {S : Type 0} (list : Bool) (m : LaTeXMode) {p : Outcome} → Kept S p → Kept S (takeLabel list m p)
+keeps-take list m (stops t) = stops t
+keeps-take true m (goes h) = goes h
+keeps-take false Text (goes {c} h) = goes {c = labelled unheld c} (λ s. omega arith)
+keeps-take false Math (goes h) = goes h
 
 module _ (conv : Conv) (h : KeepsConv conv) (x : Context) (f : Forest) where
   keeps-math : (e : LaTeXEnv) (w : List ℕ) → Keeps (mathEnv e w conv x f)
@@ -236,21 +241,25 @@ module _ (conv : Conv) (h : KeepsConv conv) (x : Context) (f : Forest) where
       (λ e. kept-cond (lettersFit (trim (inner (textOf t)))) (λ e′. kept-after _ (keeps-each (conv _) (h _) 1 _ f c)) (stops tt))
       (stops tt)
 
-keeps-in : (e : LaTeXEnv) (w : List ℕ) → KeepsArm (envArm e w)
-keeps-in None w conv h x f c = keeps-take (x .mode) (kept-between _ _ (keeps-each (conv _) (h _) 1 _ f c))
-keeps-in FigureEnv w conv h x f c = keeps-take (x .mode) (kept-after _ (keeps-figure conv h _ f (lastCaption 1 f) c))
-keeps-in TableEnv w conv h x f c = keeps-take (x .mode) (keeps-table conv h x f w (firstOf ClauseArgument (beginOf f)) c)
-keeps-in Itemize w conv h x f c = keeps-each (conv _) (h _) 1 _ f c
-keeps-in Enumerate w conv h x f c = keeps-each (conv _) (h _) 1 _ f c
-keeps-in MathEnv w conv h x f c = keeps-take (x .mode) (keeps-math conv h x f _ w c)
-keeps-in Matrix w conv h x f c = keeps-take (x .mode) (keeps-math conv h x f _ w c)
-keeps-in Cases w conv h x f c = keeps-take (x .mode) (keeps-math conv h x f _ w c)
-keeps-in SubStack w conv h x f c = keeps-take (x .mode) (keeps-math conv h x f _ w c)
-keeps-in MathCurlyGroup w conv h x f c = keeps-take (x .mode) (keeps-math conv h x f _ w c)
+keeps-plain : (e : LaTeXEnv) (w : List ℕ) → KeepsArm (plainEnv e w)
+keeps-plain e w conv h x f c = kept-between _ _ (keeps-each (conv _) (h _) 1 _ f c)
+
+keeps-body : (e : LaTeXEnv) (w : List ℕ) → KeepsArm (envBody e w)
+keeps-body None w conv h x f c = keeps-plain None w conv h x f c
+keeps-body FigureEnv w conv h x f c = kept-after _ (keeps-figure conv h _ f (lastCaption 1 f) c)
+keeps-body TableEnv w conv h x f c = keeps-table conv h x f w (firstOf ClauseArgument (beginOf f)) c
+keeps-body Itemize w conv h x f c = keeps-plain Itemize w conv h x f c
+keeps-body Enumerate w conv h x f c = keeps-plain Enumerate w conv h x f c
+keeps-body MathEnv w conv h x f c = keeps-math conv h x f _ w c
+keeps-body Matrix w conv h x f c = keeps-math conv h x f _ w c
+keeps-body Cases w conv h x f c = keeps-math conv h x f _ w c
+keeps-body SubStack w conv h x f c = keeps-math conv h x f _ w c
+keeps-body MathCurlyGroup w conv h x f c = keeps-math conv h x f _ w c
 
 keeps-env : (r : Option Rule) (name : List ℕ) → KeepsArm (envBy r name)
 keeps-env nothing name conv h x f c = stops tt
-keeps-env (some r) name conv h x f c = keeps-in (envOf (r .class)) (writtenName r name) conv h x f c
+keeps-env (some r) name conv h x f c =
+    keeps-take (isList (envOf (r .class))) (x .mode) (keeps-body (envOf (r .class)) (writtenName r name) conv h x f c)
 
 -- ---- every kind of node
 

@@ -13,7 +13,7 @@ use Rattle.mitex_syntax.specs.Syntax.{ClauseArgument, ItemBegin, ItemCmd}
 use Rattle.mitex_syntax.specs.Tree.{Tree, Forest, size, kindOf, textOf}
 use Rattle.mitex_syntax.specs.Tree.Forest.{none, more}
 use Rattle.mitex_syntax.specs.Views.{childrenOf, cmdName, firstOf, offsetOf, envName, beginOf, inner}
-use Rattle.mitex_state.specs.Outcome.{Context, Label, Carry, Outcome, Conv, Arm, after, andThen, closing, shift, inMode, inEnv, inList, labelled}
+use Rattle.mitex_state.specs.Outcome.{Context, Label, Carry, Outcome, Conv, Arm, after, andThen, closing, shift, inMode, inEnv, labelled}
 use Rattle.mitex_state.specs.Outcome.Label.{unheld, held}
 use Rattle.mitex_state.specs.Outcome.Outcome.{refused, done}
 use Rattle.mitex_state.specs.Texts.{captionName, dollarBegin, dollarEnd}
@@ -26,10 +26,34 @@ use Rattle.mitex_state.specs.declared.LaTeXEnv.the-variants.{None, Matri
 use Rattle.mitex_state.specs.declared.LaTeXEnv.the-variants.{Math as MathEnv, Figure as FigureEnv, Table as TableEnv}
 use Rattle.mitex_state.specs.declared.Loop.the-variants.{Named, Inside, Figure, Table}
 
--- ---- lists write no text of their own
+-- ---- lists and normal environments: a list writes no text of its own
 
-abbrev pub list : LaTeXEnv → Arm
-list e conv x f c = each (conv (inList e x)) 1 Inside f c
+abbrev pub envBegin : LaTeXEnv → List ℕ → List ℕ
+envBegin None w = ascii "#" ++ (w ++ ascii "[")
+envBegin FigureEnv w = []
+envBegin TableEnv w = []
+envBegin Itemize w = []
+envBegin Enumerate w = []
+envBegin MathEnv w = []
+envBegin Matrix w = []
+envBegin Cases w = []
+envBegin SubStack w = []
+envBegin MathCurlyGroup w = []
+
+abbrev pub envEnd : LaTeXEnv → List ℕ
+envEnd None = ascii "];"
+envEnd FigureEnv = []
+envEnd TableEnv = []
+envEnd Itemize = []
+envEnd Enumerate = []
+envEnd MathEnv = []
+envEnd Matrix = []
+envEnd Cases = []
+envEnd SubStack = []
+envEnd MathCurlyGroup = []
+
+abbrev pub plainEnv : LaTeXEnv → List ℕ → Arm
+plainEnv e w conv x f c = after (envBegin e w) (closing (envEnd e) (each (conv (inEnv e x)) 1 Inside f c))
 
 -- ---- environments for Math are functions like `mat(a, b; c, d)`; their arguments are converted inside them
 
@@ -42,12 +66,6 @@ mathEnv e w conv x f c =
     (closing (ascii ")" ++ dollarEnd (x .mode))
     (andThen (shift (1 + offsetOf ItemBegin f) (each (conv (inMath e x)) 1 (Named 0) (beginOf f) c))
     (λ c′. each (conv (inMath e x)) 1 Inside f c′)))
-
--- ---- normal environments
-
-abbrev pub normalEnv : List ℕ → Arm
-normalEnv w conv x f c =
-    after (ascii "#" ++ (w ++ ascii "[")) (closing (ascii "];") (each (conv (inEnv None x)) 1 Inside f c))
 
 -- ---- figures
 
@@ -107,16 +125,29 @@ tableBy w (some t) conv x f c = cond (hasEnds (textOf t)) (tableWith w (trim (in
 abbrev pub tableEnv : List ℕ → Arm
 tableEnv w conv x f c = tableBy w (firstOf ClauseArgument (beginOf f)) conv x f c
 
--- ---- the held label: an environment that ends in Text writes and drops it
+-- ---- the held label: an environment other than a list that ends in Text writes and drops it
 
 abbrev pub heldText : Label → List ℕ
 heldText unheld = []
 heldText (held s) = ascii "<" ++ (s ++ ascii ">")
 
-abbrev pub takeLabel : LaTeXMode → Outcome → Outcome
-takeLabel Text (refused n r) = refused n r
-takeLabel Text (done c w) = done (labelled unheld c) (w ++ heldText (c .label))
-takeLabel Math o = o
+abbrev pub isList : LaTeXEnv → Bool
+isList None = false
+isList FigureEnv = false
+isList TableEnv = false
+isList Itemize = true
+isList Enumerate = true
+isList MathEnv = false
+isList Matrix = false
+isList Cases = false
+isList SubStack = false
+isList MathCurlyGroup = false
+
+abbrev pub takeLabel : Bool → LaTeXMode → Outcome → Outcome
+takeLabel list m (refused n r) = refused n r
+takeLabel true m (done c w) = done c w
+takeLabel false Text (done c w) = done (labelled unheld c) (w ++ heldText (c .label))
+takeLabel false Math (done c w) = done c w
 
 -- ---- by class, in the order of `ContextFeature`: from 3 on None, IsMath, IsMatrix, IsCases, IsFigure, IsTable, IsItemize, IsEnumerate
 
@@ -131,21 +162,24 @@ envOf k =
     (cond (eqb k 10) Enumerate
     None))))))
 
-abbrev pub envArm : LaTeXEnv → List ℕ → Arm
-envArm None w conv x f c = takeLabel (x .mode) (normalEnv w conv x f c)
-envArm FigureEnv w conv x f c = takeLabel (x .mode) (figureEnv w conv x f c)
-envArm TableEnv w conv x f c = takeLabel (x .mode) (tableEnv w conv x f c)
-envArm Itemize w conv x f c = list Itemize conv x f c
-envArm Enumerate w conv x f c = list Enumerate conv x f c
-envArm MathEnv w conv x f c = takeLabel (x .mode) (mathEnv MathEnv w conv x f c)
-envArm Matrix w conv x f c = takeLabel (x .mode) (mathEnv Matrix w conv x f c)
-envArm Cases w conv x f c = takeLabel (x .mode) (mathEnv Cases w conv x f c)
-envArm SubStack w conv x f c = takeLabel (x .mode) (mathEnv SubStack w conv x f c)
-envArm MathCurlyGroup w conv x f c = takeLabel (x .mode) (mathEnv MathCurlyGroup w conv x f c)
+abbrev pub envBody : LaTeXEnv → List ℕ → Arm
+envBody None w conv x f c = plainEnv None w conv x f c
+envBody FigureEnv w conv x f c = figureEnv w conv x f c
+envBody TableEnv w conv x f c = tableEnv w conv x f c
+envBody Itemize w conv x f c = plainEnv Itemize w conv x f c
+envBody Enumerate w conv x f c = plainEnv Enumerate w conv x f c
+envBody MathEnv w conv x f c = mathEnv MathEnv w conv x f c
+envBody Matrix w conv x f c = mathEnv Matrix w conv x f c
+envBody Cases w conv x f c = mathEnv Cases w conv x f c
+envBody SubStack w conv x f c = mathEnv SubStack w conv x f c
+envBody MathCurlyGroup w conv x f c = mathEnv MathCurlyGroup w conv x f c
+
+abbrev pub envWith : LaTeXEnv → List ℕ → Arm
+envWith e w conv x f c = takeLabel (isList e) (x .mode) (envBody e w conv x f c)
 
 abbrev pub envBy : Option Rule → List ℕ → Arm
 envBy nothing name conv x f c = refused 10 0
-envBy (some r) name conv x f c = envArm (envOf (r .class)) (writtenName r name) conv x f c
+envBy (some r) name conv x f c = envWith (envOf (r .class)) (writtenName r name) conv x f c
 
 -- the name is looked up and written trimmed
 abbrev pub environmentNamed : List ℕ → Arm

@@ -33,28 +33,26 @@ formula conv x f c =
     (closing (formulaEnd (x .mode) (isInline f)) (each (conv (inMode Math x)) 1 Plain f c)))
     (refused 8 0)
 
--- the environment in a curly group: in Math a group of its own, but for `\substack{abc \\ bcd}`
-abbrev pub curlyEnv : LaTeXMode → LaTeXEnv → LaTeXEnv
-curlyEnv Text e = e
-curlyEnv Math None = MathCurlyGroup
-curlyEnv Math Figure = MathCurlyGroup
-curlyEnv Math Table = MathCurlyGroup
-curlyEnv Math Itemize = MathCurlyGroup
-curlyEnv Math Enumerate = MathCurlyGroup
-curlyEnv Math MathEnv = MathCurlyGroup
-curlyEnv Math Matrix = MathCurlyGroup
-curlyEnv Math Cases = MathCurlyGroup
-curlyEnv Math SubStack = SubStack
-curlyEnv Math MathCurlyGroup = MathCurlyGroup
+-- the environment in a curly group in Math: one of its own, but for `\substack{abc \\ bcd}`
+abbrev pub groupEnv : LaTeXEnv → LaTeXEnv
+groupEnv None = MathCurlyGroup
+groupEnv Figure = MathCurlyGroup
+groupEnv Table = MathCurlyGroup
+groupEnv Itemize = MathCurlyGroup
+groupEnv Enumerate = MathCurlyGroup
+groupEnv MathEnv = MathCurlyGroup
+groupEnv Matrix = MathCurlyGroup
+groupEnv Cases = MathCurlyGroup
+groupEnv SubStack = SubStack
+groupEnv MathCurlyGroup = MathCurlyGroup
 
--- only in Math a blank group is marked
-abbrev pub curlyLoop : LaTeXMode → Loop
-curlyLoop Text = Plain
-curlyLoop Math = Curly true
+-- a curly group like `{abc}`; only in Math a blank one is marked
+abbrev pub curlyIn : LaTeXMode → Arm
+curlyIn Text conv x f c = each (conv x) 1 Plain f c
+curlyIn Math conv x f c = each (conv (inEnv (groupEnv (x .env)) x)) 1 (Curly true) f c
 
--- a curly group like `{abc}`
 abbrev pub curlyGroup : Arm
-curlyGroup conv x f c = each (conv (inEnv (curlyEnv (x .mode) (x .env)) x)) 1 (curlyLoop (x .mode)) f c
+curlyGroup conv x f c = curlyIn (x .mode) conv x f c
 
 abbrev pub lrBegin : List ℕ → List ℕ
 lrBegin name = cond (same name (ascii "left")) (ascii "lr(") []

@@ -7,6 +7,7 @@ use Rattle.mitex_spec.specs.Rules.{Rule}
 use Rattle.mitex_syntax.specs.Tree.{Tree, Forest}
 use Rattle.mitex_state.specs.declared.LaTeXMode.{LaTeXMode}
 use Rattle.mitex_state.specs.declared.LaTeXEnv.{LaTeXEnv}
+use Rattle.mitex_state.specs.declared.LaTeXEnv.the-variants.{None, Figure, Table, Itemize, Enumerate, Math, Matrix, Cases, SubStack, MathCurlyGroup}
 
 -- what goes down
 pub record Context : Type 0 where
@@ -61,15 +62,26 @@ Conv = Context → Tree → Carry → Outcome
 abbrev pub Arm : Type 0
 Arm = Conv → Context → Forest → Carry → Outcome
 
+-- `enter_mode`
 abbrev pub inMode : LaTeXMode → Context → Context
 inMode m x = record { rules = x .rules; mode = m; env = x .env; indent = x .indent }
 
-abbrev pub inEnv : LaTeXEnv → Context → Context
-inEnv e x = record { rules = x .rules; mode = x .mode; env = e; indent = x .indent }
+-- by how much a list indents; any other environment does not
+abbrev pub stepOf : LaTeXEnv → ℕ
+stepOf None = 0
+stepOf Figure = 0
+stepOf Table = 0
+stepOf Itemize = 2
+stepOf Enumerate = 2
+stepOf Math = 0
+stepOf Matrix = 0
+stepOf Cases = 0
+stepOf SubStack = 0
+stepOf MathCurlyGroup = 0
 
--- a list is two further in
-abbrev pub inList : LaTeXEnv → Context → Context
-inList e x = record { rules = x .rules; mode = x .mode; env = e; indent = x .indent + 2 }
+-- `enter_env`
+abbrev pub inEnv : LaTeXEnv → Context → Context
+inEnv e x = record { rules = x .rules; mode = x .mode; env = e; indent = x .indent + stepOf e }
 
 abbrev pub flagged : Bool → Carry → Carry
 flagged b c = record { flag = b; label = c .label }

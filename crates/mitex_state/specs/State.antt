@@ -5,11 +5,11 @@ use Prim.Native.Nat.{ℕ, _+_, _-_, _≤_}
 use mathlib.Core.List.{List}
 use lib.ListN.{take, replicate}
 use Rattle.mitex_spec.specs.Rules.{Rule}
-use Rattle.mitex_state.specs.Outcome.{Context, Label, Carry, labelMost}
+use Rattle.mitex_state.specs.Outcome.{Context, Label, Carry, labelMost, stepOf}
 use Rattle.mitex_state.specs.Outcome.Label.{unheld, held}
 use Rattle.mitex_state.specs.declared.LaTeXMode.{LaTeXMode}
 use Rattle.mitex_state.specs.declared.LaTeXEnv.{LaTeXEnv}
-use Rattle.mitex_state.specs.declared.LaTeXEnv.the-variants.{None, Figure, Table, Itemize, Enumerate, Math, Matrix, Cases, SubStack, MathCurlyGroup}
+use Rattle.mitex_state.specs.declared.LaTeXEnv.the-variants.{None}
 use Rattle.mitex_state.specs.declared.Converter.{Converter}
 
 -- the first bytes of the array, while a label is held
@@ -24,19 +24,6 @@ abbrev pub carryOf : Converter → Carry
 carryOf c = record { flag = c .«skip_next_space»; label = labelOf (c .«label_held») (c .«label_len») (c .label) }
 
 -- ---- as in the Rust
-
--- by how much a list indents; any other environment does not
-abbrev pub stepOf : LaTeXEnv → ℕ
-stepOf None = 0
-stepOf Figure = 0
-stepOf Table = 0
-stepOf Itemize = 2
-stepOf Enumerate = 2
-stepOf Math = 0
-stepOf Matrix = 0
-stepOf Cases = 0
-stepOf SubStack = 0
-stepOf MathCurlyGroup = 0
 
 -- `Converter::new`
 abbrev pub newOf : LaTeXMode → Converter

@@ -3,9 +3,9 @@ ghost use mathlib.Core.Path.{_≡_};
 ghost use Prim.Native.Nat.{_+_, _<_, _≤_, _^_};
 ghost use lib.ListN.{length};
 ghost use Rattle.text.specs.Writing.{cap};
-ghost use Rattle.mitex_state.specs.Outcome.{flagged, labelled, labelMost};
+ghost use Rattle.mitex_state.specs.Outcome.{flagged, labelled, labelMost, stepOf};
 ghost use Rattle.mitex_state.specs.Outcome.Label.{held, unheld};
-ghost use Rattle.mitex_state.specs.State.{carryOf, stepOf, newOf, placed, withMode, enteredEnv, exitedEnv, Carried};
+ghost use Rattle.mitex_state.specs.State.{carryOf, newOf, placed, withMode, enteredEnv, exitedEnv, Carried};
 ghost use Rattle.mitex_state.specs.Contract.{Place, Went, Declined, Closed};
 
 // The mode of the text that is written.
