@@ -1,3 +1,5 @@
 pub mod Reading
 pub mod Kinding
 pub mod Trees
+pub mod Seeking
+pub mod Places

@@ -171,7 +171,7 @@ others-exact {t} {f} sp =
     }
 
 -- where rows are left there is an element
-left : (f : Forest) {rows : List ℕ} → rows ≡ rowsOfs f → 0 < length rows → (t : Tree) × ((g : Forest) × (f ≡ more t g))
+pub left : (f : Forest) {rows : List ℕ} → rows ≡ rowsOfs f → 0 < length rows → (t : Tree) × ((g : Forest) × (f ≡ more t g))
 unfolding rowsOf
 left none e h = absurd (omega (arith, ap length e))
 left (more t g) e h = (t, (g, refl))
@@ -214,6 +214,9 @@ unfolding Sound textOf
 as-token (token j s) {rows} {text} sp h = ap (λ (n : ℕ). token n s) (sym (kind-spelt (token j s) sp)) ∙ ap (token (getD rows 0 0)) (sym (sp .text-is))
 as-token (node j f) sp h = absurd (subst T (ap isNode (sym (kind-spelt (node j f) sp)) ∙ h) (sp .sound .0))
 
+pub getD-here : (rows : List ℕ) (i : ℕ) → getD (drop i rows) 0 0 ≡ getD rows i 0
+getD-here rows i = getD-drop i rows 0 0 ∙ ap (λ (n : ℕ). getD rows n 0) (let z : i + 0 ≡ i = omega arith in z)
+
 -- ---- the element at i, whose text begins at j
 
 pub record Element (forest : Forest) (rows text : List ℕ) (i j : ℕ) : Type 0 where
@@ -255,21 +258,22 @@ module _ {forest : Forest} {rows text : List ℕ} {i j : ℕ} (x : Element fores
       }
 
   -- its bytes in the whole
-  byte-at : (n : ℕ) → n < 8 → getD (take (8 * size (x .tree)) (drop i rows)) n 0 ≡ getD rows (i + n) 0
-  byte-at n h = let b = x .some in getD-take (8 * size (x .tree)) (drop i rows) n 0 (omega arith) ∙ getD-drop i rows n 0
+  byte-at : (n : ℕ) → n < 8 → getD (take (8 * size (x .tree)) (drop i rows)) n 0 ≡ getD (drop i rows) n 0
+  byte-at n h = let b = x .some in getD-take (8 * size (x .tree)) (drop i rows) n 0 (omega arith)
 
   pub kind-at : getD rows i 0 ≡ kindOf (x .tree)
-  kind-at =
-      let z : i + 0 ≡ i = omega arith in
-      ap (λ (n : ℕ). getD rows n 0) (sym z) ∙ sym (byte-at 0 (omega arith)) ∙ kind-spelt (x .tree) (x .first .first)
+  kind-at = sym (getD-here rows i) ∙ sym (byte-at 0 (omega arith)) ∙ kind-spelt (x .tree) (x .first .first)
+
+  mark-at : getD (take (8 * size (x .tree)) (drop i rows)) 1 0 ≡ getD rows (i + 1) 0
+  mark-at = byte-at 1 (omega arith) ∙ getD-drop i rows 1 0
 
   pub token-at : getD rows (i + 1) 0 ≡ 1 → x .tree ≡ token (kindOf (x .tree)) (textOf (x .tree))
   token-at e =
       let sp = x .first .first in
-      token-spelt (x .tree) sp (byte-at 1 (omega arith) ∙ e) ∙ ap (token (kindOf (x .tree))) (sp .text-is)
+      token-spelt (x .tree) sp (mark-at ∙ e) ∙ ap (token (kindOf (x .tree))) (sp .text-is)
 
   pub node-at : (getD rows (i + 1) 0 ≡ 1 → ⊥) → x .tree ≡ node (kindOf (x .tree)) (childrenOf (x .tree))
-  node-at e = node-spelt (x .tree) (x .first .first) (λ q. e (sym (byte-at 1 (omega arith)) ∙ q))
+  node-at e = node-spelt (x .tree) (x .first .first) (λ q. e (sym mark-at ∙ q))
 
   -- the code has its bytes as e and n
   module _ (e n : ℕ) (is-e : e ≡ extentOf (drop i rows)) (is-n : n ≡ tokenSum (take (extentOf (drop i rows)) (drop i rows))) where

@@ -3,3 +3,4 @@ pub mod Tree
 pub mod Rows
 pub mod Views
 pub mod Spells
+pub mod Places

@@ -57,6 +57,15 @@ pub record SomeNode (rows text : List ℕ) : Type 0 where
   pub forest : Forest
   pub spells : Spells (node kind forest) rows text
 
+-- the rows are those of some elements side by side, and of some element
+pub record SomeRows (rows : List ℕ) : Type 0 where
+  pub forest : Forest
+  pub rows-are : rows ≡ rowsOfs forest
+
+pub record SomeElement (rows : List ℕ) : Type 0 where
+  pub tree : Tree
+  pub rows-are : rows ≡ rowsOf tree
+
 -- some elements side by side are, from row byte i and text byte j on, in bytes that are few enough to be counted
 pub record SomeForest (rows text : List ℕ) (i j : ℕ) : Type 0 where
   pub few : length rows < cap

@@ -4,8 +4,12 @@ ghost use mathlib.Core.Path.{_≡_};
 ghost use Prim.Native.Nat.{_+_, _%_, _≤_, _<_};
 ghost use lib.ListN.{length, take, drop};
 ghost use Rattle.text.specs.Writing.{cap};
-ghost use Rattle.mitex_syntax.specs.Syntax.{isTrivia, isToken, isNode};
+ghost use Rattle.mitex_syntax.specs.Syntax.{ClauseArgument, isTrivia, isToken, isNode};
+ghost use Rattle.mitex_syntax.specs.Tree.{Tree, Forest, rowsOf, rowsOfs};
 ghost use Rattle.mitex_syntax.specs.Rows.{numOf, extentOf, tokenAt, tokenSum, Spans};
+ghost use Rattle.mitex_syntax.specs.Views.{isOf, isNodeTree, isArgumentWith, firstNode, kindIn, cmdName};
+ghost use Rattle.mitex_syntax.specs.Spells.{Begins, SomeRows, SomeElement, SomeForest};
+ghost use Rattle.mitex_syntax.specs.Places.{picks, Finds, InText, partAt};
 
 // ---- kinds, in the order in which the main match of `Converter::convert` names them
 
@@ -208,4 +212,161 @@ pub fn span_at(rows: &[u8], i: usize) -> Span
     let e = extent(rows, i);
     let n = text_len(&rows[i..i + e]);
     Span { rows: e, text: n }
+}
+
+// ---- the children of a node: `rows` are those after the node's own row, `text` begins with theirs
+
+// Where a child stands: its rows from `row` to `end`, its text from `from` to `to`, in bytes.
+pub enum Place {
+    Nowhere,
+    At {
+        row: usize,
+        end: usize,
+        from: usize,
+        to: usize,
+    },
+}
+
+// A place among the children, between two of them.
+pub struct Cursor {
+    pub row: usize,
+    pub text: usize,
+}
+
+// What is looked for: a child of a kind, a node, an argument whose first node is of a kind.
+pub enum Wanted {
+    Kind(u8),
+    Node,
+    ArgumentWith(u8),
+}
+
+// A token: its kind, and its text from `from` to `to`; kind 0 and no text where there is none.
+pub struct Token {
+    pub kind: u8,
+    pub from: usize,
+    pub to: usize,
+}
+
+// The kind of the first child that is a node; 0: there is none.
+pub fn first_node_kind(rows: &[u8]) -> u8
+    requires { ⌜ SomeRows (now rows) ⌝ }
+    ensures { λ r. ⌜ ((f : Forest) → now (rows .entry) ≡ rowsOfs f → r ≡ kindIn (firstNode f)) ⌝ }
+{
+    let mut i = 0;
+    while i < rows.len() {
+        if rows[i + 1] != 1 {
+            return rows[i];
+        }
+        i += 8;
+    }
+    0
+}
+
+// Whether an element is an argument whose first node is of this kind.
+fn is_argument_with(rows: &[u8], kind: u8) -> bool
+    requires { ⌜ SomeElement (now rows) ⌝ }
+    ensures { λ r. ⌜ ((t : Tree) → now (rows .entry) ≡ rowsOf t → r ≡ isArgumentWith kind t) ⌝ }
+{
+    if rows[0] == CLAUSE_ARGUMENT {
+        return first_node_kind(&rows[8..]) == kind;
+    }
+    false
+}
+
+// Whether an element is what is looked for.
+fn is_wanted(rows: &[u8], wanted: Wanted) -> bool
+    requires { ⌜ SomeElement (now rows) ⌝ }
+    ensures { λ r. ⌜ ((t : Tree) → now (rows .entry) ≡ rowsOf t → r ≡ picks wanted t) ⌝ }
+{
+    match wanted {
+        Wanted::Kind(k) => rows[0] == k,
+        Wanted::Node => rows[1] != 1,
+        Wanted::ArgumentWith(k) => is_argument_with(rows, k),
+    }
+}
+
+// The first child from a cursor on that is what is looked for.
+pub fn find(rows: &[u8], text: &[u8], at: Cursor, wanted: Wanted) -> Place
+    requires { ⌜ SomeForest (now rows) (now text) (at .row) (at .text) ⌝ }
+    ensures { λ r. ⌜ Finds (picks wanted) (now (rows .entry)) (now (text .entry)) (at .row) (at .text) r ⌝ }
+{
+    let mut i = at.row;
+    let mut j = at.text;
+    while i < rows.len() {
+        let s = span_at(rows, i);
+        let end = i + s.rows;
+        let to = j + s.text;
+        if is_wanted(&rows[i..end], wanted) {
+            return Place::At {
+                row: i,
+                end,
+                from: j,
+                to,
+            };
+        }
+        i = end;
+        j = to;
+    }
+    Place::Nowhere
+}
+
+// The first child of a kind.
+pub fn find_kind(rows: &[u8], text: &[u8], kind: u8) -> Place
+    requires { ⌜ SomeForest (now rows) (now text) 0 0 ⌝ }
+    ensures { λ r. ⌜ Finds (isOf kind) (now (rows .entry)) (now (text .entry)) 0 0 r ⌝ }
+{
+    find(rows, text, Cursor { row: 0, text: 0 }, Wanted::Kind(kind))
+}
+
+// The next argument from a cursor on; the one after it is found from its `end` and `to` on.
+pub fn next_argument(rows: &[u8], text: &[u8], at: Cursor) -> Place
+    requires { ⌜ SomeForest (now rows) (now text) (at .row) (at .text) ⌝ }
+    ensures { λ r. ⌜ Finds (isOf ClauseArgument) (now (rows .entry)) (now (text .entry)) (at .row) (at .text) r ⌝ }
+{
+    find(rows, text, at, Wanted::Kind(CLAUSE_ARGUMENT))
+}
+
+// The first argument whose first node is of a kind.
+pub fn argument_with(rows: &[u8], text: &[u8], kind: u8) -> Place
+    requires { ⌜ SomeForest (now rows) (now text) 0 0 ⌝ }
+    ensures { λ r. ⌜ Finds (isArgumentWith kind) (now (rows .entry)) (now (text .entry)) 0 0 r ⌝ }
+{
+    find(
+        rows,
+        text,
+        Cursor { row: 0, text: 0 },
+        Wanted::ArgumentWith(kind),
+    )
+}
+
+// The first child that is a node.
+pub fn first_node(rows: &[u8], text: &[u8]) -> Place
+    requires { ⌜ SomeForest (now rows) (now text) 0 0 ⌝ }
+    ensures { λ r. ⌜ Finds isNodeTree (now (rows .entry)) (now (text .entry)) 0 0 r ⌝ }
+{
+    find(rows, text, Cursor { row: 0, text: 0 }, Wanted::Node)
+}
+
+// The text at a place; none where nothing was found.
+pub fn text_at<'a>(text: &'a [u8], place: Place) -> &'a [u8]
+    requires { ⌜ InText (now text) place ⌝ }
+    ensures { λ r. ⌜ now r ≡ partAt place (now (text .entry)) ⌝ }
+{
+    match place {
+        Place::Nowhere => &text[0..0],
+        Place::At {
+            row: _,
+            end: _,
+            from,
+            to,
+        } => &text[from..to],
+    }
+}
+
+// `CmdItem::name_tok`: the name of a command over these children.
+pub fn name_tok<'a>(rows: &[u8], text: &'a [u8]) -> &'a [u8]
+    requires { ⌜ SomeForest (now rows) (now text) 0 0 ⌝ }
+    ensures { λ r. ⌜ ((f : Forest) → Begins f (now (rows .entry)) (now (text .entry)) → now r ≡ cmdName f) ⌝ }
+{
+    text_at(text, find_kind(rows, text, CLAUSE_COMMAND_NAME))
 }

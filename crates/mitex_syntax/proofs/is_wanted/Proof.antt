@@ -1,0 +1,55 @@
+-- `is_wanted`: each wish is its test (`picks`).
+use Prim.Native.Nat.{_≤_}
+use lib.ListN.{length}
+use mathlib.Core.Path.{sym, ap, _∙_}
+use native.Mathlib.Omega.{arith}
+use Rattle.mitex_syntax.specs.Places.{picks}
+use Rattle.mitex_syntax.specs.declared.Wanted.{Wanted}
+use Rattle.mitex_syntax.proofs.Seeking.{rows-eight, wanted-kind, wanted-node}
+use borrow.Author.Needs.{needs}
+use Rattle.mitex_syntax.proofs.is_wanted.Statement.{statement}
+use Rattle.mitex_syntax.proofs.is_wanted.Tie as tie
+
+eight : (c : tie.Start) → 8 ≤ length (c .args .rows .now)
+eight c = rows-eight (c .pre .tree) _ (c .pre .rows-are)
+
+enum-known-wanted : tie.Need-enum-known-wanted
+enum-known-wanted c = search needs
+
+shared-slice-read-result : tie.Need-shared-slice-read-result
+shared-slice-read-result c = omega (arith, eight (c .before .before .before .before .before))
+
+enum-told : tie.Need-enum-told
+enum-told c = search needs
+
+shared-slice-read-result-2 : tie.Need-shared-slice-read-result-2
+shared-slice-read-result-2 c = omega (arith, eight (c .before .before .before .before))
+
+enum-known-wanted-2 : tie.Need-enum-known-wanted-2
+enum-known-wanted-2 c = search needs
+
+is-argument-with-requires : tie.Need-is-argument-with-requires
+is-argument-with-requires c κs = search needs
+
+returns : tie.Need-returns
+returns c = λ t e. wanted-kind t _ e _ ∙ ap (λ (w : Wanted). picks w t) (sym (c .before .before .wanted .given .1))
+
+returns-2 : tie.Need-returns-2
+returns-2 c = λ t e. wanted-node t _ e ∙ ap (λ (w : Wanted). picks w t) (sym (c .before .enum-told .given .1))
+
+returns-3 : tie.Need-returns-3
+returns-3 c = λ t e. c .is-argument-with .ensures t e ∙ ap (λ (w : Wanted). picks w t) (sym (c .before .before .wanted2 .given .1))
+
+pub is-wanted-spec : {M : Type 1} → statement M
+is-wanted-spec =
+    tie.close
+    (tie.spec
+    enum-known-wanted
+    shared-slice-read-result
+    enum-told
+    shared-slice-read-result-2
+    enum-known-wanted-2
+    is-argument-with-requires
+    returns
+    returns-2
+    returns-3)
