@@ -2,3 +2,5 @@ pub mod Run
 pub mod White
 pub mod Chars
 pub mod Trimming
+pub mod Grammar
+pub mod Texts

@@ -1,14 +1,16 @@
 -- Laws on trimming: one step of it at either end, and what it keeps.
 use mathlib.Core.Path.{_≡_, refl, sym, ap, subst, _∙_}
 use mathlib.Core.Bool.{Bool, true, false, cond}
-use mathlib.Core.List.{List, [], _∷_, _++_, reverse, reverse-append, reverse-reverse}
+use mathlib.Core.List.{List, [], _∷_, _++_, reverse, reverse-cons, reverse-append, reverse-reverse}
 use Prim.Native.Nat.{ℕ, _-_, _≤_, _<_}
 use native.Mathlib.Omega.{arith}
-use lib.ListN.{length, take, drop, length-drop}
+use lib.ListN.{length, take, drop, length-append, length-drop}
 use lib.Seq.{take-all}
-use Rattle.utf8.specs.Chars.{chars, concat, charLen, LastAt, isWhite}
+use Rattle.utf8.specs.Utf8.{valid}
+use Rattle.utf8.specs.Chars.{chars, concat, LastAt, AllChar, isWhite}
 use Rattle.utf8.specs.Trim.{skipWhite, trimStart, trimEnd, trim}
-use Rattle.utf8.proofs.Chars.{concat-chars, FirstLen}
+use Rattle.utf8.proofs.Chars.{concat-chars, concat-append, FirstLen}
+use Rattle.utf8.proofs.Texts.{all-append, all-split, valid-chars, chars-valid}
 
 -- the rest of a slice, as the code has it
 pub rest : (t : List ℕ) (n : ℕ) → take (length t - n) (drop n t) ≡ drop n t
@@ -49,3 +51,60 @@ pub trimEnd-none : (t : List ℕ) → length t ≤ 0 → t ≡ trimEnd t
 unfolding trimEnd skipWhite chars concat
 trimEnd-none [] h = refl
 trimEnd-none (b ∷ t) h = absurd (omega arith)
+
+-- ---- what trimming keeps
+
+-- what is trimmed off, and the rest
+skip-split : (cs : List (List ℕ)) → (ds : List (List ℕ)) × (ds ++ skipWhite cs ≡ cs)
+unfolding skipWhite
+skip-split [] = ([], refl)
+skip-split (c ∷ cs) =
+    let by : (t : Bool) → isWhite c ≡ t → (ds : List (List ℕ)) × (ds ++ cond (isWhite c) (skipWhite cs) (c ∷ cs) ≡ c ∷ cs) = λ t. elim t [
+      | true ↦ λ e. let r = skip-split cs in (c ∷ r .0, rw e (ap (λ (l : List (List ℕ)). c ∷ l) (r .1)))
+      | false ↦ λ e. ([], rw e)
+    ] in
+    by (isWhite c) refl
+
+pub trimStart-split : (s : List ℕ) → (w : List ℕ) × (w ++ trimStart s ≡ s)
+unfolding trimStart
+trimStart-split s =
+    let r = skip-split (chars s) in
+    (concat (r .0), sym (concat-append (r .0) (skipWhite (chars s))) ∙ ap concat (r .1) ∙ concat-chars s)
+
+pub trimEnd-split : (s : List ℕ) → (w : List ℕ) × (trimEnd s ++ w ≡ s)
+unfolding trimEnd
+trimEnd-split s =
+    let r = skip-split (reverse (chars s)) in
+    let back = sym (reverse-append (r .0) (skipWhite (reverse (chars s)))) ∙ ap reverse (r .1) ∙ reverse-reverse (chars s) in
+    (concat (reverse (r .0)), sym (concat-append (reverse (skipWhite (reverse (chars s)))) (reverse (r .0))) ∙ ap concat back ∙ concat-chars s)
+
+pub trimStart-length : (s : List ℕ) → length (trimStart s) ≤ length s
+trimStart-length s = let r = trimStart-split s in omega (arith, simp length-append at (ap length (r .1)))
+
+pub trimEnd-length : (s : List ℕ) → length (trimEnd s) ≤ length s
+trimEnd-length s = let r = trimEnd-split s in omega (arith, simp length-append at (ap length (r .1)))
+
+pub trim-length : (s : List ℕ) → length (trim s) ≤ length s
+unfolding trim
+trim-length s = omega (arith, trimStart-length s, trimEnd-length (trimStart s))
+
+skip-all : (cs : List (List ℕ)) → AllChar cs → AllChar (skipWhite cs)
+skip-all cs w = let r = skip-split cs in all-split (r .0) (skipWhite cs) (subst AllChar (sym (r .1)) w) .1
+
+all-reverse : (cs : List (List ℕ)) → AllChar cs → AllChar (reverse cs)
+all-reverse [] w = tt
+all-reverse (c ∷ cs) w = rw (reverse-cons c cs) (all-append (reverse cs) (c ∷ []) (all-reverse cs (w .1)) (w .0, tt))
+
+pub trimStart-valid : (s : List ℕ) → valid s ≡ true → valid (trimStart s) ≡ true
+unfolding trimStart
+trimStart-valid s e = chars-valid (skipWhite (chars s)) (skip-all (chars s) (valid-chars s e))
+
+pub trimEnd-valid : (s : List ℕ) → valid s ≡ true → valid (trimEnd s) ≡ true
+unfolding trimEnd
+trimEnd-valid s e =
+    chars-valid (reverse (skipWhite (reverse (chars s))))
+    (all-reverse (skipWhite (reverse (chars s))) (skip-all (reverse (chars s)) (all-reverse (chars s) (valid-chars s e))))
+
+pub trim-valid : (s : List ℕ) → valid s ≡ true → valid (trim s) ≡ true
+unfolding trim
+trim-valid s e = trimEnd-valid (trimStart s) (trimStart-valid s e)

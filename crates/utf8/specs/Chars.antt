@@ -1,5 +1,5 @@
 -- The characters of a text. Each begins at a byte that continues no other; for valid text these are the characters of
--- RFC 3629 (`chars-text`, proofs/Chars.antt), and any bytes have characters in this sense. White_Space, a property of
+-- RFC 3629 (`chars-text`, proofs/Texts.antt), and any bytes have characters in this sense. White_Space, a property of
 -- Unicode, is the table of its code points.
 use mathlib.Core.Bool.{Bool, true, false, _&&_, _||_, cond}
 use mathlib.Core.Path.{_≡_}

@@ -1,5 +1,5 @@
 -- UTF-8 by RFC 3629: what a character is (section 4 of the RFC, "Syntax of UTF-8 Byte Sequences"), what valid text is, and
--- a test that goes byte by byte. `valid-text` (proofs/Valid.antt) says that the test accepts just the valid texts.
+-- a test that goes byte by byte. `valid-text` (proofs/Grammar.antt) says that the test accepts just the valid texts.
 use mathlib.Core.Bool.{Bool, _&&_, cond}
 use Prim.Native.Nat.{ℕ, _-_, _≤_}
 use mathlib.Core.List.{List, [], _∷_, _++_}

@@ -1,0 +1,233 @@
+-- The test accepts just the texts of the RFC's grammar. One way, each character leads from between two characters to
+-- between two. The other way, what a state still asks (`Completes`) is found byte by byte in whatever is accepted from it.
+use mathlib.Core.Path.{_≡_, refl, sym, ap, subst, _∙_}
+use mathlib.Core.Logic.{dite, _↔_}
+use mathlib.Core.Bool.{Bool, true, false, _&&_, cond}
+use mathlib.Core.List.{List, [], _∷_, _++_}
+use Prim.Native.Nat.{ℕ, zero, suc, _-_, _≤_}
+use native.Mathlib.Omega.{arith}
+use native.Mathlib.Decide.{decLe}
+use lib.Dec.{eqb, leb}
+use borrow.Author.Tests.{ne-eqb, le-leb, lt-leb, leb-true, eqb-true, eqb-false}
+use Rattle.utf8.specs.declared.State.{State}
+use Rattle.utf8.specs.Utf8.{Between, Tail, Char, Text, lengthBy, secondLow, secondHigh, state, whole, dead, begun, step, run, valid}
+use Rattle.utf8.specs.Utf8.Char.{one, two, three-e0, three-e1, three-ed, three-ee, four-f0, four-f1, four-f4}
+use Rattle.utf8.specs.Utf8.Text.{end, then}
+use Rattle.utf8.proofs.Run.{run-append}
+
+-- ---- the first byte: which line of the grammar it begins
+
+-- a first byte with n bytes to come, the next of them from lo to hi
+pub record Leads (b n lo hi : ℕ) : Type 0 where
+  pub by : lengthBy b ≡ suc n
+  pub from : secondLow b ≡ lo
+  pub to : secondHigh b ≡ hi
+
+-- only four first bytes narrow the second
+plain : (b n : ℕ) → lengthBy b ≡ suc n → (b ≡ 224 → ⊥) → (b ≡ 237 → ⊥) → (b ≡ 240 → ⊥) → (b ≡ 244 → ⊥) → Leads b n 128 191
+plain b n e h k l m =
+    record { by = e; from = rw (ne-eqb b 224 h, ne-eqb b 240 l); to = rw (ne-eqb b 237 k, ne-eqb b 244 m) }
+
+module _ {b : ℕ} where
+  pub leads-1 : Between 0 127 b → Leads b 0 128 191
+  leads-1 w = let h = w .high in plain b 0 (rw (le-leb b 127)) (omega arith) (omega arith) (omega arith) (omega arith)
+
+  pub leads-2 : Between 194 223 b → Leads b 1 128 191
+  leads-2 w =
+      let l = w .low in let h = w .high in
+      plain b 1 (rw (lt-leb b 127 (omega arith), lt-leb b 193, le-leb b 223)) (omega arith) (omega arith) (omega arith) (omega arith)
+
+  leads-3 : 224 ≤ b → b ≤ 239 → (b ≡ 224 → ⊥) → (b ≡ 237 → ⊥) → Leads b 2 128 191
+  leads-3 l h x y =
+      plain b 2 (rw (lt-leb b 127 (omega arith), lt-leb b 193 (omega arith), lt-leb b 223, le-leb b 239)) x y (omega arith) (omega arith)
+
+  pub leads-e1 : Between 225 236 b → Leads b 2 128 191
+  leads-e1 w = let l = w .low in let h = w .high in leads-3 (omega arith) (omega arith) (omega arith) (omega arith)
+
+  pub leads-ee : Between 238 239 b → Leads b 2 128 191
+  leads-ee w = let l = w .low in let h = w .high in leads-3 (omega arith) (omega arith) (omega arith) (omega arith)
+
+  pub leads-f1 : Between 241 243 b → Leads b 3 128 191
+  leads-f1 w =
+      let l = w .low in let h = w .high in
+      plain b 3 (rw (lt-leb b 127 (omega arith), lt-leb b 193 (omega arith), lt-leb b 223 (omega arith), lt-leb b 239 (omega arith), le-leb b 244 (omega arith)))
+      (omega arith) (omega arith) (omega arith) (omega arith)
+
+abbrev leads : {b n lo hi : ℕ} → lengthBy b ≡ suc n → secondLow b ≡ lo → secondHigh b ≡ hi → Leads b n lo hi
+leads e p q = record { by = e; from = p; to = q }
+
+leads-e0 : Leads 224 2 160 191
+leads-e0 = leads refl refl refl
+
+leads-ed : Leads 237 2 128 159
+leads-ed = leads refl refl refl
+
+leads-f0 : Leads 240 3 144 191
+leads-f0 = leads refl refl refl
+
+leads-f4 : Leads 244 3 128 143
+leads-f4 = leads refl refl refl
+
+-- ---- from the grammar to the test
+
+less-one : (n : ℕ) → suc n - 1 ≡ n
+less-one n = omega arith
+
+begun-leads : {b n lo hi : ℕ} → Leads b n lo hi → begun b ≡ state n lo hi
+begun-leads {b} {n} w = rw (w .by, w .from, w .to, ne-eqb (suc n) 0 (omega arith), less-one n)
+
+-- a byte within its bounds
+step-on : {m lo hi b : ℕ} → Between lo hi b → step (state (suc m) lo hi) b ≡ state m 128 191
+step-on {m} {lo} {hi} {b} w =
+    let l = w .low in let h = w .high in
+    rw (ne-eqb (suc m) 0 (omega arith), le-leb lo b, le-leb b hi, less-one m)
+
+-- characters of two, three and four bytes
+module _ {a lo hi b : ℕ} (w : Between lo hi b) where
+  run-2 : Leads a 1 lo hi → run whole (a ∷ b ∷ []) ≡ whole
+  unfolding run
+  run-2 l = rw (begun-leads l, step-on {m = 0} w)
+
+  run-3 : {c : ℕ} → Leads a 2 lo hi → Tail c → run whole (a ∷ b ∷ c ∷ []) ≡ whole
+  unfolding run
+  run-3 l t = rw (begun-leads l, step-on {m = 1} w, step-on {m = 0} t)
+
+  run-4 : {c d : ℕ} → Leads a 3 lo hi → Tail c → Tail d → run whole (a ∷ b ∷ c ∷ d ∷ []) ≡ whole
+  unfolding run
+  run-4 l t v = rw (begun-leads l, step-on {m = 2} w, step-on {m = 1} t, step-on {m = 0} v)
+
+run-char : {c : List ℕ} → Char c → run whole c ≡ whole
+unfolding run
+run-char (one w) = begun-leads (leads-1 w)
+run-char (two w t) = run-2 t (leads-2 w)
+run-char (three-e0 w t) = run-3 w leads-e0 t
+run-char (three-e1 w t v) = run-3 t (leads-e1 w) v
+run-char (three-ed w t) = run-3 w leads-ed t
+run-char (three-ee w t v) = run-3 t (leads-ee w) v
+run-char (four-f0 w t v) = run-4 w leads-f0 t v
+run-char (four-f1 w t v x) = run-4 t (leads-f1 w) v x
+run-char (four-f4 w t v) = run-4 w leads-f4 t v
+
+pub text-run : {s : List ℕ} → Text s → run whole s ≡ whole
+unfolding run
+text-run end = refl
+text-run (then {c} {s} w t) = run-append whole c s ∙ ap (λ (u : State). run u s) (run-char w) ∙ text-run t
+
+-- ---- from the test to the grammar
+
+-- what a state asks of the text that follows: so many bytes, the next from lo to hi, and text after them
+abbrev Completes : ℕ → ℕ → ℕ → List ℕ → Type 0
+Completes zero lo hi s = Text s
+Completes (suc m) lo hi [] = ⊥
+Completes (suc m) lo hi (b ∷ s) = Between lo hi b × Completes m 128 191 s
+
+-- a first byte, the rest of its character, and text
+module _ {lo hi : ℕ} (a : ℕ) where
+  ends-2 : ((b : ℕ) → Between lo hi b → Char (a ∷ b ∷ [])) → (s : List ℕ) → Completes 1 lo hi s → Text (a ∷ s)
+  ends-2 made [] e = absurd e
+  ends-2 made (b ∷ s) e = then (made b (e .0)) (e .1)
+
+  ends-3 : ((b c : ℕ) → Between lo hi b → Tail c → Char (a ∷ b ∷ c ∷ [])) → (s : List ℕ) → Completes 2 lo hi s → Text (a ∷ s)
+  ends-3 made [] e = absurd e
+  ends-3 made (b ∷ []) e = absurd (e .1)
+  ends-3 made (b ∷ c ∷ s) e = then (made b c (e .0) (e .1 .0)) (e .1 .1)
+
+  ends-4 : ((b c d : ℕ) → Between lo hi b → Tail c → Tail d → Char (a ∷ b ∷ c ∷ d ∷ [])) → (s : List ℕ) → Completes 3 lo hi s → Text (a ∷ s)
+  ends-4 made [] e = absurd e
+  ends-4 made (b ∷ []) e = absurd (e .1)
+  ends-4 made (b ∷ c ∷ []) e = absurd (e .1 .1)
+  ends-4 made (b ∷ c ∷ d ∷ s) e = then (made b c d (e .0) (e .1 .0) (e .1 .1 .0)) (e .1 .1 .1)
+
+-- the line of the grammar that a first byte begins
+data Line : ℕ → Type 0 where
+  line-1 : {a : ℕ} → Between 0 127 a → Line a
+  line-2 : {a : ℕ} → Between 194 223 a → Line a
+  line-e0 : Line 224
+  line-e1 : {a : ℕ} → Between 225 236 a → Line a
+  line-ed : Line 237
+  line-ee : {a : ℕ} → Between 238 239 a → Line a
+  line-f0 : Line 240
+  line-f1 : {a : ℕ} → Between 241 243 a → Line a
+  line-f4 : Line 244
+  line-none : {a : ℕ} → lengthBy a ≡ 0 → Line a
+
+abbrev from-to : {lo hi a : ℕ} → lo ≤ a → a ≤ hi → Between lo hi a
+from-to l h = record { low = l; high = h }
+
+line-of : (a : ℕ) → Line a
+line-of a =
+    dite (decLe a 127) (λ h. line-1 (from-to (omega arith) h)) (λ n1.
+    dite (decLe a 193) (λ h. line-none (rw (lt-leb a 127 (omega arith), le-leb a 193))) (λ n2.
+    dite (decLe a 223) (λ h. line-2 (from-to (omega arith) h)) (λ n3.
+    dite (decLe a 224) (λ h. let e : 224 ≡ a = omega arith in subst Line e line-e0) (λ n4.
+    dite (decLe a 236) (λ h. line-e1 (from-to (omega arith) h)) (λ n5.
+    dite (decLe a 237) (λ h. let e : 237 ≡ a = omega arith in subst Line e line-ed) (λ n6.
+    dite (decLe a 239) (λ h. line-ee (from-to (omega arith) h)) (λ n7.
+    dite (decLe a 240) (λ h. let e : 240 ≡ a = omega arith in subst Line e line-f0) (λ n8.
+    dite (decLe a 243) (λ h. line-f1 (from-to (omega arith) h)) (λ n9.
+    dite (decLe a 244) (λ h. let e : 244 ≡ a = omega arith in subst Line e line-f4) (λ n10.
+    line-none (rw (lt-leb a 127 (omega arith), lt-leb a 193 (omega arith), lt-leb a 223 (omega arith), lt-leb a 239 (omega arith), lt-leb a 244 (omega arith)))))))))))))
+
+-- what the state after a first byte asks
+asked : {a n lo hi : ℕ} (s : List ℕ) → Leads a n lo hi → Completes (lengthBy a - 1) (secondLow a) (secondHigh a) s → Completes n lo hi s
+asked {a} {n} s l e = rw (l .by, l .from, l .to, less-one n) at e
+
+completes-text : {a : ℕ} (s : List ℕ) → Line a → (lengthBy a ≡ 0 → ⊥) → Completes (lengthBy a - 1) (secondLow a) (secondHigh a) s → Text (a ∷ s)
+completes-text {a} s (line-1 w) z e = then (one w) (asked s (leads-1 w) e)
+completes-text {a} s (line-2 w) z e = ends-2 a (λ b t. two w t) s (asked s (leads-2 w) e)
+completes-text s line-e0 z e = ends-3 224 (λ b c w t. three-e0 w t) s e
+completes-text {a} s (line-e1 w) z e = ends-3 a (λ b c t v. three-e1 w t v) s (asked s (leads-e1 w) e)
+completes-text s line-ed z e = ends-3 237 (λ b c w t. three-ed w t) s e
+completes-text {a} s (line-ee w) z e = ends-3 a (λ b c t v. three-ee w t v) s (asked s (leads-ee w) e)
+completes-text s line-f0 z e = ends-4 240 (λ b c d w t v. four-f0 w t v) s e
+completes-text {a} s (line-f1 w) z e = ends-4 a (λ b c d t v x. four-f1 w t v x) s (asked s (leads-f1 w) e)
+completes-text s line-f4 z e = ends-4 244 (λ b c d w t v. four-f4 w t v) s e
+completes-text s (line-none n) z e = absurd (z n)
+
+step-dead : (b : ℕ) → step dead b ≡ dead
+step-dead zero = refl
+step-dead (suc b) = rw (le-leb 1 (suc b) (omega arith), lt-leb (suc b) 0 (omega arith))
+
+run-dead : (s : List ℕ) → run dead s ≡ dead
+unfolding run
+run-dead [] = refl
+run-dead (b ∷ s) = ap (λ (u : State). run u s) (step-dead b) ∙ run-dead s
+
+module _ (s : List ℕ) (u v : State) (d : u ≡ v) (e : run u s .more ≡ 0) where
+  accepted : run v s .more ≡ 0
+  accepted = subst (λ (w : State). run w s .more ≡ 0) d e
+
+dead-no : {A : Type 0} (s : List ℕ) (u : State) → u ≡ dead → run u s .more ≡ 0 → A
+dead-no s u d e =
+    let z : _≡_ {A = ℕ} 1 0 = ap (λ (v : State). v .more) (sym (run-dead s)) ∙ accepted s u dead d e in
+    absurd (omega arith)
+
+complete : (s : List ℕ) (m lo hi : ℕ) → run (state m lo hi) s .more ≡ 0 → Completes m lo hi s
+unfolding run
+complete [] zero lo hi e = end
+complete [] (suc m) lo hi e = absurd (omega arith)
+complete (b ∷ s) zero lo hi e =
+    let by : (t : Bool) → eqb (lengthBy b) 0 ≡ t → Text (b ∷ s) = λ t. elim t [
+      | true ↦ λ q. dead-no s (begun b) (rw q) e
+      | false ↦ λ q.
+          completes-text s (line-of b) (eqb-false (lengthBy b) 0 q)
+          (complete s (lengthBy b - 1) (secondLow b) (secondHigh b) (accepted s (begun b) _ (rw q) e))
+    ] in
+    by (eqb (lengthBy b) 0) refl
+complete (b ∷ s) (suc m) lo hi e =
+    let n = ne-eqb (suc m) 0 (omega arith) in
+    let here = step (state (suc m) lo hi) b in
+    let by : (t v : Bool) → leb lo b ≡ t → leb b hi ≡ v → Completes (suc m) lo hi (b ∷ s) = λ t v. elim t [
+      | false ↦ λ p q. dead-no s here (rw (n, p)) e
+      | true ↦ elim v [
+        | false ↦ λ p q. dead-no s here (rw (n, p, q)) e
+        | true ↦ λ p q.
+            let w = from-to (leb-true lo b p) (leb-true b hi q) in
+            (w, complete s m 128 191 (accepted s here (state m 128 191) (step-on {m = m} w) e))
+      ]
+    ] in
+    by (leb lo b) (leb b hi) refl refl
+
+pub valid-text : (s : List ℕ) → (valid s ≡ true) ↔ Text s
+unfolding valid
+valid-text s = (λ e. complete s 0 128 191 (eqb-true (run whole s .more) 0 e), λ t. rw (text-run t))

@@ -1,0 +1,157 @@
+-- Valid text by its characters: it is made of the RFC's characters, which are those of `chars`. So it stays valid where it
+-- is put together, cut before a byte that continues none, and cut at one-byte ends.
+use mathlib.Core.Path.{_≡_, refl, sym, ap, subst, _∙_}
+use mathlib.Core.Bool.{true, false, and-false}
+use mathlib.Core.List.{List, [], _∷_, _++_}
+use Prim.Native.Nat.{ℕ, suc, _+_, _-_, _≤_, _<_}
+use native.Mathlib.Omega.{arith}
+use lib.Dec.{eqb}
+use borrow.Author.Tests.{le-leb, lt-leb}
+use lib.ListN.{length, take, drop, getD, take-append-drop}
+use lib.Seq.{drop-cons}
+use Rattle.utf8.specs.declared.State.{State}
+use Rattle.utf8.specs.Utf8.{Between, Tail, Char, Text, lengthBy, whole, run, valid}
+use Rattle.utf8.specs.Utf8.Char.{one, two, three-e0, three-e1, three-ed, three-ee, four-f0, four-f1, four-f4}
+use Rattle.utf8.specs.Utf8.Text.{end, then}
+use Rattle.utf8.specs.Chars.{continues, goesOn, chars, concat, first, charLen, AllChar}
+use Rattle.utf8.proofs.Run.{run-append}
+use Rattle.utf8.proofs.Chars.{concat-chars, chars-append}
+use Rattle.utf8.proofs.Grammar.{leads-1, leads-2, leads-e1, leads-ee, leads-f1, text-run, valid-text}
+
+-- ---- the RFC's characters are characters of `chars`
+
+tail-on : {b : ℕ} → Tail b → continues b ≡ true
+tail-on {b} t = rw (le-leb 128 b (t .low), le-leb b 191 (t .high))
+
+-- the narrower bounds of a second byte
+tail : {lo hi b : ℕ} → 128 ≤ lo → hi ≤ 191 → Between lo hi b → Tail b
+tail l h w =
+    let x = w .low in let y = w .high in
+    record { low = omega arith; high = omega arith }
+
+low-starts : {b : ℕ} → b ≤ 127 → continues b ≡ false
+low-starts {b} h = rw (lt-leb 128 b (omega arith))
+
+high-starts : {lo hi b : ℕ} → Between lo hi b → 192 ≤ lo → continues b ≡ false
+high-starts {lo} {hi} {b} w l = let x = w .low in rw (lt-leb b 191 (omega arith), and-false)
+
+char-starts : {c : List ℕ} (s : List ℕ) → Char c → goesOn (c ++ s) ≡ false
+char-starts s (one w) = low-starts (w .high)
+char-starts s (two w t) = high-starts w (omega arith)
+char-starts s (three-e0 w t) = refl
+char-starts s (three-e1 w t v) = high-starts w (omega arith)
+char-starts s (three-ed w t) = refl
+char-starts s (three-ee w t v) = high-starts w (omega arith)
+char-starts s (four-f0 w t v) = refl
+char-starts s (four-f1 w t v x) = high-starts w (omega arith)
+char-starts s (four-f4 w t v) = refl
+
+char-2 : {a b : ℕ} → Tail b → chars (a ∷ b ∷ []) ≡ (a ∷ b ∷ []) ∷ []
+unfolding chars
+char-2 t = rw (tail-on t)
+
+char-3 : {a b c : ℕ} → Tail b → Tail c → chars (a ∷ b ∷ c ∷ []) ≡ (a ∷ b ∷ c ∷ []) ∷ []
+unfolding chars
+char-3 t v = rw (tail-on t, tail-on v)
+
+char-4 : {a b c d : ℕ} → Tail b → Tail c → Tail d → chars (a ∷ b ∷ c ∷ d ∷ []) ≡ (a ∷ b ∷ c ∷ d ∷ []) ∷ []
+unfolding chars
+char-4 t v x = rw (tail-on t, tail-on v, tail-on x)
+
+char-alone : {c : List ℕ} → Char c → chars c ≡ c ∷ []
+unfolding chars
+char-alone (one w) = refl
+char-alone (two w t) = char-2 t
+char-alone (three-e0 w t) = char-3 (tail (omega arith) (omega arith) w) t
+char-alone (three-e1 w t v) = char-3 t v
+char-alone (three-ed w t) = char-3 (tail (omega arith) (omega arith) w) t
+char-alone (three-ee w t v) = char-3 t v
+char-alone (four-f0 w t v) = char-4 (tail (omega arith) (omega arith) w) t v
+char-alone (four-f1 w t v x) = char-4 t v x
+char-alone (four-f4 w t v) = char-4 (tail (omega arith) (omega arith) w) t v
+
+char-length : {c : List ℕ} (s : List ℕ) → Char c → length c ≡ lengthBy (getD (c ++ s) 0 0)
+char-length s (one w) = sym (leads-1 w .by)
+char-length s (two w t) = sym (leads-2 w .by)
+char-length s (three-e0 w t) = refl
+char-length s (three-e1 w t v) = sym (leads-e1 w .by)
+char-length s (three-ed w t) = refl
+char-length s (three-ee w t v) = sym (leads-ee w .by)
+char-length s (four-f0 w t v) = refl
+char-length s (four-f1 w t v x) = sym (leads-f1 w .by)
+char-length s (four-f4 w t v) = refl
+
+-- ---- valid text and its characters
+
+text-starts : {s : List ℕ} → Text s → goesOn s ≡ false
+text-starts end = refl
+text-starts (then {c} {s} w t) = char-starts s w
+
+chars-then : {c s : List ℕ} → Char c → Text s → chars (c ++ s) ≡ c ∷ chars s
+chars-then {c} {s} w t = chars-append c s (text-starts t) ∙ ap (λ (l : List (List ℕ)). l ++ chars s) (char-alone w)
+
+-- the characters of a text are the RFC's
+pub chars-text : {s : List ℕ} → Text s → AllChar (chars s)
+unfolding chars
+chars-text end = tt
+chars-text (then w t) = rw (chars-then w t) (w, chars-text t)
+
+pub all-text : (cs : List (List ℕ)) → AllChar cs → Text (concat cs)
+unfolding concat
+all-text [] w = end
+all-text (c ∷ cs) w = then (w .0) (all-text cs (w .1))
+
+-- a text that is put together of characters has just those
+pub chars-concat : (cs : List (List ℕ)) → AllChar cs → chars (concat cs) ≡ cs
+unfolding chars concat
+chars-concat [] w = refl
+chars-concat (c ∷ cs) w = chars-then (w .0) (all-text cs (w .1)) ∙ ap (λ (l : List (List ℕ)). c ∷ l) (chars-concat cs (w .1))
+
+pub valid-chars : (s : List ℕ) → valid s ≡ true → AllChar (chars s)
+valid-chars s e = chars-text (valid-text s .0 e)
+
+pub chars-valid : (cs : List (List ℕ)) → AllChar cs → valid (concat cs) ≡ true
+chars-valid cs w = valid-text (concat cs) .1 (all-text cs w)
+
+-- the first character of valid text has the length that its first byte says
+text-first : {s : List ℕ} → Text s → 0 < length s → charLen s ≡ lengthBy (getD s 0 0)
+text-first end h = absurd (omega arith)
+text-first (then {c} {s} w t) h = ap (λ (l : List (List ℕ)). length (first l)) (chars-then w t) ∙ char-length s w
+
+pub charLen-valid : (s : List ℕ) → valid s ≡ true → 0 < length s → charLen s ≡ lengthBy (getD s 0 0)
+charLen-valid s e h = text-first (valid-text s .0 e) h
+
+-- ---- putting together and cutting
+
+pub valid-append : (a b : List ℕ) → valid a ≡ true → valid (a ++ b) ≡ valid b
+unfolding valid
+valid-append a b e = ap (λ (u : State). eqb (u .more) 0) (run-append whole a b ∙ ap (λ (u : State). run u b) (text-run (valid-text a .0 e)))
+
+pub all-append : (a b : List (List ℕ)) → AllChar a → AllChar b → AllChar (a ++ b)
+all-append [] b v w = w
+all-append (c ∷ a) b v w = (v .0, all-append a b (v .1) w)
+
+pub all-split : (a b : List (List ℕ)) → AllChar (a ++ b) → AllChar a × AllChar b
+all-split [] b w = (tt, w)
+all-split (c ∷ a) b w = let r = all-split a b (w .1) in ((w .0, r .0), r .1)
+
+-- a cut before a byte that continues no character
+pub valid-split : (a b : List ℕ) → goesOn b ≡ false → valid (a ++ b) ≡ true → (valid a ≡ true) × (valid b ≡ true)
+valid-split a b g e =
+    let r = all-split (chars a) (chars b) (rw (chars-append a b g) at (valid-chars (a ++ b) e)) in
+    (rw concat-chars at (chars-valid (chars a) (r .0)), rw concat-chars at (chars-valid (chars b) (r .1)))
+
+-- a one-byte character in front
+pub valid-one : (a : ℕ) (s : List ℕ) → a ≤ 127 → valid (a ∷ s) ≡ valid s
+valid-one a s h = valid-append (a ∷ []) s (valid-text (a ∷ []) .1 (then (one (record { low = omega arith; high = h })) end))
+
+-- what stands between two one-byte ends
+pub valid-inside : (s : List ℕ) (n : ℕ) → n + 2 ≡ length s → getD s 0 0 ≤ 127 → getD s (length s - 1) 0 ≤ 127 → valid s ≡ true → valid (take n (drop 1 s)) ≡ true
+valid-inside [] n l a z e = absurd (omega arith)
+valid-inside (x ∷ s) n l a z e =
+    let k : n < length s = omega arith in
+    let at : length (x ∷ s) - 1 ≡ suc n = omega arith in
+    let last : getD s n 0 ≤ 127 = subst (λ (m : ℕ). getD (x ∷ s) m 0 ≤ 127) at z in
+    let g : goesOn (drop n s) ≡ false = rw (drop-cons s n 0) (low-starts last) in
+    let v : valid (take n s ++ drop n s) ≡ true = rw take-append-drop (sym (valid-one x s a) ∙ e) in
+    valid-split (take n s) (drop n s) g v .0
