@@ -2,7 +2,8 @@
 -- other, each from the carry that the one before it left, and counting its rows from where it stands.
 use mathlib.Core.Path.{_≡_, refl, _∙_}
 use mathlib.Core.List.{List, []}
-use Prim.Native.Nat.{ℕ, suc, _+_}
+use Prim.Native.Nat.{ℕ, suc, _+_, _≤_}
+use native.Mathlib.Omega.{arith}
 use Rattle.mitex_spec.specs.Rules.{Rule}
 use Rattle.mitex_syntax.specs.Syntax.{ScopeRoot}
 use Rattle.mitex_syntax.specs.Tree.{Tree, Forest, size}
@@ -16,6 +17,7 @@ use Rattle.mitex_state.specs.declared.LaTeXMode.{LaTeXMode}
 use Rattle.mitex_state.specs.declared.Act.the-variants.{Convert}
 use Rattle.mitex_state.specs.declared.Loop.the-variants.{Plain}
 use Rattle.mitex_state.proofs.Outcomes.{after-nil, closing-nil}
+use Rattle.mitex_state.proofs.Levels.{convert-level}
 
 -- ---- one after the other
 
@@ -39,7 +41,10 @@ pub convert-root : (d : ℕ) (x : Context) (f : Forest) → convert (suc d) x (n
 unfolding convert step
 convert-root d x f = refl
 
+-- a tree has at most as many rows as there are levels
 pub root-blocks :
-    (rules : List Rule) (m : LaTeXMode) (f : Forest)
-    → convert (suc levels) (startContext rules m) (node ScopeRoot f) newCarry ≡ blocksFrom rules m 1 f startCarry
-root-blocks rules m f = convert-root levels (startContext rules m) f
+    (rules : List Rule) (m : LaTeXMode) (f : Forest) → size (node ScopeRoot f) ≤ levels
+    → convert levels (startContext rules m) (node ScopeRoot f) newCarry ≡ blocksFrom rules m 1 f startCarry
+root-blocks rules m f h =
+    convert-level levels (suc levels) (startContext rules m) (node ScopeRoot f) newCarry h (omega arith)
+    ∙ convert-root levels (startContext rules m) f

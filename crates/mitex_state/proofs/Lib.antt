@@ -4,3 +4,5 @@ pub mod Outcomes
 pub mod Loops
 pub mod Keeping
 pub mod Blocks
+pub mod Sizes
+pub mod Levels

@@ -1,0 +1,127 @@
+-- What an arm walks over has no more rows than the children of its element: so the level below is high enough for it.
+use mathlib.Core.Bool.{Bool, true, false, cond}
+use mathlib.Core.Option.{Option}
+use mathlib.Core.Option.Option.{none as nothing, some}
+use Prim.Native.Nat.{ℕ, _+_, _≤_}
+use native.Mathlib.Omega.{arith}
+use lib.Dec.{eqb}
+use Rattle.mitex_syntax.specs.Syntax.{ClauseArgument, TokenLBracket, TokenRBracket, isTrivia}
+use Rattle.mitex_syntax.specs.Tree.{Tree, Forest, size, sizes, kindOf, textOf}
+use Rattle.mitex_syntax.specs.Tree.Forest.{none, more}
+use Rattle.mitex_syntax.specs.Views.{childrenOf, childrenIn, firstBy, firstOf}
+use Rattle.mitex_syntax.proofs.Trees.{size-more, size-children}
+use Rattle.mitex_state.specs.Colors.{Rest, Model, rest, pastTrivia, past, seek, bracketModel, greedyModel, isModel, firstModel, argumentModel}
+use Rattle.mitex_state.specs.Environments.{Caption, absent, bare, caption, isCaption, captionAt, orLater, lastCaption}
+
+-- what holds of both is what a choice is
+by-cases : {A : Type 0} (P : A → Type 0) (b : Bool) (p q : A) → P p → P q → P (cond b p q)
+by-cases P true p q h g = h
+by-cases P false p q h g = g
+
+-- ---- what was found
+
+-- an element that was found, if any, has at most n rows
+abbrev pub Small : ℕ → Option Tree → Type 0
+Small n nothing = Unit {0}
+Small n (some t) = size t ≤ n
+
+small-more : (n : ℕ) (o : Option Tree) {m : ℕ} → n ≤ m → Small n o → Small m o
+small-more n nothing h s = tt
+small-more n (some t) h s = omega arith
+
+pub firstBy-size : (p : Tree → Bool) (f : Forest) → Small (sizes f) (firstBy p f)
+unfolding firstBy
+firstBy-size p none = tt
+firstBy-size p (more t f) =
+    let e = size-more t f in
+    by-cases (Small (sizes (more t f))) (p t) (some t) (firstBy p f) (omega arith) (small-more (sizes f) (firstBy p f) (omega arith) (firstBy-size p f))
+
+children-size : (n : ℕ) (o : Option Tree) → Small n o → sizes (childrenIn o) ≤ n
+unfolding sizes
+children-size n nothing s = omega arith
+children-size n (some t) s = omega (arith, size-children t)
+
+-- the children of the first element of a kind
+pub childrenIn-size : (k : ℕ) (f : Forest) → sizes (childrenIn (firstOf k f)) ≤ sizes f
+childrenIn-size k f = children-size (sizes f) (firstOf k f) (firstBy-size _ f)
+
+-- ---- colours
+
+abbrev Within : ℕ → Rest → Type 0
+Within n r = sizes (r .elements) ≤ n
+
+pub pastTrivia-size : (o : ℕ) (f : Forest) → sizes (pastTrivia o f .elements) ≤ sizes f
+unfolding pastTrivia
+pastTrivia-size o none = omega arith
+pastTrivia-size o (more t f) =
+    by-cases (Within (sizes (more t f))) (isTrivia (kindOf t)) (pastTrivia (o + size t) f) (rest o (more t f))
+    (omega (arith, size-more t f, pastTrivia-size (o + size t) f)) (omega arith)
+
+pub past-size : (k o : ℕ) (f : Forest) → sizes (past k o f .elements) ≤ sizes f
+unfolding past
+past-size k o none = omega arith
+past-size k o (more t f) =
+    by-cases (Within (sizes (more t f))) (eqb (kindOf t) k) (rest (o + size t) f) (past k (o + size t) f)
+    (omega (arith, size-more t f)) (omega (arith, size-more t f, past-size k (o + size t) f))
+
+pub seek-size : (k o : ℕ) (f : Forest) → sizes (seek k o f .elements) ≤ sizes f
+unfolding seek
+seek-size k o none = omega arith
+seek-size k o (more t f) =
+    by-cases (Within (sizes (more t f))) (eqb (kindOf t) k) (rest o (more t f)) (seek k (o + size t) f)
+    (omega arith) (omega (arith, size-more t f, seek-size k (o + size t) f))
+
+bracketModel-size : (o : ℕ) (f : Forest) → sizes (bracketModel o f .behind .elements) ≤ sizes f
+bracketModel-size o none = omega arith
+bracketModel-size o (more t f) =
+    let r = past TokenRBracket (o + size t) f in
+    by-cases (λ (m : Model). Within (sizes (more t f)) (m .behind)) (eqb (kindOf t) TokenLBracket) _ _
+    (omega (arith, size-more t f, past-size TokenRBracket (o + size t) f, pastTrivia-size (r .rows) (r .elements))) (omega arith)
+
+pub greedyModel-size : (o : ℕ) (f : Forest) → sizes (greedyModel o f .behind .elements) ≤ sizes f
+greedyModel-size o f = omega (arith, pastTrivia-size o f, bracketModel-size (pastTrivia o f .rows) (pastTrivia o f .elements))
+
+firstModel-size : (o : ℕ) (f : Forest) → sizes (firstModel o f .behind .elements) ≤ sizes f
+firstModel-size o none = omega arith
+firstModel-size o (more t f) =
+    by-cases (λ (m : Model). Within (sizes (more t f)) (m .behind)) (isModel (textOf t)) _ _
+    (omega (arith, size-more t f, seek-size ClauseArgument (o + size t) f)) (omega arith)
+
+pub argumentModel-size : (o : ℕ) (f : Forest) → sizes (argumentModel o f .behind .elements) ≤ sizes f
+argumentModel-size o f = omega (arith, seek-size ClauseArgument o f, firstModel-size (seek ClauseArgument o f .rows) (seek ClauseArgument o f .elements))
+
+-- ---- captions
+
+-- a caption's argument, if any, has at most n rows
+abbrev pub Captions : ℕ → Caption → Type 0
+Captions n absent = Unit {0}
+Captions n (bare o) = Unit {0}
+Captions n (caption o t) = size t ≤ n
+
+pub captions-more : (n : ℕ) (p : Caption) {m : ℕ} → n ≤ m → Captions n p → Captions m p
+captions-more n absent h s = tt
+captions-more n (bare o) h s = tt
+captions-more n (caption o t) h s = omega arith
+
+captions-later : (n : ℕ) (p q : Caption) → Captions n p → Captions n q → Captions n (orLater p q)
+captions-later n absent q s u = u
+captions-later n (bare o) q s u = tt
+captions-later n (caption o t) absent s u = s
+captions-later n (caption o t) (bare p) s u = tt
+captions-later n (caption o t) (caption p v) s u = u
+
+captions-at : (n o : ℕ) (t : Tree) (a : Option Tree) → Small n a → Captions n (captionAt o t a)
+captions-at n o t nothing s = tt
+captions-at n o t (some a) s = s
+
+pub lastCaption-size : (o : ℕ) (f : Forest) → Captions (sizes f) (lastCaption o f)
+unfolding lastCaption
+lastCaption-size o none = tt
+lastCaption-size o (more t f) =
+    let e = size-more t f in
+    let s = size-children t in
+    let a = firstOf ClauseArgument (childrenOf t) in
+    captions-later (sizes (more t f)) (cond (isCaption t) (captionAt o t a) absent) (lastCaption (o + size t) f)
+    (by-cases (Captions (sizes (more t f))) (isCaption t) (captionAt o t a) absent
+    (captions-at _ o t a (small-more (sizes (childrenOf t)) a (omega arith) (firstBy-size _ (childrenOf t)))) tt)
+    (captions-more (sizes f) (lastCaption (o + size t) f) (omega arith) (lastCaption-size (o + size t) f))
