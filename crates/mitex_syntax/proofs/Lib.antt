@@ -3,3 +3,4 @@ pub mod Kinding
 pub mod Trees
 pub mod Seeking
 pub mod Places
+pub mod Tokens

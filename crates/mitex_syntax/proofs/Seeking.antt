@@ -35,14 +35,14 @@ mark-first (node k f) r = refl
 
 -- the same, where these rows begin at i
 module _ (rows : List ℕ) (i : ℕ) (t : Tree) (r : List ℕ) (e : drop i rows ≡ rowsOf t ++ r) where
-  kind-here : getD rows i 0 ≡ kindOf t
+  pub kind-here : getD rows i 0 ≡ kindOf t
   kind-here = sym (getD-here rows i) ∙ ap (λ (l : List ℕ). getD l 0 0) e ∙ kind-first t r
 
-  mark-here : {b : Bool} → eqb (getD rows (i + 1) 0) 1 ≡ b → isNodeTree t ≡ not b
+  pub mark-here : {b : Bool} → eqb (getD rows (i + 1) 0) 1 ≡ b → isNodeTree t ≡ not b
   mark-here {b} h =
       sym (ap not (sym h) ∙ ap (λ (n : ℕ). not (eqb n 1)) (sym (getD-drop i rows 1 0) ∙ ap (λ (l : List ℕ). getD l 1 0) e) ∙ mark-first t r)
 
-size-token : (t : Tree) → isNodeTree t ≡ false → size t ≡ 1
+pub size-token : (t : Tree) → isNodeTree t ≡ false → size t ≡ 1
 unfolding size
 size-token (token k s) e = refl
 size-token (node k f) e = let z : _≡_ {A = ℕ} 0 1 = cc in absurd (omega arith)

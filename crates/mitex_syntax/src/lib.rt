@@ -1,15 +1,15 @@
 // Trees as rows: the kinds of elements, what the rows of an element say, and the typed views of syntax.rs. A node's rows and its
 // text are parts of the caller's tree file.
 ghost use mathlib.Core.Path.{_≡_};
-ghost use Prim.Native.Nat.{_+_, _%_, _≤_, _<_};
+ghost use Prim.Native.Nat.{_+_, _-_, _%_, _≤_, _<_};
 ghost use lib.ListN.{length, take, drop};
 ghost use Rattle.text.specs.Writing.{cap};
 ghost use Rattle.mitex_syntax.specs.Syntax.{ClauseArgument, isTrivia, isToken, isNode};
 ghost use Rattle.mitex_syntax.specs.Tree.{Tree, Forest, rowsOf, rowsOfs};
 ghost use Rattle.mitex_syntax.specs.Rows.{numOf, extentOf, tokenAt, tokenSum, Spans};
-ghost use Rattle.mitex_syntax.specs.Views.{isOf, isNodeTree, isArgumentWith, firstNode, kindIn, cmdName};
+ghost use Rattle.mitex_syntax.specs.Views.{isOf, isNodeTree, isArgumentWith, firstNode, kindIn, cmdName, firstTokens, lastTokens};
 ghost use Rattle.mitex_syntax.specs.Spells.{Begins, SomeRows, SomeElement, SomeForest};
-ghost use Rattle.mitex_syntax.specs.Places.{picks, Finds, InText, partAt};
+ghost use Rattle.mitex_syntax.specs.Places.{picks, Finds, InText, partAt, TokenIs, Hops};
 
 // ---- kinds, in the order in which the main match of `Converter::convert` names them
 
@@ -369,4 +369,85 @@ pub fn name_tok<'a>(rows: &[u8], text: &'a [u8]) -> &'a [u8]
     ensures { λ r. ⌜ ((f : Forest) → Begins f (now (rows .entry)) (now (text .entry)) → now r ≡ cmdName f) ⌝ }
 {
     text_at(text, find_kind(rows, text, CLAUSE_COMMAND_NAME))
+}
+
+// ---- tokens
+
+// The first token, following first children only.
+pub fn first_token(rows: &[u8], text: &[u8]) -> Token
+    requires { ⌜ SomeForest (now rows) (now text) 0 0 ⌝ }
+    ensures { λ r. ⌜ ((f : Forest) → Begins f (now (rows .entry)) (now (text .entry)) → TokenIs (firstTokens f) (now (text .entry)) r) ⌝ }
+{
+    let mut l = rows;
+    while 8 <= l.len() {
+        let n = number(l, 0);
+        if l[1] == 1 {
+            return Token {
+                kind: l[0],
+                from: 0,
+                to: n,
+            };
+        }
+        l = &l[8..8 + 8 * n];
+    }
+    Token {
+        kind: 0,
+        from: 0,
+        to: 0,
+    }
+}
+
+// A step on the way to the last token: over the element at `i`, or into it where it is the last.
+fn hop(rows: &[u8], i: usize) -> Span
+    requires { ⌜ Spans (now rows) i ⌝ }
+    ensures { λ r. ⌜ Hops (now (rows .entry)) i r ⌝ }
+{
+    let e = extent(rows, i);
+    if i + e < rows.len() {
+        return span_at(rows, i);
+    }
+    Span { rows: 8, text: 0 }
+}
+
+// The last token, following last children only.
+pub fn last_token(rows: &[u8], text: &[u8]) -> Token
+    requires { ⌜ SomeForest (now rows) (now text) 0 0 ⌝ }
+    ensures { λ r. ⌜ ((f : Forest) → Begins f (now (rows .entry)) (now (text .entry)) → TokenIs (lastTokens f) (now (text .entry)) r) ⌝ }
+{
+    let mut i = 0;
+    let mut j = 0;
+    while i < rows.len() {
+        if i + 8 == rows.len() {
+            if rows[i + 1] == 1 {
+                return Token {
+                    kind: rows[i],
+                    from: j,
+                    to: j + number(rows, i),
+                };
+            }
+            return Token {
+                kind: 0,
+                from: 0,
+                to: 0,
+            };
+        }
+        let s = hop(rows, i);
+        i += s.rows;
+        j += s.text;
+    }
+    Token {
+        kind: 0,
+        from: 0,
+        to: 0,
+    }
+}
+
+// The text of a token.
+pub fn token_text<'a>(text: &'a [u8], t: Token) -> &'a [u8]
+    requires { ⌜ (t .from ≤ t .to) × (t .to ≤ length (now text)) ⌝ }
+    ensures { λ r. ⌜ now r ≡ take (t .to - t .from) (drop (t .from) (now (text .entry))) ⌝ }
+{
+    let from = t.from;
+    let to = t.to;
+    &text[from..to]
 }
