@@ -16,7 +16,7 @@ use Rattle.mitex_syntax.specs.Syntax.{TokenError, ClauseArgument, ClauseCommand
 use Rattle.mitex_syntax.specs.Tree.{Tree, Forest, size, kindOf, textOf}
 use Rattle.mitex_syntax.specs.Tree.Tree.{token, node}
 use Rattle.mitex_syntax.specs.Tree.Forest.{none, more}
-use Rattle.mitex_syntax.specs.Views.{cmdName, firstOf, offsetOf, childrenIn, envName, beginOf, inner, isValid}
+use Rattle.mitex_syntax.specs.Views.{cmdName, firstOf, offsetOf, childrenIn, envName, beginOf, inner, isValid, firstBy}
 use Rattle.mitex_state.specs.Outcome.{Context, Carry, Outcome, Conv, Arm, after, andThen, closing, shift, flagged, labelled, labelMost}
 use Rattle.mitex_state.specs.Outcome.Label.{unheld}
 use Rattle.mitex_state.specs.Outcome.Outcome.{refused, done}
@@ -24,7 +24,7 @@ use Rattle.mitex_state.specs.Tokens.{space, symbolBy, tokenOut}
 use Rattle.mitex_state.specs.Children.{actOf, nextLoop, before, behind, converts, turn, each}
 use Rattle.mitex_state.specs.Groups.{children, formula, curlyIn, curlyGroup, clauseLr, attachComponent}
 use Rattle.mitex_state.specs.Colors.{Model, greedyModel, argumentModel, colored, withModel, colorAlias, bodyLoop, argumentsLoop}
-use Rattle.mitex_state.specs.Commands.{itemIn, labelNow, labelHeld, labelIn, typstName, greedy, argumentsOf, argumentsBy, stackEnv, written, normalBy, commandOf, commandBy}
+use Rattle.mitex_state.specs.Commands.{itemIn, labelNow, labelHeld, labelIn, typstName, isArgument, greedyIn, argumentsOf, argumentsBy, stackEnv, written, normalBy, commandOf, commandBy}
 use Rattle.mitex_state.specs.Tables.{lettersFit, hasEnds}
 use Rattle.mitex_state.specs.Environments.{Caption, absent, bare, caption, lastCaption, mathEnv, captioned, tableBy, takeLabel, envOf, plainEnv, envBody, isList, envBy}
 use Rattle.mitex_state.specs.Conversion.{elementOf, armBy, step, convert}
@@ -90,12 +90,10 @@ module _ (conv : Tree → Carry → Outcome) (keeps : (t : Tree) → Keeps (conv
       kept-andThen (each conv (o + size t) (nextLoop l (kindOf t) (actOf l t f)) f) (kept-shift o (keeps-turn (actOf l t f) t c))
       (keeps-each (o + size t) (nextLoop l (kindOf t) (actOf l t f)) f)
 
-  keeps-greedy : (o : ℕ) (f : Forest) → Keeps (greedy conv o f)
-  unfolding greedy
-  keeps-greedy o none c = stops tt
-  keeps-greedy o (more (token k s) f) c =
-      kept-cond (eqb k ClauseCommandName) (λ e. keeps-greedy (o + 1) f c) (stops tt)
-  keeps-greedy o (more (node k g) f) c = kept-between _ _ (kept-shift o (keeps-each 1 _ g c))
+  keeps-greedy : (o : ℕ) (t : Option Tree) → Keeps (greedyIn conv o t)
+  keeps-greedy o nothing c = stops tt
+  keeps-greedy o (some (token k s)) c = stops tt
+  keeps-greedy o (some (node k g)) c = kept-between _ _ (kept-shift o (keeps-each 1 _ g c))
 
 -- ---- tokens
 
@@ -189,7 +187,7 @@ module _ (conv : Conv) (h : KeepsConv conv) (x : Context) where
 
   keeps-arguments : (a : Arguments) (f : Forest) → Keeps (argumentsBy a conv x f)
   keeps-arguments NoArguments f c = goes (λ s. s)
-  keeps-arguments GreedyArgument f c = keeps-greedy (conv x) (h x) 1 f c
+  keeps-arguments GreedyArgument f c = keeps-greedy (conv x) (h x) _ (firstBy isArgument f) c
   keeps-arguments MathArguments f c = kept-between _ _ (keeps-each (conv x) (h x) 1 _ f c)
   keeps-arguments TextArguments f c = kept-closing _ (keeps-each (conv _) (h _) 1 _ f c)
 

@@ -15,14 +15,14 @@ use Rattle.mitex_syntax.specs.Syntax.{ClauseArgument, ClauseCommandName, ItemBe
 use Rattle.mitex_syntax.specs.Tree.{Tree, Forest, size, sizes, kindOf, textOf}
 use Rattle.mitex_syntax.specs.Tree.Tree.{token, node}
 use Rattle.mitex_syntax.specs.Tree.Forest.{none, more}
-use Rattle.mitex_syntax.specs.Views.{cmdName, firstOf, offsetOf, childrenIn, envName, beginOf, inner, isValid}
+use Rattle.mitex_syntax.specs.Views.{cmdName, firstOf, offsetOf, childrenIn, envName, beginOf, inner, isValid, firstBy}
 use Rattle.mitex_syntax.proofs.Trees.{size-some, size-node, size-more}
 use Rattle.mitex_state.specs.Outcome.{Context, Carry, Outcome, Conv, Arm, after, andThen, closing, shift, inMode, inEnv, flagged}
 use Rattle.mitex_state.specs.Outcome.Outcome.{refused, done}
 use Rattle.mitex_state.specs.Children.{actOf, nextLoop, before, behind, converts, turn, each}
 use Rattle.mitex_state.specs.Groups.{groupEnv, curlyIn, clauseLr}
 use Rattle.mitex_state.specs.Colors.{Model, greedyModel, argumentModel, colored, withModel, colorAlias, bodyLoop, argumentsLoop}
-use Rattle.mitex_state.specs.Commands.{greedy, typstName, argumentsOf, argumentsBy, stackEnv, normalBy, commandOf, commandBy}
+use Rattle.mitex_state.specs.Commands.{isArgument, greedyIn, typstName, argumentsOf, argumentsBy, stackEnv, normalBy, commandOf, commandBy}
 use Rattle.mitex_state.specs.Tables.{lettersFit, hasEnds}
 use Rattle.mitex_state.specs.Environments.{Caption, absent, bare, caption, lastCaption, mathEnv, captioned, tableBy, isList, takeLabel, envOf, envBody, envBy}
 use Rattle.mitex_state.specs.Conversion.{elementOf, armBy, step, convert}
@@ -42,7 +42,7 @@ use Rattle.mitex_state.specs.declared.Element.{Element}
 use Rattle.mitex_state.specs.declared.Element.the-variants.{Children, Formula, CurlyGroup, ClauseLr, AttachComponent, Silent, Environment, TypstCode, Unexpected, Token}
 use Rattle.mitex_state.specs.declared.Element.the-variants.{Command as ACommand}
 use Rattle.mitex_state.proofs.Outcomes.{andThen-same}
-use Rattle.mitex_state.proofs.Sizes.{Captions, captions-more, childrenIn-size, greedyModel-size, argumentModel-size, lastCaption-size}
+use Rattle.mitex_state.proofs.Sizes.{Captions, captions-more, childrenIn-size, greedyModel-size, argumentModel-size, lastCaption-size, Small, small-more, firstBy-size}
 
 -- ---- two meanings of elements that agree up to n rows
 
@@ -73,13 +73,10 @@ module _ (n : ℕ) (p q : Tree → Carry → Outcome) (agree : Same n p q) where
       (ap (shift o) (same-turn (actOf l t f) t c (omega arith)))
       (λ c′. same-each (o + size t) (nextLoop l (kindOf t) (actOf l t f)) f c′ (omega arith))
 
-  same-greedy : (o : ℕ) (f : Forest) (c : Carry) → sizes f ≤ n → greedy p o f c ≡ greedy q o f c
-  unfolding greedy
-  same-greedy o none c h = refl
-  same-greedy o (more (token k s) f) c h =
-      if-holds (eqb k ClauseCommandName) (refused 12 0) (same-greedy (o + 1) f c (omega (arith, size-more (token k s) f)))
-  same-greedy o (more (node k g) f) c h =
-      between _ _ (ap (shift o) (same-each 1 Greedy g c (omega (arith, size-more (node k g) f, size-node k g))))
+  same-greedy : (o : ℕ) (t : Option Tree) (c : Carry) → Small n t → greedyIn p o t c ≡ greedyIn q o t c
+  same-greedy o nothing c h = refl
+  same-greedy o (some (token k s)) c h = refl
+  same-greedy o (some (node k g)) c h = between _ _ (ap (shift o) (same-each 1 Greedy g c (omega (arith, size-node k g))))
 
 -- ---- the arms
 
@@ -116,7 +113,8 @@ module _ (n : ℕ) (conv conv′ : Conv) (agree : (x : Context) → Same n (conv
 
   same-arguments : (a : Arguments) → SameArm (argumentsBy a)
   same-arguments NoArguments x f c h = refl
-  same-arguments GreedyArgument x f c h = same-greedy n (conv x) (conv′ x) (agree x) 1 f c h
+  same-arguments GreedyArgument x f c h =
+      same-greedy n (conv x) (conv′ x) (agree x) _ (firstBy isArgument f) c (small-more (sizes f) (firstBy isArgument f) h (firstBy-size isArgument f))
   same-arguments MathArguments x f c h = between _ _ (loops x 1 _ f c h)
   same-arguments TextArguments x f c h = ap (closing _) (loops (inMode Text x) 1 _ f c h)
 

@@ -4,13 +4,12 @@ use mathlib.Core.Option.{Option}
 use mathlib.Core.Option.Option.{none as nothing, some}
 use Prim.Native.Nat.{ℕ, _+_, _≤_}
 use native.Mathlib.Omega.{arith}
-use lib.Dec.{eqb}
-use Rattle.mitex_syntax.specs.Syntax.{ClauseArgument, TokenLBracket, TokenRBracket, isTrivia}
-use Rattle.mitex_syntax.specs.Tree.{Tree, Forest, size, sizes, kindOf, textOf}
+use Rattle.mitex_syntax.specs.Syntax.{ClauseArgument, TokenLBracket, TokenRBracket}
+use Rattle.mitex_syntax.specs.Tree.{Tree, Forest, size, sizes, textOf}
 use Rattle.mitex_syntax.specs.Tree.Forest.{none, more}
-use Rattle.mitex_syntax.specs.Views.{childrenOf, childrenIn, firstBy, firstOf}
+use Rattle.mitex_syntax.specs.Views.{childrenOf, childrenIn, firstBy, offsetBy, fromBy, isOf, isSolid, firstOf}
 use Rattle.mitex_syntax.proofs.Trees.{size-more, size-children}
-use Rattle.mitex_state.specs.Colors.{Rest, Model, rest, pastTrivia, past, seek, bracketModel, greedyModel, isModel, firstModel, argumentModel}
+use Rattle.mitex_state.specs.Colors.{Rest, Model, rest, past, pastFirst, seek, bracketModel, greedyModel, isModel, firstModel, argumentModel}
 use Rattle.mitex_state.specs.Environments.{Caption, absent, bare, caption, isCaption, captionAt, orLater, lastCaption}
 
 -- what holds of both is what a choice is
@@ -25,7 +24,7 @@ abbrev pub Small : ℕ → Option Tree → Type 0
 Small n nothing = Unit {0}
 Small n (some t) = size t ≤ n
 
-small-more : (n : ℕ) (o : Option Tree) {m : ℕ} → n ≤ m → Small n o → Small m o
+pub small-more : (n : ℕ) (o : Option Tree) {m : ℕ} → n ≤ m → Small n o → Small m o
 small-more n nothing h s = tt
 small-more n (some t) h s = omega arith
 
@@ -50,45 +49,46 @@ childrenIn-size k f = children-size (sizes f) (firstOf k f) (firstBy-size _ f)
 abbrev Within : ℕ → Rest → Type 0
 Within n r = sizes (r .elements) ≤ n
 
-pub pastTrivia-size : (o : ℕ) (f : Forest) → sizes (pastTrivia o f .elements) ≤ sizes f
-unfolding pastTrivia
-pastTrivia-size o none = omega arith
-pastTrivia-size o (more t f) =
-    by-cases (Within (sizes (more t f))) (isTrivia (kindOf t)) (pastTrivia (o + size t) f) (rest o (more t f))
-    (omega (arith, size-more t f, pastTrivia-size (o + size t) f)) (omega arith)
+pub fromBy-size : (p : Tree → Bool) (f : Forest) → sizes (fromBy p f) ≤ sizes f
+unfolding fromBy
+fromBy-size p none = omega arith
+fromBy-size p (more t f) =
+    by-cases (λ (g : Forest). sizes g ≤ sizes (more t f)) (p t) (more t f) (fromBy p f) (omega arith)
+    (omega (arith, size-more t f, fromBy-size p f))
 
-pub past-size : (k o : ℕ) (f : Forest) → sizes (past k o f .elements) ≤ sizes f
-unfolding past
-past-size k o none = omega arith
-past-size k o (more t f) =
-    by-cases (Within (sizes (more t f))) (eqb (kindOf t) k) (rest (o + size t) f) (past k (o + size t) f)
-    (omega (arith, size-more t f)) (omega (arith, size-more t f, past-size k (o + size t) f))
-
-pub seek-size : (k o : ℕ) (f : Forest) → sizes (seek k o f .elements) ≤ sizes f
-unfolding seek
-seek-size k o none = omega arith
-seek-size k o (more t f) =
-    by-cases (Within (sizes (more t f))) (eqb (kindOf t) k) (rest o (more t f)) (seek k (o + size t) f)
-    (omega arith) (omega (arith, size-more t f, seek-size k (o + size t) f))
+past-size : (o : ℕ) (f : Forest) → sizes (past o f .elements) ≤ sizes f
+past-size o none = omega arith
+past-size o (more t f) = omega (arith, size-more t f)
 
 bracketModel-size : (o : ℕ) (f : Forest) → sizes (bracketModel o f .behind .elements) ≤ sizes f
 bracketModel-size o none = omega arith
 bracketModel-size o (more t f) =
-    let r = past TokenRBracket (o + size t) f in
-    by-cases (λ (m : Model). Within (sizes (more t f)) (m .behind)) (eqb (kindOf t) TokenLBracket) _ _
-    (omega (arith, size-more t f, past-size TokenRBracket (o + size t) f, pastTrivia-size (r .rows) (r .elements))) (omega arith)
+    let r = seek (isOf TokenRBracket) (rest (o + size t) f) in
+    by-cases (λ (m : Model). Within (sizes (more t f)) (m .behind)) (isOf TokenLBracket t) _ _
+    (omega (
+      arith,
+      size-more t f,
+      fromBy-size (isOf TokenRBracket) f,
+      past-size (r .rows) (r .elements),
+      fromBy-size isSolid (pastFirst r .elements),
+    )) (omega arith)
 
 pub greedyModel-size : (o : ℕ) (f : Forest) → sizes (greedyModel o f .behind .elements) ≤ sizes f
-greedyModel-size o f = omega (arith, pastTrivia-size o f, bracketModel-size (pastTrivia o f .rows) (pastTrivia o f .elements))
+greedyModel-size o f = omega (arith, fromBy-size isSolid f, bracketModel-size (o + offsetBy isSolid f) (fromBy isSolid f))
 
 firstModel-size : (o : ℕ) (f : Forest) → sizes (firstModel o f .behind .elements) ≤ sizes f
 firstModel-size o none = omega arith
 firstModel-size o (more t f) =
     by-cases (λ (m : Model). Within (sizes (more t f)) (m .behind)) (isModel (textOf t)) _ _
-    (omega (arith, size-more t f, seek-size ClauseArgument (o + size t) f)) (omega arith)
+    (omega (arith, size-more t f, fromBy-size (isOf ClauseArgument) f)) (omega arith)
 
 pub argumentModel-size : (o : ℕ) (f : Forest) → sizes (argumentModel o f .behind .elements) ≤ sizes f
-argumentModel-size o f = omega (arith, seek-size ClauseArgument o f, firstModel-size (seek ClauseArgument o f .rows) (seek ClauseArgument o f .elements))
+argumentModel-size o f =
+    omega (
+      arith,
+      fromBy-size (isOf ClauseArgument) f,
+      firstModel-size (o + offsetBy (isOf ClauseArgument) f) (fromBy (isOf ClauseArgument) f),
+    )
 
 -- ---- captions
 

@@ -6,14 +6,14 @@ use mathlib.Core.Option.Option.{none as nothing, some}
 use mathlib.Core.List.{List, [], _∷_, _++_}
 use Prim.Native.Nat.{ℕ, _+_}
 use lib.ListN.{length}
-use lib.Dec.{eqb, leb}
+use lib.Dec.{leb}
 use Rattle.text.specs.Ascii.{ascii}
 use Rattle.text.specs.Compare.{startsWith, endsWith}
 use Rattle.mitex_spec.specs.Rules.{Rule, aliasOr}
-use Rattle.mitex_syntax.specs.Syntax.{ClauseArgument, TokenLBracket, TokenRBracket, isTrivia}
-use Rattle.mitex_syntax.specs.Tree.{Tree, Forest, size, kindOf, textOf}
+use Rattle.mitex_syntax.specs.Syntax.{ClauseArgument, TokenLBracket, TokenRBracket}
+use Rattle.mitex_syntax.specs.Tree.{Tree, Forest, size, textOf, textsOf}
 use Rattle.mitex_syntax.specs.Tree.Forest.{none, more}
-use Rattle.mitex_syntax.specs.Views.{childrenOf, inner}
+use Rattle.mitex_syntax.specs.Views.{offsetBy, beforeBy, fromBy, isOf, isSolid, inner}
 use Rattle.mitex_state.specs.Outcome.{Context, Carry, Outcome, Conv, after, andThen, closing, shift, inMode}
 use Rattle.mitex_state.specs.Outcome.Outcome.{refused, done}
 use Rattle.mitex_state.specs.Children.{each}
@@ -22,7 +22,7 @@ use Rattle.mitex_state.specs.declared.LaTeXMode.the-variants.{Text, Math
 use Rattle.mitex_state.specs.declared.Loop.{Loop}
 use Rattle.mitex_state.specs.declared.Loop.the-variants.{Plain, Dollars, Arguments}
 
--- the elements from some place on: how many rows below the command the first of them stands, and they
+-- elements, and how many rows below the command the first of them stands
 pub record Rest : Type 0 where
   pub rows : ℕ
   pub elements : Forest
@@ -30,25 +30,17 @@ pub record Rest : Type 0 where
 abbrev pub rest : ℕ → Forest → Rest
 rest o f = record { rows = o; elements = f }
 
--- past the trivia
-unfoldable pub pastTrivia : ℕ → Forest → Rest
-pastTrivia o none = rest o none
-pastTrivia o (more t f) = cond (isTrivia (kindOf t)) (pastTrivia (o + size t) f) (rest o (more t f))
+-- from the first element on that a test picks
+abbrev pub seek : (Tree → Bool) → Rest → Rest
+seek p r = rest (r .rows + offsetBy p (r .elements)) (fromBy p (r .elements))
 
--- past the first element of a kind
-unfoldable pub past : ℕ → ℕ → Forest → Rest
-past k o none = rest o none
-past k o (more t f) = cond (eqb (kindOf t) k) (rest (o + size t) f) (past k (o + size t) f)
+-- past the first element
+abbrev pub past : ℕ → Forest → Rest
+past o none = rest o none
+past o (more t f) = rest (o + size t) f
 
--- from the first element of a kind on
-unfoldable pub seek : ℕ → ℕ → Forest → Rest
-seek k o none = rest o none
-seek k o (more t f) = cond (eqb (kindOf t) k) (rest o (more t f)) (seek k (o + size t) f)
-
--- the text up to the first element of a kind, or to the end
-unfoldable pub textTo : ℕ → Forest → List ℕ
-textTo k none = []
-textTo k (more t f) = cond (eqb (kindOf t) k) [] (textOf t ++ textTo k f)
+abbrev pub pastFirst : Rest → Rest
+pastFirst r = past (r .rows) (r .elements)
 
 -- what is written for a model, and the elements behind it
 pub record Model : Type 0 where
@@ -69,13 +61,15 @@ noModel = ascii "none, "
 abbrev pub bracketModel : ℕ → Forest → Model
 bracketModel o none = model noModel (rest o none)
 bracketModel o (more t f) =
-    cond (eqb (kindOf t) TokenLBracket)
-    (model (inModel (textTo TokenRBracket f))
-    (pastTrivia (past TokenRBracket (o + size t) f .rows) (past TokenRBracket (o + size t) f .elements)))
+    cond (isOf TokenLBracket t)
+    (model (inModel (textsOf (beforeBy (isOf TokenRBracket) f))) (seek isSolid (pastFirst (seek (isOf TokenRBracket) (rest (o + size t) f)))))
     (model noModel (rest o (more t f)))
 
+abbrev pub modelIn : Rest → Model
+modelIn r = bracketModel (r .rows) (r .elements)
+
 abbrev pub greedyModel : ℕ → Forest → Model
-greedyModel o f = bracketModel (pastTrivia o f .rows) (pastTrivia o f .elements)
+greedyModel o f = modelIn (seek isSolid (rest o f))
 
 -- `\textcolor` and `\colorbox`: the first argument is a model if its text begins with `[` and ends with `]`
 abbrev pub isModel : List ℕ → Bool
@@ -85,11 +79,14 @@ abbrev pub firstModel : ℕ → Forest → Model
 firstModel o none = model noModel (rest o none)
 firstModel o (more t f) =
     cond (isModel (textOf t))
-    (model (inModel (inner (textOf t))) (seek ClauseArgument (o + size t) f))
+    (model (inModel (inner (textOf t))) (seek (isOf ClauseArgument) (rest (o + size t) f)))
     (model noModel (rest o (more t f)))
 
+abbrev pub modelFirst : Rest → Model
+modelFirst r = firstModel (r .rows) (r .elements)
+
 abbrev pub argumentModel : ℕ → Forest → Model
-argumentModel o f = firstModel (seek ClauseArgument o f .rows) (seek ClauseArgument o f .elements)
+argumentModel o f = modelFirst (seek (isOf ClauseArgument) (rest o f))
 
 -- ---- what is written
 

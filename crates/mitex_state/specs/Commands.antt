@@ -16,7 +16,7 @@ use Rattle.mitex_syntax.specs.Syntax.{ClauseArgument, ClauseCommandName}
 use Rattle.mitex_syntax.specs.Tree.{Tree, Forest, size, kindOf, textOf}
 use Rattle.mitex_syntax.specs.Tree.Tree.{token, node}
 use Rattle.mitex_syntax.specs.Tree.Forest.{none, more}
-use Rattle.mitex_syntax.specs.Views.{cmdName, firstOf, offsetOf, textIn, childrenIn, inner}
+use Rattle.mitex_syntax.specs.Views.{firstBy, offsetBy, isOther, cmdName, firstOf, offsetOf, textIn, childrenIn, inner}
 use Rattle.mitex_state.specs.Outcome.{Context, Carry, Outcome, Conv, Arm, after, closing, shift, inMode, inEnv, labelled, labelMost}
 use Rattle.mitex_state.specs.Outcome.Label.{unheld, held}
 use Rattle.mitex_state.specs.Outcome.Outcome.{refused, done}
@@ -101,10 +101,16 @@ typstName Text name written =
 typstName Math name written = written
 
 -- class 1: the first child that is no command name must be a node; its children are converted, not itself
-unfoldable pub greedy : (Tree → Carry → Outcome) → ℕ → Forest → Carry → Outcome
-greedy conv o none c = refused 12 0
-greedy conv o (more (token k s) f) c = cond (eqb k ClauseCommandName) (greedy conv (o + 1) f c) (refused 12 0)
-greedy conv o (more (node k g) f) c = after (ascii "(") (closing (ascii ")") (shift o (each conv 1 Greedy g c)))
+abbrev pub greedyIn : (Tree → Carry → Outcome) → ℕ → Option Tree → Carry → Outcome
+greedyIn conv o nothing c = refused 12 0
+greedyIn conv o (some (token k s)) c = refused 12 0
+greedyIn conv o (some (node k g)) c = after (ascii "(") (closing (ascii ")") (shift o (each conv 1 Greedy g c)))
+
+abbrev pub isArgument : Tree → Bool
+isArgument t = isOther ClauseCommandName t
+
+abbrev pub greedyArgument : Arm
+greedyArgument conv x f c = greedyIn (conv x) (1 + offsetBy isArgument f) (firstBy isArgument f) c
 
 -- class 2 in Math: as a function
 abbrev pub mathArguments : Arm
@@ -124,7 +130,7 @@ argumentsOf k m w = cond (eqb k 0) NoArguments (cond (eqb k 1) GreedyArgument (o
 
 abbrev pub argumentsBy : Arguments → Arm
 argumentsBy NoArguments conv x f c = done c (ascii " ")
-argumentsBy GreedyArgument conv x f c = greedy (conv x) 1 f c
+argumentsBy GreedyArgument conv x f c = greedyArgument conv x f c
 argumentsBy MathArguments conv x f c = mathArguments conv x f c
 argumentsBy TextArguments conv x f c = textArguments conv x f c
 

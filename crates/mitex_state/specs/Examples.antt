@@ -16,15 +16,13 @@ use Rattle.mitex_syntax.specs.Syntax.{ClauseArgument, ScopeRoot, ItemBracket, I
 use Rattle.mitex_syntax.specs.Tree.{Tree, Forest, size, textOf}
 use Rattle.mitex_syntax.specs.Tree.Tree.{token, node}
 use Rattle.mitex_syntax.specs.Tree.Forest.{none, more}
-use Rattle.mitex_syntax.specs.Views.{firstBy, offsetBy, firstToken, lastToken}
+use Rattle.mitex_syntax.specs.Views.{firstBy, offsetBy, beforeBy, fromBy, firstToken, lastToken}
 use Rattle.mitex_state.specs.Outcome.{Outcome}
 use Rattle.mitex_state.specs.Outcome.Outcome.{refused, done}
 use Rattle.mitex_state.specs.Tokens.{spaced, tokenOut}
 use Rattle.mitex_state.specs.Children.{othersFollow, turn, each}
 use Rattle.mitex_state.specs.Groups.{clauseLr}
 use Rattle.mitex_state.specs.Images.{split, stripped, optionsText}
-use Rattle.mitex_state.specs.Colors.{pastTrivia, past, seek, textTo}
-use Rattle.mitex_state.specs.Commands.{greedy}
 use Rattle.mitex_state.specs.Tables.{lettersFit, columns, alignments, vlines}
 use Rattle.mitex_state.specs.Environments.{lastCaption}
 use Rattle.mitex_state.specs.Conversion.{step, convert, levels, startContext, newCarry}
@@ -158,6 +156,6 @@ holds c = answers (convert levels (startContext (c .rules) (c .mode)) (over Scop
 
 -- whoever unfolds this unfolds all that a conversion computes by
 unfoldable pub hold : List Case → Bool
-unfolding convert step each turn tokenOut spaced clauseLr greedy split stripped optionsText pastTrivia past seek textTo othersFollow lettersFit columns alignments vlines lastCaption size textOf firstBy offsetBy firstToken lastToken get same startsWith endsWith digits chars concat skipWhite trimStart trimEnd trim
+unfolding convert step each turn tokenOut spaced clauseLr split stripped optionsText othersFollow lettersFit columns alignments vlines lastCaption size textOf firstBy offsetBy beforeBy fromBy firstToken lastToken get same startsWith endsWith digits chars concat skipWhite trimStart trimEnd trim
 hold [] = true
 hold (c ∷ cs) = holds c && hold cs

@@ -1,5 +1,5 @@
 -- The typed views of syntax.rs on trees: `CmdItem`, `EnvItem`, `FormulaItem` and what they find among the children of a node.
-use mathlib.Core.Bool.{Bool, true, false, _&&_, _||_, cond}
+use mathlib.Core.Bool.{Bool, true, false, _&&_, _||_, not, cond}
 use mathlib.Core.Option.{Option}
 use mathlib.Core.Option.Option.{none as nothing, some}
 use Prim.Native.Nat.{ℕ, _+_, _-_}
@@ -8,7 +8,7 @@ use lib.ListN.{length, take, drop}
 use lib.Dec.{eqb}
 use Rattle.text.specs.Ascii.{ascii}
 use Rattle.text.specs.Compare.{same}
-use Rattle.mitex_syntax.specs.Syntax.{ClauseArgument, ClauseCommandName, ItemBegin, TokenDollar, TokenBeginMath, TokenEndMath}
+use Rattle.mitex_syntax.specs.Syntax.{ClauseArgument, ClauseCommandName, ItemBegin, TokenDollar, TokenBeginMath, TokenEndMath, isTrivia}
 use Rattle.mitex_syntax.specs.Tree.{Tree, Forest, size, kindOf, textOf}
 use Rattle.mitex_syntax.specs.Tree.Tree.{token, node}
 use Rattle.mitex_syntax.specs.Tree.Forest.{none, more}
@@ -28,9 +28,24 @@ unfoldable pub allBy : (Tree → Bool) → Forest → Forest
 allBy p none = none
 allBy p (more t f) = cond (p t) (more t (allBy p f)) (allBy p f)
 
--- of a kind
+-- the elements before the first such child, and those from it on
+unfoldable pub beforeBy : (Tree → Bool) → Forest → Forest
+beforeBy p none = none
+beforeBy p (more t f) = cond (p t) none (more t (beforeBy p f))
+
+unfoldable pub fromBy : (Tree → Bool) → Forest → Forest
+fromBy p none = none
+fromBy p (more t f) = cond (p t) (more t f) (fromBy p f)
+
+-- of a kind, of any other, and no trivia
 abbrev pub isOf : ℕ → Tree → Bool
 isOf k t = eqb (kindOf t) k
+
+abbrev pub isOther : ℕ → Tree → Bool
+isOther k t = not (isOf k t)
+
+abbrev pub isSolid : Tree → Bool
+isSolid t = not (isTrivia (kindOf t))
 
 abbrev pub firstOf : ℕ → Forest → Option Tree
 firstOf k f = firstBy (isOf k) f
