@@ -12,9 +12,9 @@ use Rattle.text.specs.Compare.{same}
 use Rattle.utf8.specs.Chars.{isWhite}
 
 -- the test passes at every number below n
-abbrev every : (ℕ → Bool) → ℕ → Bool
-every p zero = true
-every p (suc n) = p n && every p n
+abbrev everyBelow : (ℕ → Bool) → ℕ → Bool
+everyBelow p zero = true
+everyBelow p (suc n) = p n && everyBelow p n
 
 same-bool : (a b : Bool) → Bool·beq a b ≡ true → a ≡ b
 same-bool true true e = refl
@@ -30,12 +30,12 @@ both-second : (a b : Bool) → (a && b) ≡ true → b ≡ true
 both-second true b e = e
 both-second false b e = absurd (let z : _≡_ {A = ℕ} 0 1 = cc in omega arith)
 
-every-at : (p : ℕ → Bool) (n : ℕ) → every p n ≡ true → (k : ℕ) → k < n → p k ≡ true
+every-at : (p : ℕ → Bool) (n : ℕ) → everyBelow p n ≡ true → (k : ℕ) → k < n → p k ≡ true
 every-at p zero e k h = absurd (omega arith)
 every-at p (suc n) e k h =
     let at : (t : Bool) → eqb k n ≡ t → p k ≡ true = λ t. elim t [
-      | true ↦ λ q. ap p (eqb-true k n q) ∙ both-first (p n) (every p n) e
-      | false ↦ λ q. every-at p n (both-second (p n) (every p n) e) k (let x = eqb-false k n q in omega arith)
+      | true ↦ λ q. ap p (eqb-true k n q) ∙ both-first (p n) (everyBelow p n) e
+      | false ↦ λ q. every-at p n (both-second (p n) (everyBelow p n) e) k (let x = eqb-false k n q in omega arith)
     ] in
     at (eqb k n) refl
 

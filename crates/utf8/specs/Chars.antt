@@ -12,7 +12,7 @@ use Rattle.utf8.specs.Utf8.{Char}
 
 -- the byte continues a character
 abbrev pub continues : ℕ → Bool
-continues b = leb 128 b && leb b 191
+continues b = leb 0x80 b && leb b 0xBF
 
 -- the text goes on with a byte that continues a character
 abbrev pub goesOn : List ℕ → Bool
@@ -58,17 +58,17 @@ AllChar (c ∷ cs) = Char c × AllChar cs
 -- Unicode's code points with the property: U+0009 to 000D, 0020, 0085, 00A0, 1680, 2000 to 200A, 2028, 2029, 202F, 205F, 3000
 abbrev pub whiteSpace : List ℕ
 whiteSpace =
-    9 ∷ 10 ∷ 11 ∷ 12 ∷ 13 ∷ 32 ∷ 133 ∷ 160 ∷ 5760
-    ∷ 8192 ∷ 8193 ∷ 8194 ∷ 8195 ∷ 8196 ∷ 8197 ∷ 8198 ∷ 8199 ∷ 8200 ∷ 8201 ∷ 8202
-    ∷ 8232 ∷ 8233 ∷ 8239 ∷ 8287 ∷ 12288 ∷ []
+    0x0009 ∷ 0x000A ∷ 0x000B ∷ 0x000C ∷ 0x000D ∷ 0x0020 ∷ 0x0085 ∷ 0x00A0 ∷ 0x1680
+    ∷ 0x2000 ∷ 0x2001 ∷ 0x2002 ∷ 0x2003 ∷ 0x2004 ∷ 0x2005 ∷ 0x2006 ∷ 0x2007 ∷ 0x2008 ∷ 0x2009 ∷ 0x200A
+    ∷ 0x2028 ∷ 0x2029 ∷ 0x202F ∷ 0x205F ∷ 0x3000 ∷ []
 
 -- the bytes of a code point (the table of the RFC's section 3)
 abbrev pub encode : ℕ → List ℕ
 encode n =
-    cond (ltb n 128) (n ∷ [])
-    (cond (ltb n 2048) ((192 + n / 64) ∷ (128 + n % 64) ∷ [])
-    (cond (ltb n 65536) ((224 + n / 4096) ∷ (128 + n / 64 % 64) ∷ (128 + n % 64) ∷ [])
-    ((240 + n / 262144) ∷ (128 + n / 4096 % 64) ∷ (128 + n / 64 % 64) ∷ (128 + n % 64) ∷ [])))
+    cond (ltb n 0x80) (n ∷ [])
+    (cond (ltb n 0x800) ((0xC0 + n / 64) ∷ (0x80 + n % 64) ∷ [])
+    (cond (ltb n 0x10000) ((0xE0 + n / 4096) ∷ (0x80 + n / 64 % 64) ∷ (0x80 + n % 64) ∷ [])
+    ((0xF0 + n / 262144) ∷ (0x80 + n / 4096 % 64) ∷ (0x80 + n / 64 % 64) ∷ (0x80 + n % 64) ∷ [])))
 
 -- the bytes are one of these texts
 abbrev pub among : List (List ℕ) → List ℕ → Bool

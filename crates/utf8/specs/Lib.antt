@@ -1,3 +1,4 @@
 pub mod Utf8
 pub mod Chars
 pub mod Trim
+pub mod Examples

@@ -15,19 +15,19 @@ pub record Between (a b x : ℕ) : Type 0 where
 
 -- UTF8-tail = %x80-BF
 abbrev pub Tail : ℕ → Type 0
-Tail x = Between 128 191 x
+Tail x = Between 0x80 0xBF x
 
 -- UTF8-char = UTF8-1 / UTF8-2 / UTF8-3 / UTF8-4, each line by line
 pub data Char : List ℕ → Type 0 where
-  one : {a : ℕ} → Between 0 127 a → Char (a ∷ [])
-  two : {a b : ℕ} → Between 194 223 a → Tail b → Char (a ∷ b ∷ [])
-  three-e0 : {b c : ℕ} → Between 160 191 b → Tail c → Char (224 ∷ b ∷ c ∷ [])
-  three-e1 : {a b c : ℕ} → Between 225 236 a → Tail b → Tail c → Char (a ∷ b ∷ c ∷ [])
-  three-ed : {b c : ℕ} → Between 128 159 b → Tail c → Char (237 ∷ b ∷ c ∷ [])
-  three-ee : {a b c : ℕ} → Between 238 239 a → Tail b → Tail c → Char (a ∷ b ∷ c ∷ [])
-  four-f0 : {b c d : ℕ} → Between 144 191 b → Tail c → Tail d → Char (240 ∷ b ∷ c ∷ d ∷ [])
-  four-f1 : {a b c d : ℕ} → Between 241 243 a → Tail b → Tail c → Tail d → Char (a ∷ b ∷ c ∷ d ∷ [])
-  four-f4 : {b c d : ℕ} → Between 128 143 b → Tail c → Tail d → Char (244 ∷ b ∷ c ∷ d ∷ [])
+  one : {a : ℕ} → Between 0x00 0x7F a → Char (a ∷ [])
+  two : {a b : ℕ} → Between 0xC2 0xDF a → Tail b → Char (a ∷ b ∷ [])
+  three-e0 : {b c : ℕ} → Between 0xA0 0xBF b → Tail c → Char (0xE0 ∷ b ∷ c ∷ [])
+  three-e1 : {a b c : ℕ} → Between 0xE1 0xEC a → Tail b → Tail c → Char (a ∷ b ∷ c ∷ [])
+  three-ed : {b c : ℕ} → Between 0x80 0x9F b → Tail c → Char (0xED ∷ b ∷ c ∷ [])
+  three-ee : {a b c : ℕ} → Between 0xEE 0xEF a → Tail b → Tail c → Char (a ∷ b ∷ c ∷ [])
+  four-f0 : {b c d : ℕ} → Between 0x90 0xBF b → Tail c → Tail d → Char (0xF0 ∷ b ∷ c ∷ d ∷ [])
+  four-f1 : {a b c d : ℕ} → Between 0xF1 0xF3 a → Tail b → Tail c → Tail d → Char (a ∷ b ∷ c ∷ d ∷ [])
+  four-f4 : {b c d : ℕ} → Between 0x80 0x8F b → Tail c → Tail d → Char (0xF4 ∷ b ∷ c ∷ d ∷ [])
 
 -- UTF8-octets = *( UTF8-char )
 pub data Text : List ℕ → Type 0 where
@@ -38,14 +38,14 @@ pub data Text : List ℕ → Type 0 where
 
 -- document 01's length of a character by its first byte; 0 is invalid
 abbrev pub lengthBy : ℕ → ℕ
-lengthBy b = cond (leb b 127) 1 (cond (leb b 193) 0 (cond (leb b 223) 2 (cond (leb b 239) 3 (cond (leb b 244) 4 0))))
+lengthBy b = cond (leb b 0x7F) 1 (cond (leb b 0xC1) 0 (cond (leb b 0xDF) 2 (cond (leb b 0xEF) 3 (cond (leb b 0xF4) 4 0))))
 
 -- what the second byte lies between: E0 and F0 bar overlong forms, ED surrogates, F4 what is above 10FFFF
 abbrev pub secondLow : ℕ → ℕ
-secondLow b = cond (eqb b 224) 160 (cond (eqb b 240) 144 128)
+secondLow b = cond (eqb b 0xE0) 0xA0 (cond (eqb b 0xF0) 0x90 0x80)
 
 abbrev pub secondHigh : ℕ → ℕ
-secondHigh b = cond (eqb b 237) 159 (cond (eqb b 244) 143 191)
+secondHigh b = cond (eqb b 0xED) 0x9F (cond (eqb b 0xF4) 0x8F 0xBF)
 
 -- a place in a text: how many bytes of the character are to come, and what the next lies between
 abbrev pub state : ℕ → ℕ → ℕ → State
@@ -53,7 +53,7 @@ state m a b = record { more = m; low = a; high = b }
 
 -- between two characters
 abbrev pub whole : State
-whole = state 0 128 191
+whole = state 0 0x80 0xBF
 
 -- no byte leads on from here
 abbrev pub dead : State
@@ -65,7 +65,7 @@ begun b = cond (eqb (lengthBy b) 0) dead (state (lengthBy b - 1) (secondLow b) (
 
 -- after one byte more
 abbrev pub step : State → ℕ → State
-step u b = cond (eqb (u .more) 0) (begun b) (cond (leb (u .low) b && leb b (u .high)) (state (u .more - 1) 128 191) dead)
+step u b = cond (eqb (u .more) 0) (begun b) (cond (leb (u .low) b && leb b (u .high)) (state (u .more - 1) 0x80 0xBF) dead)
 
 unfoldable pub run : State → List ℕ → State
 run u [] = u

@@ -19,19 +19,19 @@ pub struct State {
 pub fn length_by(b: u8) -> u8
     ensures { λ r. ⌜ r ≡ lengthBy b ⌝ }
 {
-    if b <= 127 {
+    if b <= 0x7F {
         return 1;
     }
-    if b <= 193 {
+    if b <= 0xC1 {
         return 0;
     }
-    if b <= 223 {
+    if b <= 0xDF {
         return 2;
     }
-    if b <= 239 {
+    if b <= 0xEF {
         return 3;
     }
-    if b <= 244 {
+    if b <= 0xF4 {
         return 4;
     }
     0
@@ -41,26 +41,26 @@ pub fn length_by(b: u8) -> u8
 fn second_low(b: u8) -> u8
     ensures { λ r. ⌜ r ≡ secondLow b ⌝ }
 {
-    if b == 224 {
-        return 160;
+    if b == 0xE0 {
+        return 0xA0;
     }
-    if b == 240 {
-        return 144;
+    if b == 0xF0 {
+        return 0x90;
     }
-    128
+    0x80
 }
 
 // The greatest second byte: after ED what is higher is a surrogate, after F4 above 10FFFF.
 fn second_high(b: u8) -> u8
     ensures { λ r. ⌜ r ≡ secondHigh b ⌝ }
 {
-    if b == 237 {
-        return 159;
+    if b == 0xED {
+        return 0x9F;
     }
-    if b == 244 {
-        return 143;
+    if b == 0xF4 {
+        return 0x8F;
     }
-    191
+    0xBF
 }
 
 // The state after a first byte.
@@ -93,8 +93,8 @@ fn step(u: State, b: u8) -> State
         if b <= u.high {
             return State {
                 more: u.more - 1,
-                low: 128,
-                high: 191,
+                low: 0x80,
+                high: 0xBF,
             };
         }
     }
@@ -111,8 +111,8 @@ pub fn valid(s: &[u8]) -> bool
 {
     let mut u = State {
         more: 0,
-        low: 128,
-        high: 191,
+        low: 0x80,
+        high: 0xBF,
     };
     let mut i = 0;
     while i < s.len() {
@@ -126,7 +126,7 @@ pub fn valid(s: &[u8]) -> bool
 pub fn continues(b: u8) -> bool
     ensures { λ r. ⌜ r ≡ continues b ⌝ }
 {
-    128 <= b && b <= 191
+    0x80 <= b && b <= 0xBF
 }
 
 // How many bytes the first character has: up to the next byte that continues none.
@@ -165,47 +165,47 @@ fn last_at(s: &[u8]) -> usize
 fn white_one(a: u8) -> bool
     ensures { λ r. ⌜ r ≡ isWhite (a ∷ []) ⌝ }
 {
-    if a <= 13 {
-        return 9 <= a;
+    if a <= 0x0D {
+        return 0x09 <= a;
     }
-    a == 32
+    a == 0x20
 }
 
 // U+0085 and 00A0.
 fn white_two(a: u8, b: u8) -> bool
     ensures { λ r. ⌜ r ≡ isWhite (a ∷ b ∷ []) ⌝ }
 {
-    a == 194 && (b == 133 || b == 160)
+    a == 0xC2 && (b == 0x85 || b == 0xA0)
 }
 
 // U+2000 to 200A, 2028, 2029 and 202F, by their third byte.
 fn white_20(c: u8) -> bool
-    ensures { λ r. ⌜ r ≡ isWhite (226 ∷ 128 ∷ c ∷ []) ⌝ }
+    ensures { λ r. ⌜ r ≡ isWhite (0xE2 ∷ 0x80 ∷ c ∷ []) ⌝ }
 {
-    if c <= 138 {
-        return 128 <= c;
+    if c <= 0x8A {
+        return 0x80 <= c;
     }
-    if c <= 169 {
-        return 168 <= c;
+    if c <= 0xA9 {
+        return 0xA8 <= c;
     }
-    c == 175
+    c == 0xAF
 }
 
 // U+1680, those of 20xx, 205F and 3000.
 fn white_three(a: u8, b: u8, c: u8) -> bool
     ensures { λ r. ⌜ r ≡ isWhite (a ∷ b ∷ c ∷ []) ⌝ }
 {
-    if a == 226 {
-        if b == 128 {
+    if a == 0xE2 {
+        if b == 0x80 {
             return white_20(c);
         }
-        return b == 129 && c == 159;
+        return b == 0x81 && c == 0x9F;
     }
-    if a == 225 {
-        return b == 154 && c == 128;
+    if a == 0xE1 {
+        return b == 0x9A && c == 0x80;
     }
-    if a == 227 {
-        return b == 128 && c == 128;
+    if a == 0xE3 {
+        return b == 0x80 && c == 0x80;
     }
     false
 }
