@@ -2,6 +2,7 @@
 -- from here on, and what is looked for among all is what is looked for among these.
 use mathlib.Core.Path.{_≡_, refl, sym, ap, _∙_}
 use mathlib.Core.Bool.{Bool, true, false, _&&_, not, cond}
+use mathlib.Core.Option.{Option}
 use mathlib.Core.Option.Option.{none as nothing, some}
 use mathlib.Core.List.{List, [], _++_, append-nil}
 use Prim.Native.Nat.{ℕ, _+_, _*_, _-_, _≤_, _<_}
@@ -11,12 +12,12 @@ use lib.Dec.{eqb}
 use lib.ListN.{length, take, drop, getD, length-append, length-drop}
 use lib.Seq.{drop-at, drop-drop, getD-drop, take-all}
 use Rattle.text.specs.Writing.{cap}
-use Rattle.mitex_syntax.specs.Syntax.{ClauseArgument}
+use Rattle.mitex_syntax.specs.Syntax.{ClauseArgument, isTrivia}
 use Rattle.mitex_syntax.specs.Tree.{Tree, Forest, size, sizes, rowsOf, rowsOfs, kindOf}
 use Rattle.mitex_syntax.specs.Tree.Tree.{token, node}
 use Rattle.mitex_syntax.specs.Tree.Forest.{none, more}
 use Rattle.mitex_syntax.specs.Rows.{extentOf, tokenSum}
-use Rattle.mitex_syntax.specs.Views.{firstBy, offsetBy, allBy, isOf, isNodeTree, isArgumentWith, firstNode, childrenOf, kindIn}
+use Rattle.mitex_syntax.specs.Views.{firstBy, offsetBy, allBy, fromBy, isOf, isOther, isSolid, isNodeTree, isArgumentWith, firstNode, childrenOf, kindIn}
 use Rattle.mitex_syntax.specs.Spells.{Begins}
 use Rattle.mitex_syntax.specs.Places.{Stands}
 use Rattle.mitex_syntax.proofs.Trees.{length-rows, size-some, size-more, left, no-left, getD-here, Element, element, rows-e, text-n, part-spells, past}
@@ -112,6 +113,12 @@ module _ (t : Tree) (rows : List ℕ) (e : rows ≡ rowsOf t) where
   pub wanted-kind : (k : ℕ) → eqb (getD rows 0 0) k ≡ isOf k t
   wanted-kind k = ap (λ (n : ℕ). eqb n k) (kind-here rows 0 t [] (e ∙ sym (append-nil (rowsOf t))))
 
+  pub wanted-any-other : (k : ℕ) → not (eqb (getD rows 0 0) k) ≡ isOther k t
+  wanted-any-other k = ap not (wanted-kind k)
+
+  pub wanted-solid : not (isTrivia (getD rows 0 0)) ≡ isSolid t
+  wanted-solid = ap (λ (n : ℕ). not (isTrivia n)) (kind-here rows 0 t [] (e ∙ sym (append-nil (rowsOf t))))
+
   pub wanted-node : not (eqb (getD rows 1 0) 1) ≡ isNodeTree t
   wanted-node = sym (mark-here rows 0 t [] (e ∙ sym (append-nil (rowsOf t))) refl)
 
@@ -126,6 +133,26 @@ module _ (t : Tree) (rows : List ℕ) (e : rows ≡ rowsOf t) where
   pub wanted-other : (k : ℕ) → (getD rows 0 0 ≡ ClauseArgument → ⊥) → false ≡ isArgumentWith k t
   wanted-other k h = ap (λ (b : Bool). b && eqb (kindIn (firstNode (childrenOf t))) k) (sym (ne-eqb _ _ h) ∙ wanted-kind ClauseArgument)
 
+-- ---- where nothing was found
+
+none-some : (b : Bool) (t : Tree) (o : Option Tree) → cond b (some t) o ≡ nothing → (b ≡ false) × (o ≡ nothing)
+none-some true t o e = let z : _≡_ {A = ℕ} 0 1 = cc in absurd (omega arith)
+none-some false t o e = (refl, e)
+
+pub offset-none : (p : Tree → Bool) (f : Forest) → firstBy p f ≡ nothing → offsetBy p f ≡ sizes f
+unfolding firstBy offsetBy size
+offset-none p none e = refl
+offset-none p (more t f) e =
+    let h = none-some (p t) t (firstBy p f) e in
+    ap (λ (b : Bool). cond b 0 (size t + offsetBy p f)) (h .0) ∙ ap (λ (n : ℕ). size t + n) (offset-none p f (h .1))
+
+pub from-none : (p : Tree → Bool) (f : Forest) → firstBy p f ≡ nothing → fromBy p f ≡ none
+unfolding firstBy fromBy
+from-none p none e = refl
+from-none p (more t f) e =
+    let h = none-some (p t) t (firstBy p f) e in
+    ap (λ (b : Bool). cond b (more t f) (fromBy p f)) (h .0) ∙ from-none p f (h .1)
+
 -- ---- the loop over the children
 
 pub record Seeks (p : Tree → Bool) (f : Forest) (rows text : List ℕ) (i₀ i j : ℕ) : Type 0 where
@@ -133,11 +160,12 @@ pub record Seeks (p : Tree → Bool) (f : Forest) (rows text : List ℕ) (i₀ i
   pub begins : Begins forest (drop i rows) (drop j text)
   pub first : firstBy p f ≡ firstBy p forest
   pub all : allBy p f ≡ allBy p forest
+  pub from : fromBy p f ≡ fromBy p forest
   pub row : i₀ + 8 * offsetBy p f ≡ i + 8 * offsetBy p forest
   pub fits : sizes forest ≤ sizes f
 
 pub seek-start : (p : Tree → Bool) (f : Forest) (rows text : List ℕ) (i j : ℕ) → Begins f (drop i rows) (drop j text) → Seeks p f rows text i i j
-seek-start p f rows text i j sp = record { forest = f; begins = sp; first = refl; all = refl; row = refl; fits = omega arith }
+seek-start p f rows text i j sp = record { forest = f; begins = sp; first = refl; all = refl; from = refl; row = refl; fits = omega arith }
 
 module _ {p : Tree → Bool} {f : Forest} {rows text : List ℕ} {i₀ i j : ℕ} (s : Seeks p f rows text i₀ i j) where
   module _ (h : i < length rows) (hj : j ≤ length text) (few : length rows < cap) (short : length text < cap) where
@@ -153,7 +181,7 @@ module _ {p : Tree → Bool} {f : Forest} {rows text : List ℕ} {i₀ i j : ℕ
       here = told (seek-element .tree) (part-spells seek-element e n is-e is-n .rows-are)
 
       pub seek-found : b ≡ true → Stands p f rows text i₀ i (i + e) j (j + n)
-      unfolding firstBy offsetBy allBy
+      unfolding firstBy offsetBy allBy fromBy
       seek-found picked =
           let x = seek-element in
           let t = x .tree in
@@ -177,10 +205,11 @@ module _ {p : Tree → Bool} {f : Forest} {rows text : List ℕ} {i₀ i j : ℕ
             others = g;
             past = past x e n is-e is-n;
             all = s .all ∙ ap (allBy p) (x .is) ∙ ap (λ (c : Bool). cond c (more t (allBy p g)) (allBy p g)) pt;
+            from = s .from ∙ ap (fromBy p) (x .is) ∙ ap (λ (c : Bool). cond c (more t g) (fromBy p g)) pt;
           }
 
       pub seek-next : b ≡ false → Seeks p f rows text i₀ (i + e) (j + n)
-      unfolding firstBy offsetBy allBy
+      unfolding firstBy offsetBy allBy fromBy
       seek-next passed =
           let x = seek-element in
           let t = x .tree in
@@ -192,6 +221,7 @@ module _ {p : Tree → Bool} {f : Forest} {rows text : List ℕ} {i₀ i j : ℕ
             begins = past x e n is-e is-n;
             first = s .first ∙ ap (firstBy p) (x .is) ∙ ap (λ (c : Bool). cond c (some t) (firstBy p g)) pt;
             all = s .all ∙ ap (allBy p) (x .is) ∙ ap (λ (c : Bool). cond c (more t (allBy p g)) (allBy p g)) pt;
+            from = s .from ∙ ap (fromBy p) (x .is) ∙ ap (λ (c : Bool). cond c (more t g) (fromBy p g)) pt;
             row = s .row ∙ ap (λ (q : Forest). i + 8 * offsetBy p q) (x .is) ∙ ap (λ (c : Bool). i + 8 * cond c 0 (size t + offsetBy p g)) pt ∙ omega arith;
             fits = omega (arith, smaller);
           }

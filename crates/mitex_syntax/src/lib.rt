@@ -233,11 +233,14 @@ pub struct Cursor {
     pub text: usize,
 }
 
-// What is looked for: a child of a kind, a node, an argument whose first node is of a kind.
+// What is looked for: a child of a kind, a node, an argument whose first node is of a kind, a child of any other kind, one that is no
+// trivia.
 pub enum Wanted {
     Kind(u8),
     Node,
     ArgumentWith(u8),
+    Other(u8),
+    Solid,
 }
 
 // A token: its kind, and its text from `from` to `to`; kind 0 and no text where there is none.
@@ -282,6 +285,8 @@ fn is_wanted(rows: &[u8], wanted: Wanted) -> bool
         Wanted::Kind(k) => rows[0] == k,
         Wanted::Node => rows[1] != 1,
         Wanted::ArgumentWith(k) => is_argument_with(rows, k),
+        Wanted::Other(k) => rows[0] != k,
+        Wanted::Solid => !is_trivia(rows[0]),
     }
 }
 

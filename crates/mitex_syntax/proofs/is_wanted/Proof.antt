@@ -1,11 +1,12 @@
 -- `is_wanted`: each wish is its test (`picks`).
 use Prim.Native.Nat.{_≤_}
 use lib.ListN.{length}
+use mathlib.Core.Bool.{not}
 use mathlib.Core.Path.{sym, ap, _∙_}
 use native.Mathlib.Omega.{arith}
 use Rattle.mitex_syntax.specs.Places.{picks}
 use Rattle.mitex_syntax.specs.declared.Wanted.{Wanted}
-use Rattle.mitex_syntax.proofs.Seeking.{rows-eight, wanted-kind, wanted-node}
+use Rattle.mitex_syntax.proofs.Seeking.{rows-eight, wanted-kind, wanted-node, wanted-any-other, wanted-solid}
 use borrow.Author.Needs.{needs}
 use Rattle.mitex_syntax.proofs.is_wanted.Statement.{statement}
 use Rattle.mitex_syntax.proofs.is_wanted.Tie as tie
@@ -31,6 +32,21 @@ enum-known-wanted-2 c = search needs
 is-argument-with-requires : tie.Need-is-argument-with-requires
 is-argument-with-requires c κs = search needs
 
+enum-known-wanted-3 : tie.Need-enum-known-wanted-3
+enum-known-wanted-3 c = search needs
+
+shared-slice-read-result-3 : tie.Need-shared-slice-read-result-3
+shared-slice-read-result-3 c = omega (arith, eight (c .before .before .before .before .before))
+
+enum-told-2 : tie.Need-enum-told-2
+enum-told-2 c = search needs
+
+shared-slice-read-is-trivia : tie.Need-shared-slice-read-is-trivia
+shared-slice-read-is-trivia c = omega (arith, eight (c .before .before .before .before))
+
+is-trivia-requires : tie.Need-is-trivia-requires
+is-trivia-requires c κs = search needs
+
 returns : tie.Need-returns
 returns c = λ t e. wanted-kind t _ e _ ∙ ap (λ (w : Wanted). picks w t) (sym (c .before .before .wanted .given .1))
 
@@ -39,6 +55,13 @@ returns-2 c = λ t e. wanted-node t _ e ∙ ap (λ (w : Wanted). picks w t) (sym
 
 returns-3 : tie.Need-returns-3
 returns-3 c = λ t e. c .is-argument-with .ensures t e ∙ ap (λ (w : Wanted). picks w t) (sym (c .before .before .wanted2 .given .1))
+
+returns-4 : tie.Need-returns-4
+returns-4 c = λ t e. wanted-any-other t _ e _ ∙ ap (λ (w : Wanted). picks w t) (sym (c .before .before .wanted3 .given .1))
+
+returns-5 : tie.Need-returns-5
+returns-5 c =
+    λ t e. ap not (c .is-trivia .ensures) ∙ wanted-solid t _ e ∙ ap (λ (w : Wanted). picks w t) (sym (c .before .before .enum-told2 .given .1))
 
 pub is-wanted-spec : {M : Type 1} → statement M
 is-wanted-spec =
@@ -50,6 +73,13 @@ is-wanted-spec =
     shared-slice-read-result-2
     enum-known-wanted-2
     is-argument-with-requires
+    enum-known-wanted-3
+    shared-slice-read-result-3
+    enum-told-2
+    shared-slice-read-is-trivia
+    is-trivia-requires
     returns
     returns-2
-    returns-3)
+    returns-3
+    returns-4
+    returns-5)
