@@ -1,11 +1,16 @@
 -- `sameCarry` decides equality of carries.
 use mathlib.Core.Path.{_≡_, refl, sym, ap, _∙_}
-use mathlib.Core.Bool.{Bool, true, false, _&&_, Bool·beq, true≢false, false≢true, and-eq-true-iff}
+use mathlib.Core.Bool.{Bool, true, false, _&&_, not, Bool·beq, true≢false, false≢true, and-eq-true-iff}
+use mathlib.Core.List.{List}
+use Prim.Native.Nat.{ℕ}
+use lib.ListN.{take}
+use borrow.Author.Tests.{not-true, not-false}
 use Rattle.text.specs.Compare.{same}
 use Rattle.text.proofs.Compare.{same-refl, same-true}
 use Rattle.mitex_state.specs.Outcome.{Label, Carry}
 use Rattle.mitex_state.specs.Outcome.Label.{unheld, held}
-use Rattle.ledger.specs.Ledger.{sameLabel, sameCarry}
+use Rattle.mitex_state.specs.State.{labelOf}
+use Rattle.ledger.specs.Ledger.{isHeld, labelBytes, sameLabel, sameCarry}
 
 beq-true : (a b : Bool) → Bool·beq a b ≡ true → a ≡ b
 beq-true true true e = refl
@@ -13,9 +18,22 @@ beq-true true false e = sym e
 beq-true false true e = e
 beq-true false false e = refl
 
+beq-apart : (a b : Bool) → (a ≡ b → ⊥) → Bool·beq a b ≡ false
+beq-apart true true h = absurd (h refl)
+beq-apart true false h = refl
+beq-apart false true h = refl
+beq-apart false false h = absurd (h refl)
+
 beq-refl : (a : Bool) → Bool·beq a a ≡ true
 beq-refl true = refl
 beq-refl false = refl
+
+-- a test of two marks, as the code has it
+pub marks-differ : {x : Bool} (a b : Bool) → x ≡ b → not (Bool·beq x a) ≡ true → b ≡ a → ⊥
+marks-differ {x} a b q e h = true≢false (sym (beq-refl a) ∙ ap (λ y. Bool·beq y a) (sym (q ∙ h)) ∙ not-true (Bool·beq x a) e)
+
+pub marks-agree : {x : Bool} (a b : Bool) → x ≡ b → not (Bool·beq x a) ≡ false → b ≡ a
+marks-agree {x} a b q e = sym q ∙ beq-true x a (not-false (Bool·beq x a) e)
 
 sameLabel-true : (a b : Label) → sameLabel a b ≡ true → a ≡ b
 sameLabel-true unheld unheld e = refl
@@ -26,6 +44,33 @@ sameLabel-true (held a) (held b) e = ap held (same-true a b e)
 sameLabel-refl : (a : Label) → sameLabel a a ≡ true
 sameLabel-refl unheld = refl
 sameLabel-refl (held a) = same-refl a
+
+-- a label as the state has it, and another by whether it is held and by its bytes
+module _ {x : Bool} (h : Bool) (n : ℕ) (l : List ℕ) (b : Label) (q : x ≡ isHeld b) where
+  pub sameLabel-differ : not (Bool·beq x h) ≡ true → false ≡ sameLabel (labelOf h n l) b
+  sameLabel-differ e = go h b (marks-differ h (isHeld b) q e)
+    where
+      go : (h : Bool) (b : Label) → (isHeld b ≡ h → ⊥) → false ≡ sameLabel (labelOf h n l) b
+      go true unheld d = refl
+      go true (held b) d = absurd (d refl)
+      go false unheld d = absurd (d refl)
+      go false (held b) d = refl
+
+  pub sameLabel-neither : not (Bool·beq x h) ≡ false → not h ≡ true → true ≡ sameLabel (labelOf h n l) b
+  sameLabel-neither e f = go h b (marks-agree h (isHeld b) q e) (not-true h f)
+    where
+      go : (h : Bool) (b : Label) → isHeld b ≡ h → h ≡ false → true ≡ sameLabel (labelOf h n l) b
+      go true b d f = absurd (true≢false f)
+      go false unheld d f = refl
+      go false (held b) d f = absurd (true≢false d)
+
+  pub sameLabel-both : not (Bool·beq x h) ≡ false → not h ≡ false → same (take n l) (labelBytes b) ≡ sameLabel (labelOf h n l) b
+  sameLabel-both e f = go h b (marks-agree h (isHeld b) q e) (not-false h f)
+    where
+      go : (h : Bool) (b : Label) → isHeld b ≡ h → h ≡ true → same (take n l) (labelBytes b) ≡ sameLabel (labelOf h n l) b
+      go true unheld d f = absurd (false≢true d)
+      go true (held b) d f = refl
+      go false b d f = absurd (false≢true f)
 
 pub sameCarry-true : (c d : Carry) → sameCarry c d ≡ true → c ≡ d
 unfolding sameCarry
@@ -41,3 +86,11 @@ sameCarry-refl c = rw (beq-refl (c .flag), sameLabel-refl (c .label))
 
 pub sameCarry-false : (c d : Carry) → sameCarry c d ≡ false → c ≡ d → ⊥
 sameCarry-false c d e q = true≢false (sym (sameCarry-refl c) ∙ ap (sameCarry c) q ∙ e)
+
+pub sameCarry-apart : (c d : Carry) → (d .flag ≡ c .flag → ⊥) → false ≡ sameCarry c d
+unfolding sameCarry
+sameCarry-apart c d h = ap (λ b. b && sameLabel (c .label) (d .label)) (sym (beq-apart (c .flag) (d .flag) (λ e. h (sym e))))
+
+pub sameCarry-label : (c d : Carry) → d .flag ≡ c .flag → sameLabel (c .label) (d .label) ≡ sameCarry c d
+unfolding sameCarry
+sameCarry-label c d h = rw h (rw (beq-refl (c .flag)))

@@ -1,2 +1,5 @@
 pub mod Carries
 pub mod Rows
+pub mod Reading
+pub mod Carrying
+pub mod Fitting

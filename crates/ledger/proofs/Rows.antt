@@ -1,7 +1,7 @@
 -- The bytes of rows say what the rows are: rows that can be written are read back (`decodeRow-encode`), fit, and move by
 -- their lengths alone. Each law about a list of rows follows the list; a row is looked into by the laws of one row only.
 use mathlib.Core.Path.{_≡_, refl, sym, ap, ap₂, _∙_, subst}
-use mathlib.Core.Bool.{Bool, true, false, _&&_, _||_, cond}
+use mathlib.Core.Bool.{Bool, true, false, _||_}
 use mathlib.Core.List.{List, [], _∷_, _++_, append-assoc}
 use Prim.Native.Nat.{ℕ, zero, suc, _+_, _*_, _-_, _≤_, _<_}
 use native.Mathlib.Nat.{add-assoc, add-zero, zero-add}
@@ -14,7 +14,8 @@ use Rattle.text.specs.Numbers.{four, fourAt}
 use Rattle.text.proofs.Numbers.{fourAt-four}
 use Rattle.mitex_state.specs.Outcome.{Label, Carry, labelMost}
 use Rattle.mitex_state.specs.Outcome.Label.{unheld, held}
-use Rattle.ledger.specs.Ledger.{Row, rowSize, mark, isHeld, labelBytes, Short, encodeCarry, encodeRow, encodeRows, decodeRow, decodeRows, allZero, padding, rowFits, rowsFit, fits, moveRow, moveRows, Piece, written, rowsFrom}
+use Rattle.mitex_state.specs.State.{labelOf}
+use Rattle.ledger.specs.Ledger.{Row, rowSize, mark, isHeld, labelBytes, Short, encodeCarry, encodeRow, encodeRows, decodeRow, decodeRows, allZero, padding, marksFit, rowFits, rowsFit, fits, moveRow, moveRows, Piece, written, rowsFrom}
 
 -- rows that can be written
 pub record Encodable (r : Row) : Type 0 where
@@ -48,7 +49,7 @@ mark-says : (b : Bool) → eqb (mark b) 1 ≡ b
 mark-says true = refl
 mark-says false = refl
 
-label-says : (a : Label) (l : List ℕ) → cond (eqb (mark (isHeld a)) 1) (held (take (length (labelBytes a)) (labelBytes a ++ l))) unheld ≡ a
+label-says : (a : Label) (l : List ℕ) → labelOf (eqb (mark (isHeld a)) 1) (length (labelBytes a)) (labelBytes a ++ l) ≡ a
 label-says unheld l = refl
 label-says (held b) l = ap held (take-append-seam b l)
 
@@ -60,7 +61,7 @@ decodeRow-encode r l ok =
     let z : List ℕ = replicate (labelMost - length b) 0 in
     let en : fourAt 0 (encodeRow r ++ l) ≡ r .end = encodeRow-end r l ok in
     let fl : eqb (mark (r .carry .flag)) 1 ≡ r .carry .flag = mark-says (r .carry .flag) in
-    let la : cond (eqb (mark (isHeld a)) 1) (held (take (length b) ((b ++ z) ++ l))) unheld ≡ a = rw append-assoc (label-says a (z ++ l)) in
+    let la : labelOf (eqb (mark (isHeld a)) 1) (length b) ((b ++ z) ++ l) ≡ a = rw append-assoc (label-says a (z ++ l)) in
     λ i. record { end = en i; carry = record { flag = fl i; label = la i } }
 
 mark-small : (b : Bool) → leb (mark b) 1 ≡ true
@@ -83,7 +84,7 @@ padding-zero b l =
     rw (append-assoc b z l, drop-append-seam b (z ++ l), take-at z l n (length-replicate {A = ℕ} n 0)) (allZero-replicate n)
 
 pub rowFits-encode : (r : Row) (l : List ℕ) → Encodable r → rowFits (encodeRow r ++ l) ≡ true
-unfolding encodeRow encodeCarry rowFits
+unfolding encodeRow encodeCarry rowFits marksFit
 rowFits-encode r l ok =
     let b : List ℕ = labelBytes (r .carry .label) in
     rw (

@@ -6,7 +6,7 @@ use Prim.Native.Nat.{ℕ}
 use lib.ListN.{replicate}
 use Rattle.mitex_state.specs.Outcome.{Label, Carry}
 use Rattle.mitex_state.specs.Outcome.Label.{unheld, held}
-use Rattle.ledger.specs.Ledger.{Row, encodeCarry, encodeRow, decodeRow, allZero, rowFits, fits, moveRow, sameCarry, Piece, rowsFrom, encodeRows}
+use Rattle.ledger.specs.Ledger.{Row, encodeCarry, encodeRow, decodeRow, allZero, marksFit, rowFits, fits, moveRow, sameCarry, Piece, rowsFrom, encodeRows}
 
 abbrev labelled : Row
 labelled = record { end = 258; carry = record { flag = true; label = held (101 ∷ []) } }
@@ -35,7 +35,7 @@ moved = refl
 
 -- a ledger may be longer than its rows; with no rows it fits where the kept length is 0
 fitting : (fits 1 5 (row (5 ∷ 0 ∷ 0 ∷ 0 ∷ 0 ∷ 0 ∷ 0 ∷ 0 ∷ 0 ∷ []) ++ (7 ∷ [])) ≡ true) × (fits 0 0 (7 ∷ []) ≡ true) × (fits 0 1 [] ≡ false)
-unfolding fits rowFits allZero
+unfolding fits rowFits marksFit allZero
 fitting = (refl, refl, refl)
 
 -- another length, a mark of 2, an unheld label with a length, a byte 7, a byte behind the label, no whole row
@@ -45,12 +45,12 @@ unfit : (fits 1 6 (row (5 ∷ 0 ∷ 0 ∷ 0 ∷ 0 ∷ 0 ∷ 0 ∷ 0 ∷ 0 ∷ []
     × (fits 1 5 (row (5 ∷ 0 ∷ 0 ∷ 0 ∷ 0 ∷ 1 ∷ 0 ∷ 1 ∷ 0 ∷ [])) ≡ false)
     × (fits 1 5 (row (5 ∷ 0 ∷ 0 ∷ 0 ∷ 0 ∷ 1 ∷ 0 ∷ 0 ∷ 9 ∷ [])) ≡ false)
     × (fits 1 5 (5 ∷ 0 ∷ 0 ∷ 0 ∷ 0 ∷ 0 ∷ 0 ∷ 0 ∷ replicate 119 0) ≡ false)
-unfolding fits rowFits allZero
+unfolding fits rowFits marksFit allZero
 unfit = (refl, refl, refl, refl, refl, refl)
 
 -- lengths that fall
 falling : fits 2 4 (encodeRows (plain 5 ∷ plain 4 ∷ [])) ≡ false
-unfolding fits rowFits allZero encodeRow encodeCarry
+unfolding fits rowFits marksFit allZero encodeRow encodeCarry
 falling = refl
 
 -- no label and an empty one differ

@@ -6,7 +6,8 @@
 --   7        zero
 --   8 on     the label's bytes, padded with zeros
 -- The flag and the label are what the block hands to the next one: its carry.
-use mathlib.Core.Bool.{Bool, true, false, _&&_, _||_, cond, Bool·beq}
+use mathlib.Core.Path.{_≡_}
+use mathlib.Core.Bool.{Bool, true, false, _&&_, _||_, Bool·beq}
 use mathlib.Core.List.{List, [], _∷_, _++_}
 use Prim.Native.Nat.{ℕ, zero, suc, _+_, _*_, _-_, _≤_}
 use lib.ListN.{length, take, drop, getD, replicate}
@@ -15,6 +16,7 @@ use Rattle.text.specs.Numbers.{four, fourAt}
 use Rattle.text.specs.Compare.{same}
 use Rattle.mitex_state.specs.Outcome.{Label, Carry, labelMost}
 use Rattle.mitex_state.specs.Outcome.Label.{unheld, held}
+use Rattle.mitex_state.specs.State.{labelOf}
 
 abbrev pub rowSize : ℕ
 rowSize = 8 + labelMost
@@ -65,7 +67,7 @@ decodeRow l =
       end = fourAt 0 l;
       carry = record {
         flag = eqb (getD l 4 0) 1;
-        label = cond (eqb (getD l 5 0) 1) (held (take (getD l 6 0) (drop 8 l))) unheld;
+        label = labelOf (eqb (getD l 5 0) 1) (getD l 6 0) (drop 8 l);
       };
     }
 
@@ -73,7 +75,10 @@ abbrev pub decodeRows : ℕ → List ℕ → List Row
 decodeRows zero l = []
 decodeRows (suc n) l = decodeRow l ∷ decodeRows n (drop rowSize l)
 
--- the row with number i
+-- the row with number i, where the ledger has one
+abbrev pub HasRow : ℕ → List ℕ → Type 0
+HasRow i l = rowSize * (i + 1) ≤ length l
+
 abbrev pub rowAt : ℕ → List ℕ → Row
 rowAt i l = decodeRow (drop (rowSize * i) l)
 
@@ -87,16 +92,18 @@ allZero (x ∷ l) = eqb x 0 && allZero l
 abbrev pub padding : List ℕ → List ℕ
 padding l = take (labelMost - getD l 6 0) (drop (getD l 6 0) (drop 8 l))
 
--- the first row: both marks are 0 or 1, the label's length is at most the limit, an unheld label has length 0, padding is
--- zero, byte 7 too
+-- bytes 4 to 7: both marks are 0 or 1, the label's length is at most the limit, an unheld label has length 0, and zero
+unfoldable pub marksFit : ℕ → ℕ → ℕ → ℕ → Bool
+marksFit flag hold len blank =
+    leb flag 1 && (leb hold 1 && (leb len labelMost && ((eqb hold 1 || eqb len 0) && eqb blank 0)))
+
+-- the first row
 unfoldable pub rowFits : List ℕ → Bool
-rowFits l =
-    leb (getD l 4 0) 1
-    && (leb (getD l 5 0) 1
-    && (leb (getD l 6 0) labelMost
-    && ((eqb (getD l 5 0) 1 || eqb (getD l 6 0) 0)
-    && (eqb (getD l 7 0) 0
-    && allZero (padding l)))))
+rowFits l = marksFit (getD l 4 0) (getD l 5 0) (getD l 6 0) (getD l 7 0) && allZero (padding l)
+
+-- the row with number i stands in the ledger and fits
+abbrev pub RowFits : ℕ → List ℕ → Type 0
+RowFits i l = HasRow i l × (rowFits (drop (rowSize * i) l) ≡ true)
 
 -- n rows of which each fits, whose lengths never fall, from `at` on, and of which the last equals the kept length
 abbrev pub rowsFit : ℕ → ℕ → ℕ → List ℕ → Bool

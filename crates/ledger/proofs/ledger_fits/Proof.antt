@@ -1,0 +1,62 @@
+-- The invariant: the ledger fits if the rows that are left do, from the length before them on. The measure is the rows left.
+use native.Mathlib.Omega.{arith}
+use mathlib.Core.Path.{_≡_}
+use Prim.Native.Nat.{_*_, _-_, _≤_}
+use lib.ListN.{length, drop}
+use Rattle.ledger.specs.Ledger.{rowSize, rowsFit, fits}
+use Rattle.ledger.proofs.Fitting.{fits-few, fits-start, fits-falls, fits-not, fits-next, fits-last}
+use Rattle.ledger.proofs.ledger_fits.Statement.{statement}
+use Rattle.ledger.proofs.ledger_fits.Tie as tie
+
+abbrev Inv-loop : tie.InvT-loop
+Inv-loop ledger blocks kept end₀ i₀ end i = (i ≤ blocks) × (rowSize * blocks ≤ length ledger) × (fits blocks kept ledger ≡ rowsFit (blocks - i) end kept (drop (rowSize * i) ledger))
+
+abbrev μ-loop : tie.MeasureT-loop
+μ-loop ledger blocks kept end₀ i₀ end i = blocks - i
+
+returns : tie.Need-returns Inv-loop μ-loop
+returns c = fits-few _ _ _ (c .if1 .taken)
+
+loop-holds : tie.Need-loop-holds Inv-loop μ-loop
+loop-holds c = (omega arith, omega arith, fits-start _ _ _ (c .if1 .left))
+
+row-end-requires : tie.Need-row-end-requires Inv-loop μ-loop
+row-end-requires c κs = omega arith
+
+returns-2 : tie.Need-returns-2 Inv-loop μ-loop
+returns-2 c = fits-falls _ _ _ _ _ (c .before .before .before .loop .inv .2) (c .before .before .loop-test .taken) (c .before .row-end .ensures .0) (c .if2 .taken)
+
+row-fits-requires : tie.Need-row-fits-requires Inv-loop μ-loop
+row-fits-requires c κs = omega arith
+
+returns-3 : tie.Need-returns-3 Inv-loop μ-loop
+returns-3 c = fits-not _ _ _ _ _ (c .before .before .before .before .before .loop .inv .2) (c .before .before .before .before .loop-test .taken) (c .before .before .before .row-end .ensures .0) (c .before .before .if2 .left) (c .before .row-fits .ensures) (c .if3 .taken)
+
+add-i : tie.Need-add-i Inv-loop μ-loop
+add-i c = omega arith
+
+loop-less : tie.Need-loop-less Inv-loop μ-loop
+loop-less c = omega arith
+
+loop-again : tie.Need-loop-again Inv-loop μ-loop
+loop-again c = (omega arith, omega arith, fits-next _ _ _ _ _ (c .before .before .before .before .before .loop .inv .2) (c .before .before .before .before .loop-test .taken) (c .before .before .before .row-end .ensures .0) (c .before .before .if2 .left) (c .before .row-fits .ensures) (c .if3 .left))
+
+returns-4 : tie.Need-returns-4 Inv-loop μ-loop
+returns-4 c = fits-last _ _ _ _ _ (c .before .loop .inv .2) (c .loop-test .left)
+
+pub ledger-fits-spec : {M : Type 1} → statement M
+ledger-fits-spec =
+    tie.close
+    (tie.spec
+    Inv-loop
+    μ-loop
+    returns
+    loop-holds
+    row-end-requires
+    returns-2
+    row-fits-requires
+    returns-3
+    add-i
+    loop-less
+    loop-again
+    returns-4)
