@@ -4,7 +4,8 @@
 usage: tools/examples.py VECTORS
 
 VECTORS is a folder of cases, each a folder with `rules.bin` and `tree.bin` (the files that a conversion takes), `stdin`
-(`t` or `m`: Text, Math), `expected` (what the program writes) and `name` (what the case shows). A case becomes one entry of
+(`t` or `m`: Text, Math), `expected` (what the program writes) and `name` (what the case shows; a made
+document has none). A case becomes one entry of
 a table; the tables go by the family of arms that the cases show, and each is one statement that antt computes. Run
 `rt fmt` afterwards.
 """
@@ -33,6 +34,9 @@ TABLES = [
     ("Images", "images.", ["trap-126..134", "trap-146"]),
     ("Environments", "lists, environments for Math, normal environments and figures.",
      ["trap-003..007", "trap-080..085", "trap-099..106", "trap-108..111"]),
+    ("Documents", "made documents, each with those of its rules that it names.",
+     ["convert-000011", "convert-000069", "convert-000083", "convert-000167", "convert-000231", "convert-000256",
+      "convert-000267", "convert-000294"]),
     ("Cells", "tables.", ["trap-086..098", "trap-107", "trap-149"]),
 ]
 
@@ -180,7 +184,20 @@ def tree(t):
 
 def rule(r):
     name, kind, alias = r
+    if not readable(name) or not readable(alias or b""):
+        return f"ruleBy {paren(raw(name))} {kind} " + (f"(some {paren(raw(alias))})" if alias else "nothing")
     return f"rule {string(name)} {kind}" if alias is None else f"ruleAs {string(name)} {kind} {string(alias)}"
+
+
+def texts(t):
+    """The texts of a tree's tokens."""
+    return [t[1]] if isinstance(t[1], bytes) else [s for child in t[1] for s in texts(child)]
+
+
+def named(rules, root):
+    """The rules that a document names: by a command without its backslash, or by an environment without white space."""
+    words = {w for s in texts(root) for w in (s[1:], s.decode().strip().encode())}
+    return [r for r in rules if r[0] in words]
 
 
 def rules_text(rules, usual, few):
@@ -191,8 +208,9 @@ def rules_text(rules, usual, few):
         return "few"
     own = [r for r in rules if r not in usual]
     names = {r[0] for r in own}
-    assert sorted(own + [r for r in usual if r[0] not in names]) == sorted(rules)
-    return "(" + " ∷ ".join([rule(r) for r in own] + ["usual"]) + ")"
+    if set(rules) == set(own) | {r for r in usual if r[0] not in names}:
+        return paren(" ∷ ".join([rule(r) for r in own] + ["usual"]))
+    return paren(listed([rule(r) for r in rules]))
 
 
 def answer(expected):
@@ -225,11 +243,13 @@ def folders(vectors, spans):
 
 
 def case(folder, usual, few):
-    rules = rules_text(read_rules((folder / "rules.bin").read_bytes()), usual, few)
     mode = {b"t": "Text", b"m": "Math"}[(folder / "stdin").read_bytes()[:1]]
     root = read_tree((folder / "tree.bin").read_bytes())
     assert root[0] == "ScopeRoot"
-    shows = (folder / "name").read_text().strip()
+    rules = read_rules((folder / "rules.bin").read_bytes())
+    has_name = (folder / "name").exists()
+    shows = (folder / "name").read_text().strip() if has_name else f"{len(root[1])} block" + "s" * (len(root[1]) > 1)
+    rules = rules_text(rules if has_name else named(rules, root), usual, few)
     parts = [f"case {rules} {mode}"] + folded(root[1]) + [f"({answer((folder / 'expected').read_bytes())})"]
     line = " ".join(parts)
     return shows, [line] if len(line) <= WIDTH else parts
@@ -237,10 +257,11 @@ def case(folder, usual, few):
 
 # what a table may name: the module, and its names
 NAMES = [
+    ("mathlib.Core.Option.Option", ["none as nothing", "some"]),
     ("Rattle.text.specs.Ascii", ["ascii"]),
     ("Rattle.mitex_syntax.specs.Syntax", KINDS),
     ("Rattle.mitex_syntax.specs.Tree.Tree", ["token"]),
-    ("Rattle.mitex_state.specs.Examples", """Case case hold few usual rule ruleAs writes over tok word name sym space break
+    ("Rattle.mitex_state.specs.Examples", """Case case hold few usual rule ruleAs ruleBy writes over tok word name sym space break
         newline comment ampersand dollar times curly bracket arg braced bracketed cmd env""".split()),
     ("Rattle.mitex_state.specs.Examples.Answer", ["text", "refusal"]),
     ("Rattle.mitex_state.specs.declared.LaTeXMode.the-variants", ["Text", "Math"]),
@@ -252,7 +273,7 @@ def uses(body):
     words = set(re.findall(r"[A-Za-z]+", code))
     lines = []
     for module, names in NAMES:
-        used = [n for n in names if n in words]
+        used = [n for n in names if n.split()[-1] in words]
         if used:
             lines.append(f"use {module}.{{{', '.join(used)}}}")
     return lines

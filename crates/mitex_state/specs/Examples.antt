@@ -1,6 +1,7 @@
 -- How the tables of worked conversions are written: trees by short names, and the test that a table holds. A case's own rules
 -- stand before the usual ones; the first rule of a name counts.
 use mathlib.Core.Bool.{Bool, true, false, _&&_}
+use mathlib.Core.Option.{Option}
 use mathlib.Core.Option.Option.{none as nothing, some}
 use mathlib.Core.List.{List, [], _∷_, _++_}
 use Prim.Native.Nat.{ℕ, zero, suc}
@@ -97,11 +98,15 @@ env s args ts = over ItemEnv (over ItemBegin (sym s ∷ args) ∷ (ts ++ (over I
 
 -- ---- rules
 
+-- name, class and alias
+abbrev pub ruleBy : List ℕ → ℕ → Option (List ℕ) → Rule
+ruleBy s k a = record { name = s; alias = a; class = k }
+
 abbrev pub rule : String → ℕ → Rule
-rule s k = record { name = ascii s; alias = nothing; class = k }
+rule s k = ruleBy (ascii s) k nothing
 
 abbrev pub ruleAs : String → ℕ → String → Rule
-ruleAs s k a = record { name = ascii s; alias = some (ascii a); class = k }
+ruleAs s k a = ruleBy (ascii s) k (some (ascii a))
 
 abbrev pub few : List Rule
 few = rule "quote" 3 ∷ ruleAs "tabular" 8 "table" ∷ []

@@ -19,6 +19,7 @@ pub mod ExamplesColors
 pub mod ExamplesImages
 pub mod ExamplesEnvironments
 pub mod ExamplesCells
+pub mod ExamplesDocuments
 pub mod State
 pub mod Contract
 pub mod Keeping
