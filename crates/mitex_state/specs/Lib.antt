@@ -23,3 +23,4 @@ pub mod ExamplesDocuments
 pub mod State
 pub mod Contract
 pub mod Keeping
+pub mod Parts

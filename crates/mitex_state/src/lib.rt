@@ -154,6 +154,35 @@ pub enum Arguments {
     TextArguments,
 }
 
+// A part of a node's children: bytes i to e of their rows, j to u of their text.
+pub struct Part {
+    pub i: usize,
+    pub e: usize,
+    pub j: usize,
+    pub u: usize,
+}
+
+// The children of the node that a Greedy command takes.
+pub enum GreedyPart {
+    NoGreedy,
+    GreedyAt(Part),
+}
+
+// A colour's model, bytes from `from` to `to` of the text while it is held, and the elements behind it.
+pub struct ModelPart {
+    pub held: bool,
+    pub from: usize,
+    pub to: usize,
+    pub rest: Part,
+}
+
+// A figure's last caption: its argument, or how many rows below the first child a caption without one stands.
+pub enum CaptionPart {
+    NoCaption,
+    BareCaption(usize),
+    CaptionAt(Part),
+}
+
 // What a walk answers: the converter and the next place, with refusal 0; or a refusal and its row.
 pub struct Walked {
     pub converter: Converter,
