@@ -4,18 +4,21 @@ use mathlib.Core.Path.{_≡_}
 use mathlib.Core.Bool.{Bool, true, false}
 use mathlib.Core.Option.Option.{some}
 use mathlib.Core.List.{List}
-use Prim.Native.Nat.{ℕ, _+_, _*_, _-_, _≤_, _<_}
+use Prim.Native.Nat.{ℕ, _+_, _*_, _-_, _/_, _≤_, _<_}
 use lib.ListN.{length, take, drop}
+use Rattle.mitex_syntax.specs.Syntax.{ItemBegin}
 use Rattle.mitex_syntax.specs.Tree.{Tree, Forest, size, sizes}
 use Rattle.mitex_syntax.specs.Tree.Tree.{node}
-use Rattle.mitex_syntax.specs.Views.{firstBy, offsetBy}
+use Rattle.mitex_syntax.specs.Views.{firstBy, offsetBy, offsetOf, beginOf}
 use Rattle.mitex_syntax.specs.Spells.{Spells, SpellsAll}
-use Rattle.mitex_state.specs.Outcome.{Carry, Outcome}
+use Rattle.mitex_state.specs.Outcome.{Carry, Outcome, shift}
 use Rattle.mitex_state.specs.Outcome.Outcome.{refused}
+use Rattle.mitex_state.specs.Children.{each}
 use Rattle.mitex_state.specs.Colors.{Model, inModel, noModel}
 use Rattle.mitex_state.specs.Commands.{isArgument, greedyIn}
 use Rattle.mitex_state.specs.Environments.{lastCaption}
 use Rattle.mitex_state.specs.Environments.Caption.{absent, bare, caption}
+use Rattle.mitex_state.specs.declared.Loop.{Loop}
 use Rattle.mitex_state.specs.declared.Part.{Part}
 use Rattle.mitex_state.specs.declared.GreedyPart.{GreedyPart}
 use Rattle.mitex_state.specs.declared.GreedyPart.the-variants.{NoGreedy, GreedyAt}
@@ -83,3 +86,11 @@ pub data CaptionFound (f : Forest) (rows text : List ℕ) : CaptionPart → Type
   no-caption : lastCaption 1 f ≡ absent → CaptionFound f rows text NoCaption
   bare-caption : {below : ℕ} → lastCaption 1 f ≡ bare (1 + below) → CaptionFound f rows text (BareCaption below)
   caption-at : {p : Part} → CaptionStands f rows text p → CaptionFound f rows text (CaptionAt p)
+
+-- the children of an environment's first ItemBegin, and how a loop over them counts its rows
+pub record BeginFound (f : Forest) (rows text : List ℕ) (p : Part) : Type 0 where
+  pub spells : SpellsAll (beginOf f) (rowsIn p rows) (textIn p text)
+  pub inside : Inside rows text p
+  pub row :
+      (conv : Tree → Carry → Outcome) (l : Loop) (c : Carry) → shift (1 + offsetOf ItemBegin f) (each conv 1 l (beginOf f) c) ≡ shift (1 + p .i / 8) (each conv 0 l (beginOf f) c)
+  pub fits : sizes (beginOf f) ≤ sizes f
