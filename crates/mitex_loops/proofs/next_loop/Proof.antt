@@ -1,0 +1,148 @@
+-- `mitex_loops::next_loop` meets its contract: each loop is computed.
+use mathlib.Core.Path.{_∙_, ap, subst, sym}
+use Prim.Native.Nat.{_<_}
+use Rattle.text.specs.Writing.{cap}
+use Rattle.mitex_syntax.specs.Syntax.{ClauseArgument}
+use Rattle.mitex_state.specs.Children.{nextLoop}
+use Rattle.mitex_loops.specs.Given.{numberOf}
+use Rattle.mitex_loops.proofs.Acting.{named-next}
+use lib.Dec.{eqb}
+use Rattle.mitex_state.specs.declared.Loop.the-variants.{Attached, Curly, Named, Table}
+use borrow.Author.Needs.{needs}
+use Rattle.mitex_loops.proofs.next_loop.Statement.{statement}
+use Rattle.mitex_loops.proofs.next_loop.Tie as tie
+
+enum-told : tie.Need-enum-told
+enum-told c = search needs
+
+enum-known-l : tie.Need-enum-known-l
+enum-known-l c = search needs
+
+next-blank-requires : tie.Need-next-blank-requires
+next-blank-requires c κs = search needs
+
+enum-told-2 : tie.Need-enum-told-2
+enum-told-2 c = search needs
+
+enum-known-l-2 : tie.Need-enum-known-l-2
+enum-known-l-2 c = search needs
+
+next-attach-requires : tie.Need-next-attach-requires
+next-attach-requires c κs = search needs
+
+enum-told-3 : tie.Need-enum-told-3
+enum-told-3 c = search needs
+
+enum-told-4 : tie.Need-enum-told-4
+enum-told-4 c = search needs
+
+enum-told-5 : tie.Need-enum-told-5
+enum-told-5 c = search needs
+
+enum-told-6 : tie.Need-enum-told-6
+enum-told-6 c = search needs
+
+enum-known-l-3 : tie.Need-enum-known-l-3
+enum-known-l-3 c = search needs
+
+enum-known-l-4 : tie.Need-enum-known-l-4
+enum-known-l-4 c = search needs
+
+next-number-requires : tie.Need-next-number-requires
+next-number-requires c κs = subst (λ l. numberOf l < cap) (c .before .l4 .given .1) (c .before .before .before .pre)
+
+enum-told-7 : tie.Need-enum-told-7
+enum-told-7 c = search needs
+
+enum-told-8 : tie.Need-enum-told-8
+enum-told-8 c = search needs
+
+enum-known-l-5 : tie.Need-enum-known-l-5
+enum-known-l-5 c = search needs
+
+next-exterior-requires : tie.Need-next-exterior-requires
+next-exterior-requires c κs = search needs
+
+returns : tie.Need-returns
+returns c = ap (λ l. nextLoop l (c .before .before .args .kind) (c .before .before .args .act)) (sym (c .enum-told .given .1))
+
+returns-2 : tie.Need-returns-2
+returns-2 c =
+    let c₁ = c .before .before .before .before in
+    ap Curly (c .next-blank .ensures) ∙ ap (λ l. nextLoop l (c₁ .args .kind) (c₁ .args .act)) (sym (c .before .before .l .given .1))
+
+returns-3 : tie.Need-returns-3
+returns-3 c = ap (λ l. nextLoop l (c .before .before .args .kind) (c .before .before .args .act)) (sym (c .enum-told2 .given .1))
+
+returns-4 : tie.Need-returns-4
+returns-4 c =
+    let c₁ = c .before .before .before .before in
+    ap Attached (c .next-attach .ensures) ∙ ap (λ l. nextLoop l (c₁ .args .kind) (c₁ .args .act)) (sym (c .before .before .l2 .given .1))
+
+returns-5 : tie.Need-returns-5
+returns-5 c = ap (λ l. nextLoop l (c .before .before .args .kind) (c .before .before .args .act)) (sym (c .enum-told3 .given .1))
+
+returns-6 : tie.Need-returns-6
+returns-6 c = ap (λ l. nextLoop l (c .before .before .args .kind) (c .before .before .args .act)) (sym (c .enum-told4 .given .1))
+
+returns-7 : tie.Need-returns-7
+returns-7 c = ap (λ l. nextLoop l (c .before .before .args .kind) (c .before .before .args .act)) (sym (c .enum-told5 .given .1))
+
+returns-8 : tie.Need-returns-8
+returns-8 c = ap (λ l. nextLoop l (c .before .before .args .kind) (c .before .before .args .act)) (sym (c .enum-told6 .given .1))
+
+returns-9 : tie.Need-returns-9
+returns-9 c =
+    let c₁ = c .before .before .before in
+    ap (λ l. nextLoop l (c₁ .args .kind) (c₁ .args .act)) (sym (c .before .l3 .given .1))
+
+returns-10 : tie.Need-returns-10
+returns-10 c =
+    let c₁ = c .before .before .before .before in
+    ap Named (c .next-number .ensures) ∙ named-next (eqb (c₁ .args .kind) ClauseArgument) _ ∙ ap (λ l. nextLoop l (c₁ .args .kind) (c₁ .args .act)) (sym (c .before .before .l4 .given .1))
+
+returns-11 : tie.Need-returns-11
+returns-11 c = ap (λ l. nextLoop l (c .before .before .args .kind) (c .before .before .args .act)) (sym (c .enum-told7 .given .1))
+
+returns-12 : tie.Need-returns-12
+returns-12 c = ap (λ l. nextLoop l (c .before .before .args .kind) (c .before .before .args .act)) (sym (c .enum-told8 .given .1))
+
+returns-13 : tie.Need-returns-13
+returns-13 c =
+    let c₁ = c .before .before .before .before in
+    ap Table (c .next-exterior .ensures) ∙ ap (λ l. nextLoop l (c₁ .args .kind) (c₁ .args .act)) (sym (c .before .before .l5 .given .1))
+
+pub next-loop-spec : {M : Type 1} → statement M
+next-loop-spec =
+    tie.close
+    (tie.spec
+    enum-told
+    enum-known-l
+    next-blank-requires
+    enum-told-2
+    enum-known-l-2
+    next-attach-requires
+    enum-told-3
+    enum-told-4
+    enum-told-5
+    enum-told-6
+    enum-known-l-3
+    enum-known-l-4
+    next-number-requires
+    enum-told-7
+    enum-told-8
+    enum-known-l-5
+    next-exterior-requires
+    returns
+    returns-2
+    returns-3
+    returns-4
+    returns-5
+    returns-6
+    returns-7
+    returns-8
+    returns-9
+    returns-10
+    returns-11
+    returns-12
+    returns-13)

@@ -1,0 +1,144 @@
+-- `mitex_loops::put_loop_end` meets its contract: each loop is computed.
+use mathlib.Core.Path.{ap, sym}
+use Rattle.text.proofs.Writing.{wrote-as, wrote-nil}
+use Rattle.mitex_state.specs.Children.{loopEnd}
+use borrow.Author.Needs.{needs}
+use Rattle.mitex_loops.proofs.put_loop_end.Statement.{statement}
+use Rattle.mitex_loops.proofs.put_loop_end.Tie as tie
+
+enum-told : tie.Need-enum-told
+enum-told c = search needs
+
+enum-known-l : tie.Need-enum-known-l
+enum-known-l c = search needs
+
+put-curly-end-requires : tie.Need-put-curly-end-requires
+put-curly-end-requires c κs = search needs
+
+enum-told-2 : tie.Need-enum-told-2
+enum-told-2 c = search needs
+
+enum-known-l-2 : tie.Need-enum-known-l-2
+enum-known-l-2 c = search needs
+
+put-attach-end-requires : tie.Need-put-attach-end-requires
+put-attach-end-requires c κs = search needs
+
+enum-told-3 : tie.Need-enum-told-3
+enum-told-3 c = search needs
+
+enum-told-4 : tie.Need-enum-told-4
+enum-told-4 c = search needs
+
+enum-told-5 : tie.Need-enum-told-5
+enum-told-5 c = search needs
+
+enum-told-6 : tie.Need-enum-told-6
+enum-told-6 c = search needs
+
+enum-told-7 : tie.Need-enum-told-7
+enum-told-7 c = search needs
+
+enum-told-8 : tie.Need-enum-told-8
+enum-told-8 c = search needs
+
+enum-told-9 : tie.Need-enum-told-9
+enum-told-9 c = search needs
+
+enum-told-10 : tie.Need-enum-told-10
+enum-told-10 c = search needs
+
+enum-told-11 : tie.Need-enum-told-11
+enum-told-11 c = search needs
+
+slice-aggregate-put : tie.Need-slice-aggregate-put
+slice-aggregate-put c = search needs
+
+put-requires : tie.Need-put-requires
+put-requires c κs = search needs
+
+returns : tie.Need-returns
+returns c = wrote-as (sym (ap loopEnd (c .enum-told .given .1))) (wrote-nil _ _ (c .before .before .before .pre .0))
+
+same-length : tie.Need-same-length
+same-length c = search needs
+
+returns-2 : tie.Need-returns-2
+returns-2 c = wrote-as (sym (ap loopEnd (c .before .before .before .before .before .l .given .1))) (c .before .before .put-curly-end .ensures)
+
+returns-3 : tie.Need-returns-3
+returns-3 c = wrote-as (sym (ap loopEnd (c .enum-told2 .given .1))) (wrote-nil _ _ (c .before .before .before .pre .0))
+
+same-length-2 : tie.Need-same-length-2
+same-length-2 c = search needs
+
+returns-4 : tie.Need-returns-4
+returns-4 c = wrote-as (sym (ap loopEnd (c .before .before .before .before .before .l2 .given .1))) (c .before .before .put-attach-end .ensures)
+
+returns-5 : tie.Need-returns-5
+returns-5 c = wrote-as (sym (ap loopEnd (c .enum-told3 .given .1))) (wrote-nil _ _ (c .before .before .before .pre .0))
+
+returns-6 : tie.Need-returns-6
+returns-6 c = wrote-as (sym (ap loopEnd (c .enum-told4 .given .1))) (wrote-nil _ _ (c .before .before .before .pre .0))
+
+returns-7 : tie.Need-returns-7
+returns-7 c = wrote-as (sym (ap loopEnd (c .enum-told5 .given .1))) (wrote-nil _ _ (c .before .before .before .pre .0))
+
+returns-8 : tie.Need-returns-8
+returns-8 c = wrote-as (sym (ap loopEnd (c .enum-told6 .given .1))) (wrote-nil _ _ (c .before .before .before .pre .0))
+
+returns-9 : tie.Need-returns-9
+returns-9 c = wrote-as (sym (ap loopEnd (c .enum-told7 .given .1))) (wrote-nil _ _ (c .before .before .before .pre .0))
+
+returns-10 : tie.Need-returns-10
+returns-10 c = wrote-as (sym (ap loopEnd (c .enum-told8 .given .1))) (wrote-nil _ _ (c .before .before .before .pre .0))
+
+returns-11 : tie.Need-returns-11
+returns-11 c = wrote-as (sym (ap loopEnd (c .enum-told9 .given .1))) (wrote-nil _ _ (c .before .before .before .pre .0))
+
+returns-12 : tie.Need-returns-12
+returns-12 c = wrote-as (sym (ap loopEnd (c .enum-told10 .given .1))) (wrote-nil _ _ (c .before .before .before .pre .0))
+
+same-length-3 : tie.Need-same-length-3
+same-length-3 c = search needs
+
+returns-13 : tie.Need-returns-13
+returns-13 c = wrote-as (sym (ap loopEnd (c .before .before .before .before .before .enum-told11 .given .1))) (c .before .before .put .ensures)
+
+pub put-loop-end-spec : {M : Type 1} → statement M
+put-loop-end-spec =
+    tie.close
+    (tie.spec
+    enum-told
+    enum-known-l
+    put-curly-end-requires
+    enum-told-2
+    enum-known-l-2
+    put-attach-end-requires
+    enum-told-3
+    enum-told-4
+    enum-told-5
+    enum-told-6
+    enum-told-7
+    enum-told-8
+    enum-told-9
+    enum-told-10
+    enum-told-11
+    slice-aggregate-put
+    put-requires
+    returns
+    same-length
+    returns-2
+    returns-3
+    same-length-2
+    returns-4
+    returns-5
+    returns-6
+    returns-7
+    returns-8
+    returns-9
+    returns-10
+    returns-11
+    returns-12
+    same-length-3
+    returns-13)
