@@ -1,6 +1,7 @@
 -- Laws of answers that agree with outcomes: how agreement follows `after`, `closing`, `andThen` and `shift`.
 use mathlib.Core.Path.{_≡_, refl, sym, ap, subst, _∙_}
-use mathlib.Core.List.{List, []}
+use mathlib.Core.Bool.{Bool}
+use mathlib.Core.List.{List}
 use Prim.Native.Nat.{ℕ, _+_, _≤_, _<_}
 use native.Mathlib.Omega.{arith}
 use lib.ListN.{length}
@@ -9,8 +10,10 @@ use Rattle.text.proofs.Writing.{wrote-then, wrote-low, wrote-long}
 use Rattle.mitex_state.specs.Outcome.{Carry, Outcome, andThen, after, closing, shift, labelMost}
 use Rattle.mitex_state.specs.Outcome.Outcome.{refused, done}
 use Rattle.mitex_state.specs.State.{carryOf, placed, Carried}
-use Rattle.mitex_state.specs.Contract.{Place, placeOf, Agrees, Went, Declined, Closed}
+use Rattle.mitex_state.specs.Contract.{Place, placeOf, Agrees, Went, Declined, Closed, Takes}
 use Rattle.mitex_state.specs.Contract.Agrees.{declines, accepts}
+use Rattle.mitex_state.specs.Environments.{taken, dropped, takeLabel}
+use Rattle.mitex_state.specs.declared.LaTeXMode.{LaTeXMode}
 use Rattle.mitex_state.specs.declared.Converter.{Converter}
 use Rattle.mitex_state.specs.declared.Walked.{Walked}
 
@@ -81,6 +84,18 @@ module _ {row at : ℕ} {out out₁ out₂ w : List ℕ} {a r : Walked} {x y : P
       let same = c .converter u in
       accepts (c .accepted u) (ap placeOf same) (ap carryOf same ∙ ec) (subst (λ (z : Converter). z .«label_len» ≤ labelMost) (sym same) l)
       (wrote-then h v (c .written u))
+
+module _ {row at : ℕ} {out out₁ out₂ : List ℕ} {a r : Walked} {x : Place} (list : Bool) (m : LaTeXMode) where
+  -- an environment takes the held label
+  pub agrees-takes :
+      {o : Outcome} → length out ≤ cap → Agrees a x row at out out₁ o → Takes a list m out₁ r out₂ → Agrees r x row at out out₂ (takeLabel list m o)
+  agrees-takes h (declines {n} {r = k} g p q) t =
+      let z : a .refusal ≡ 0 → ⊥ = λ e. omega arith in
+      let same = t .refused-on z .0 in
+      declines {r = k} g (ap (λ (b : Walked). b .refusal) same ∙ p) (ap (λ (b : Walked). b .row) same ∙ q)
+  agrees-takes h (accepts {c} {w} u ex ec l v) t =
+      accepts (t .accepted u) (t .placed-so u ∙ ex) (t .carry u ∙ ap (dropped list m) ec) (t .short u)
+      (wrote-then h v (subst (λ (y : Carry). Wrote (a .at) out₁ (taken list m (y .label)) (r .at) out₂) ec (t .written u)))
 
 module _ {row at : ℕ} {out out₁ : List ℕ} {a : Walked} {x : Place} (k : Carry → Outcome) where
   -- an element was converted, and what follows it goes on from there, in whatever place

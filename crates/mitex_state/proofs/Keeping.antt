@@ -215,9 +215,9 @@ keeps-command Normal name conv h x f c = keeps-normal (getCmd (x .rules) name) n
 
 keeps-take : {S : Type 0} (list : Bool) (m : LaTeXMode) {p : Outcome} → Kept S p → Kept S (takeLabel list m p)
 keeps-take list m (stops t) = stops t
-keeps-take true m (goes h) = goes h
+keeps-take true m (goes {c} h) = goes {c = c} h
 keeps-take false Text (goes {c} h) = goes {c = labelled unheld c} (λ s. omega arith)
-keeps-take false Math (goes h) = goes h
+keeps-take false Math (goes {c} h) = goes {c = c} h
 
 module _ (conv : Conv) (h : KeepsConv conv) (x : Context) (f : Forest) where
   keeps-math : (e : LaTeXEnv) (w : List ℕ) → Keeps (mathEnv e w conv x f)

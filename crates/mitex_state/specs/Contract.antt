@@ -1,11 +1,13 @@
 -- What a walk over an element promises: its answer agrees with the outcome that the definitions give.
 use mathlib.Core.Path.{_≡_}
+use mathlib.Core.Bool.{Bool}
 use Prim.Native.Nat.{ℕ, _+_, _≤_, _<_}
 use mathlib.Core.List.{List}
 use Rattle.text.specs.Writing.{Wrote}
 use Rattle.mitex_state.specs.Outcome.{Carry, Outcome, labelMost}
 use Rattle.mitex_state.specs.Outcome.Outcome.{refused, done}
 use Rattle.mitex_state.specs.State.{carryOf, placed}
+use Rattle.mitex_state.specs.Environments.{taken, dropped}
 use Rattle.mitex_state.specs.declared.LaTeXMode.{LaTeXMode}
 use Rattle.mitex_state.specs.declared.LaTeXEnv.{LaTeXEnv}
 use Rattle.mitex_state.specs.declared.Converter.{Converter}
@@ -44,3 +46,12 @@ pub record Closed (a : Walked) (x : Place) (w out : List ℕ) (r : Walked) (out�
   pub accepted : a .refusal ≡ 0 → r .refusal ≡ 0
   pub converter : a .refusal ≡ 0 → r .converter ≡ placed (x .mode) (x .env) (x .indent) (a .converter)
   pub written : a .refusal ≡ 0 → Wrote (a .at) out w (r .at) out′
+
+-- what ends an environment: a refusal is handed on; else the held label is written and dropped where the environment takes it
+pub record Takes (a : Walked) (list : Bool) (m : LaTeXMode) (out : List ℕ) (r : Walked) (out′ : List ℕ) : Type 0 where
+  pub refused-on : (a .refusal ≡ 0 → ⊥) → (r ≡ a) × (out′ ≡ out)
+  pub accepted : a .refusal ≡ 0 → r .refusal ≡ 0
+  pub placed-so : a .refusal ≡ 0 → placeOf (r .converter) ≡ placeOf (a .converter)
+  pub carry : a .refusal ≡ 0 → carryOf (r .converter) ≡ dropped list m (carryOf (a .converter))
+  pub short : a .refusal ≡ 0 → r .converter .«label_len» ≤ labelMost
+  pub written : a .refusal ≡ 0 → Wrote (a .at) out (taken list m (carryOf (a .converter) .label)) (r .at) out′

@@ -143,11 +143,20 @@ isList Cases = false
 isList SubStack = false
 isList MathCurlyGroup = false
 
+-- what is written of it, and what is carried on
+abbrev pub taken : Bool → LaTeXMode → Label → List ℕ
+taken true m l = []
+taken false Text l = heldText l
+taken false Math l = []
+
+abbrev pub dropped : Bool → LaTeXMode → Carry → Carry
+dropped true m c = c
+dropped false Text c = labelled unheld c
+dropped false Math c = c
+
 abbrev pub takeLabel : Bool → LaTeXMode → Outcome → Outcome
 takeLabel list m (refused n r) = refused n r
-takeLabel true m (done c w) = done c w
-takeLabel false Text (done c w) = done (labelled unheld c) (w ++ heldText (c .label))
-takeLabel false Math (done c w) = done c w
+takeLabel list m (done c w) = done (dropped list m c) (w ++ taken list m (c .label))
 
 -- ---- by class, in the order of `ContextFeature`: from 3 on None, IsMath, IsMatrix, IsCases, IsFigure, IsTable, IsItemize, IsEnumerate
 
