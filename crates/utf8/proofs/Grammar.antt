@@ -2,8 +2,8 @@
 -- between two. The other way, what a state still asks (`Completes`) is found byte by byte in whatever is accepted from it.
 use mathlib.Core.Path.{_≡_, refl, sym, ap, subst, _∙_}
 use mathlib.Core.Logic.{dite, _↔_}
-use mathlib.Core.Bool.{Bool, true, false, _&&_, cond}
-use mathlib.Core.List.{List, [], _∷_, _++_}
+use mathlib.Core.Bool.{Bool, true, false}
+use mathlib.Core.List.{List, [], _∷_}
 use Prim.Native.Nat.{ℕ, zero, suc, _-_, _≤_}
 use native.Mathlib.Omega.{arith}
 use native.Mathlib.Decide.{decLe}
@@ -24,48 +24,48 @@ pub record Leads (b n lo hi : ℕ) : Type 0 where
   pub to : secondHigh b ≡ hi
 
 -- only four first bytes narrow the second
-plain : (b n : ℕ) → lengthBy b ≡ suc n → (b ≡ 224 → ⊥) → (b ≡ 237 → ⊥) → (b ≡ 240 → ⊥) → (b ≡ 244 → ⊥) → Leads b n 128 191
-plain b n e h k l m =
-    record { by = e; from = rw (ne-eqb b 224 h, ne-eqb b 240 l); to = rw (ne-eqb b 237 k, ne-eqb b 244 m) }
+leads-plain : (b n : ℕ) → lengthBy b ≡ suc n → (b ≡ 0xE0 → ⊥) → (b ≡ 0xED → ⊥) → (b ≡ 0xF0 → ⊥) → (b ≡ 0xF4 → ⊥) → Leads b n 0x80 0xBF
+leads-plain b n e h k l m =
+    record { by = e; from = rw (ne-eqb b 0xE0 h, ne-eqb b 0xF0 l); to = rw (ne-eqb b 0xED k, ne-eqb b 0xF4 m) }
 
 module _ {b : ℕ} where
-  pub leads-1 : Between 0 127 b → Leads b 0 128 191
-  leads-1 w = let h = w .high in plain b 0 (rw (le-leb b 127)) (omega arith) (omega arith) (omega arith) (omega arith)
+  pub leads-1 : Between 0x00 0x7F b → Leads b 0 0x80 0xBF
+  leads-1 w = let h = w .high in leads-plain b 0 (rw (le-leb b 0x7F)) (omega arith) (omega arith) (omega arith) (omega arith)
 
-  pub leads-2 : Between 194 223 b → Leads b 1 128 191
+  pub leads-2 : Between 0xC2 0xDF b → Leads b 1 0x80 0xBF
   leads-2 w =
       let l = w .low in let h = w .high in
-      plain b 1 (rw (lt-leb b 127 (omega arith), lt-leb b 193, le-leb b 223)) (omega arith) (omega arith) (omega arith) (omega arith)
+      leads-plain b 1 (rw (lt-leb b 0x7F (omega arith), lt-leb b 0xC1, le-leb b 0xDF)) (omega arith) (omega arith) (omega arith) (omega arith)
 
-  leads-3 : 224 ≤ b → b ≤ 239 → (b ≡ 224 → ⊥) → (b ≡ 237 → ⊥) → Leads b 2 128 191
+  leads-3 : 0xE0 ≤ b → b ≤ 0xEF → (b ≡ 0xE0 → ⊥) → (b ≡ 0xED → ⊥) → Leads b 2 0x80 0xBF
   leads-3 l h x y =
-      plain b 2 (rw (lt-leb b 127 (omega arith), lt-leb b 193 (omega arith), lt-leb b 223, le-leb b 239)) x y (omega arith) (omega arith)
+      leads-plain b 2 (rw (lt-leb b 0x7F (omega arith), lt-leb b 0xC1 (omega arith), lt-leb b 0xDF, le-leb b 0xEF)) x y (omega arith) (omega arith)
 
-  pub leads-e1 : Between 225 236 b → Leads b 2 128 191
+  pub leads-e1 : Between 0xE1 0xEC b → Leads b 2 0x80 0xBF
   leads-e1 w = let l = w .low in let h = w .high in leads-3 (omega arith) (omega arith) (omega arith) (omega arith)
 
-  pub leads-ee : Between 238 239 b → Leads b 2 128 191
+  pub leads-ee : Between 0xEE 0xEF b → Leads b 2 0x80 0xBF
   leads-ee w = let l = w .low in let h = w .high in leads-3 (omega arith) (omega arith) (omega arith) (omega arith)
 
-  pub leads-f1 : Between 241 243 b → Leads b 3 128 191
+  pub leads-f1 : Between 0xF1 0xF3 b → Leads b 3 0x80 0xBF
   leads-f1 w =
       let l = w .low in let h = w .high in
-      plain b 3 (rw (lt-leb b 127 (omega arith), lt-leb b 193 (omega arith), lt-leb b 223 (omega arith), lt-leb b 239 (omega arith), le-leb b 244 (omega arith)))
+      leads-plain b 3 (rw (lt-leb b 0x7F (omega arith), lt-leb b 0xC1 (omega arith), lt-leb b 0xDF (omega arith), lt-leb b 0xEF (omega arith), le-leb b 0xF4 (omega arith)))
       (omega arith) (omega arith) (omega arith) (omega arith)
 
 abbrev leads : {b n lo hi : ℕ} → lengthBy b ≡ suc n → secondLow b ≡ lo → secondHigh b ≡ hi → Leads b n lo hi
 leads e p q = record { by = e; from = p; to = q }
 
-leads-e0 : Leads 224 2 160 191
+leads-e0 : Leads 0xE0 2 0xA0 0xBF
 leads-e0 = leads refl refl refl
 
-leads-ed : Leads 237 2 128 159
+leads-ed : Leads 0xED 2 0x80 0x9F
 leads-ed = leads refl refl refl
 
-leads-f0 : Leads 240 3 144 191
+leads-f0 : Leads 0xF0 3 0x90 0xBF
 leads-f0 = leads refl refl refl
 
-leads-f4 : Leads 244 3 128 143
+leads-f4 : Leads 0xF4 3 0x80 0x8F
 leads-f4 = leads refl refl refl
 
 -- ---- from the grammar to the test
@@ -77,7 +77,7 @@ begun-leads : {b n lo hi : ℕ} → Leads b n lo hi → begun b ≡ state n lo h
 begun-leads {b} {n} w = rw (w .by, w .from, w .to, ne-eqb (suc n) 0 (omega arith), less-one n)
 
 -- a byte within its bounds
-step-on : {m lo hi b : ℕ} → Between lo hi b → step (state (suc m) lo hi) b ≡ state m 128 191
+step-on : {m lo hi b : ℕ} → Between lo hi b → step (state (suc m) lo hi) b ≡ state m 0x80 0xBF
 step-on {m} {lo} {hi} {b} w =
     let l = w .low in let h = w .high in
     rw (ne-eqb (suc m) 0 (omega arith), le-leb lo b, le-leb b hi, less-one m)
@@ -119,7 +119,7 @@ text-run (then {c} {s} w t) = run-append whole c s ∙ ap (λ (u : State). run u
 abbrev Completes : ℕ → ℕ → ℕ → List ℕ → Type 0
 Completes zero lo hi s = Text s
 Completes (suc m) lo hi [] = ⊥
-Completes (suc m) lo hi (b ∷ s) = Between lo hi b × Completes m 128 191 s
+Completes (suc m) lo hi (b ∷ s) = Between lo hi b × Completes m 0x80 0xBF s
 
 -- a first byte, the rest of its character, and text
 module _ {lo hi : ℕ} (a : ℕ) where
@@ -140,15 +140,15 @@ module _ {lo hi : ℕ} (a : ℕ) where
 
 -- the line of the grammar that a first byte begins
 data Line : ℕ → Type 0 where
-  line-1 : {a : ℕ} → Between 0 127 a → Line a
-  line-2 : {a : ℕ} → Between 194 223 a → Line a
-  line-e0 : Line 224
-  line-e1 : {a : ℕ} → Between 225 236 a → Line a
-  line-ed : Line 237
-  line-ee : {a : ℕ} → Between 238 239 a → Line a
-  line-f0 : Line 240
-  line-f1 : {a : ℕ} → Between 241 243 a → Line a
-  line-f4 : Line 244
+  line-1 : {a : ℕ} → Between 0x00 0x7F a → Line a
+  line-2 : {a : ℕ} → Between 0xC2 0xDF a → Line a
+  line-e0 : Line 0xE0
+  line-e1 : {a : ℕ} → Between 0xE1 0xEC a → Line a
+  line-ed : Line 0xED
+  line-ee : {a : ℕ} → Between 0xEE 0xEF a → Line a
+  line-f0 : Line 0xF0
+  line-f1 : {a : ℕ} → Between 0xF1 0xF3 a → Line a
+  line-f4 : Line 0xF4
   line-none : {a : ℕ} → lengthBy a ≡ 0 → Line a
 
 abbrev from-to : {lo hi a : ℕ} → lo ≤ a → a ≤ hi → Between lo hi a
@@ -156,17 +156,17 @@ from-to l h = record { low = l; high = h }
 
 line-of : (a : ℕ) → Line a
 line-of a =
-    dite (decLe a 127) (λ h. line-1 (from-to (omega arith) h)) (λ n1.
-    dite (decLe a 193) (λ h. line-none (rw (lt-leb a 127 (omega arith), le-leb a 193))) (λ n2.
-    dite (decLe a 223) (λ h. line-2 (from-to (omega arith) h)) (λ n3.
-    dite (decLe a 224) (λ h. let e : 224 ≡ a = omega arith in subst Line e line-e0) (λ n4.
-    dite (decLe a 236) (λ h. line-e1 (from-to (omega arith) h)) (λ n5.
-    dite (decLe a 237) (λ h. let e : 237 ≡ a = omega arith in subst Line e line-ed) (λ n6.
-    dite (decLe a 239) (λ h. line-ee (from-to (omega arith) h)) (λ n7.
-    dite (decLe a 240) (λ h. let e : 240 ≡ a = omega arith in subst Line e line-f0) (λ n8.
-    dite (decLe a 243) (λ h. line-f1 (from-to (omega arith) h)) (λ n9.
-    dite (decLe a 244) (λ h. let e : 244 ≡ a = omega arith in subst Line e line-f4) (λ n10.
-    line-none (rw (lt-leb a 127 (omega arith), lt-leb a 193 (omega arith), lt-leb a 223 (omega arith), lt-leb a 239 (omega arith), lt-leb a 244 (omega arith)))))))))))))
+    dite (decLe a 0x7F) (λ h. line-1 (from-to (omega arith) h)) (λ n1.
+    dite (decLe a 0xC1) (λ h. line-none (rw (lt-leb a 0x7F (omega arith), le-leb a 0xC1))) (λ n2.
+    dite (decLe a 0xDF) (λ h. line-2 (from-to (omega arith) h)) (λ n3.
+    dite (decLe a 0xE0) (λ h. let e : 0xE0 ≡ a = omega arith in subst Line e line-e0) (λ n4.
+    dite (decLe a 0xEC) (λ h. line-e1 (from-to (omega arith) h)) (λ n5.
+    dite (decLe a 0xED) (λ h. let e : 0xED ≡ a = omega arith in subst Line e line-ed) (λ n6.
+    dite (decLe a 0xEF) (λ h. line-ee (from-to (omega arith) h)) (λ n7.
+    dite (decLe a 0xF0) (λ h. let e : 0xF0 ≡ a = omega arith in subst Line e line-f0) (λ n8.
+    dite (decLe a 0xF3) (λ h. line-f1 (from-to (omega arith) h)) (λ n9.
+    dite (decLe a 0xF4) (λ h. let e : 0xF4 ≡ a = omega arith in subst Line e line-f4) (λ n10.
+    line-none (rw (lt-leb a 0x7F (omega arith), lt-leb a 0xC1 (omega arith), lt-leb a 0xDF (omega arith), lt-leb a 0xEF (omega arith), lt-leb a 0xF4 (omega arith)))))))))))))
 
 -- what the state after a first byte asks
 asked : {a n lo hi : ℕ} (s : List ℕ) → Leads a n lo hi → Completes (lengthBy a - 1) (secondLow a) (secondHigh a) s → Completes n lo hi s
@@ -175,13 +175,13 @@ asked {a} {n} s l e = rw (l .by, l .from, l .to, less-one n) at e
 completes-text : {a : ℕ} (s : List ℕ) → Line a → (lengthBy a ≡ 0 → ⊥) → Completes (lengthBy a - 1) (secondLow a) (secondHigh a) s → Text (a ∷ s)
 completes-text {a} s (line-1 w) z e = then (one w) (asked s (leads-1 w) e)
 completes-text {a} s (line-2 w) z e = ends-2 a (λ b t. two w t) s (asked s (leads-2 w) e)
-completes-text s line-e0 z e = ends-3 224 (λ b c w t. three-e0 w t) s e
+completes-text s line-e0 z e = ends-3 0xE0 (λ b c w t. three-e0 w t) s e
 completes-text {a} s (line-e1 w) z e = ends-3 a (λ b c t v. three-e1 w t v) s (asked s (leads-e1 w) e)
-completes-text s line-ed z e = ends-3 237 (λ b c w t. three-ed w t) s e
+completes-text s line-ed z e = ends-3 0xED (λ b c w t. three-ed w t) s e
 completes-text {a} s (line-ee w) z e = ends-3 a (λ b c t v. three-ee w t v) s (asked s (leads-ee w) e)
-completes-text s line-f0 z e = ends-4 240 (λ b c d w t v. four-f0 w t v) s e
+completes-text s line-f0 z e = ends-4 0xF0 (λ b c d w t v. four-f0 w t v) s e
 completes-text {a} s (line-f1 w) z e = ends-4 a (λ b c d t v x. four-f1 w t v x) s (asked s (leads-f1 w) e)
-completes-text s line-f4 z e = ends-4 244 (λ b c d w t v. four-f4 w t v) s e
+completes-text s line-f4 z e = ends-4 0xF4 (λ b c d w t v. four-f4 w t v) s e
 completes-text s (line-none n) z e = absurd (z n)
 
 step-dead : (b : ℕ) → step dead b ≡ dead
@@ -223,11 +223,11 @@ complete (b ∷ s) (suc m) lo hi e =
         | false ↦ λ p q. dead-no s here (rw (n, p, q)) e
         | true ↦ λ p q.
             let w = from-to (leb-true lo b p) (leb-true b hi q) in
-            (w, complete s m 128 191 (accepted s here (state m 128 191) (step-on {m = m} w) e))
+            (w, complete s m 0x80 0xBF (accepted s here (state m 0x80 0xBF) (step-on {m = m} w) e))
       ]
     ] in
     by (leb lo b) (leb b hi) refl refl
 
 pub valid-text : (s : List ℕ) → (valid s ≡ true) ↔ Text s
 unfolding valid
-valid-text s = (λ e. complete s 0 128 191 (eqb-true (run whole s .more) 0 e), λ t. rw (text-run t))
+valid-text s = (λ e. complete s 0 0x80 0xBF (eqb-true (run whole s .more) 0 e), λ t. rw (text-run t))

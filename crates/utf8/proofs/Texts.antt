@@ -21,19 +21,19 @@ use Rattle.utf8.proofs.Grammar.{leads-1, leads-2, leads-e1, leads-ee, l
 -- ---- the RFC's characters are characters of `chars`
 
 tail-on : {b : ℕ} → Tail b → continues b ≡ true
-tail-on {b} t = rw (le-leb 128 b (t .low), le-leb b 191 (t .high))
+tail-on {b} t = rw (le-leb 0x80 b (t .low), le-leb b 0xBF (t .high))
 
 -- the narrower bounds of a second byte
-tail : {lo hi b : ℕ} → 128 ≤ lo → hi ≤ 191 → Between lo hi b → Tail b
+tail : {lo hi b : ℕ} → 0x80 ≤ lo → hi ≤ 0xBF → Between lo hi b → Tail b
 tail l h w =
     let x = w .low in let y = w .high in
     record { low = omega arith; high = omega arith }
 
-low-starts : {b : ℕ} → b ≤ 127 → continues b ≡ false
-low-starts {b} h = rw (lt-leb 128 b (omega arith))
+low-starts : {b : ℕ} → b ≤ 0x7F → continues b ≡ false
+low-starts {b} h = rw (lt-leb 0x80 b (omega arith))
 
-high-starts : {lo hi b : ℕ} → Between lo hi b → 192 ≤ lo → continues b ≡ false
-high-starts {lo} {hi} {b} w l = let x = w .low in rw (lt-leb b 191 (omega arith), and-false)
+high-starts : {lo hi b : ℕ} → Between lo hi b → 0xC0 ≤ lo → continues b ≡ false
+high-starts {lo} {hi} {b} w l = let x = w .low in rw (lt-leb b 0xBF (omega arith), and-false)
 
 char-starts : {c : List ℕ} (s : List ℕ) → Char c → goesOn (c ++ s) ≡ false
 char-starts s (one w) = low-starts (w .high)
@@ -142,16 +142,16 @@ valid-split a b g e =
     (rw concat-chars at (chars-valid (chars a) (r .0)), rw concat-chars at (chars-valid (chars b) (r .1)))
 
 -- a one-byte character in front
-pub valid-one : (a : ℕ) (s : List ℕ) → a ≤ 127 → valid (a ∷ s) ≡ valid s
+pub valid-one : (a : ℕ) (s : List ℕ) → a ≤ 0x7F → valid (a ∷ s) ≡ valid s
 valid-one a s h = valid-append (a ∷ []) s (valid-text (a ∷ []) .1 (then (one (record { low = omega arith; high = h })) end))
 
 -- what stands between two one-byte ends
-pub valid-inside : (s : List ℕ) (n : ℕ) → n + 2 ≡ length s → getD s 0 0 ≤ 127 → getD s (length s - 1) 0 ≤ 127 → valid s ≡ true → valid (take n (drop 1 s)) ≡ true
+pub valid-inside : (s : List ℕ) (n : ℕ) → n + 2 ≡ length s → getD s 0 0 ≤ 0x7F → getD s (length s - 1) 0 ≤ 0x7F → valid s ≡ true → valid (take n (drop 1 s)) ≡ true
 valid-inside [] n l a z e = absurd (omega arith)
 valid-inside (x ∷ s) n l a z e =
     let k : n < length s = omega arith in
     let at : length (x ∷ s) - 1 ≡ suc n = omega arith in
-    let last : getD s n 0 ≤ 127 = subst (λ (m : ℕ). getD (x ∷ s) m 0 ≤ 127) at z in
+    let last : getD s n 0 ≤ 0x7F = subst (λ (m : ℕ). getD (x ∷ s) m 0 ≤ 0x7F) at z in
     let g : goesOn (drop n s) ≡ false = rw (drop-cons s n 0) (low-starts last) in
     let v : valid (take n s ++ drop n s) ≡ true = rw take-append-drop (sym (valid-one x s a) ∙ e) in
     valid-split (take n s) (drop n s) g v .0

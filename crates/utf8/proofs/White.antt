@@ -3,7 +3,7 @@
 use mathlib.Core.Path.{_≡_, refl, ap, _∙_}
 use mathlib.Core.Bool.{Bool, true, false, _&&_, cond, Bool·beq, and-false}
 use mathlib.Core.List.{List, [], _∷_}
-use Prim.Native.Nat.{ℕ, zero, suc, _≤_, _<_}
+use Prim.Native.Nat.{ℕ, zero, suc, _<_}
 use native.Mathlib.Omega.{arith}
 use lib.Dec.{leb, eqb}
 use lib.ListN.{length, getD}
@@ -39,16 +39,16 @@ every-at p (suc n) e k h =
     ] in
     at (eqb k n) refl
 
-pub white-one : (a : ℕ) → a < 256 → isWhite (a ∷ []) ≡ cond (leb a 13) (leb 9 a) (eqb a 32)
+pub white-one : (a : ℕ) → a < 256 → isWhite (a ∷ []) ≡ cond (leb a 0x0D) (leb 0x09 a) (eqb a 0x20)
 unfolding same
 white-one a h =
-    same-bool _ _ (every-at (λ a. Bool·beq (isWhite (a ∷ [])) (cond (leb a 13) (leb 9 a) (eqb a 32))) 256 refl a h)
+    same-bool _ _ (every-at (λ a. Bool·beq (isWhite (a ∷ [])) (cond (leb a 0x0D) (leb 0x09 a) (eqb a 0x20))) 256 refl a h)
 
-pub white-20 : (c : ℕ) → c < 256 → isWhite (226 ∷ 128 ∷ c ∷ []) ≡ cond (leb c 138) (leb 128 c) (cond (leb c 169) (leb 168 c) (eqb c 175))
+pub white-20 : (c : ℕ) → c < 256 → isWhite (0xE2 ∷ 0x80 ∷ c ∷ []) ≡ cond (leb c 0x8A) (leb 0x80 c) (cond (leb c 0xA9) (leb 0xA8 c) (eqb c 0xAF))
 unfolding same
 white-20 c h =
     same-bool _ _
-    (every-at (λ c. Bool·beq (isWhite (226 ∷ 128 ∷ c ∷ [])) (cond (leb c 138) (leb 128 c) (cond (leb c 169) (leb 168 c) (eqb c 175)))) 256 refl c h)
+    (every-at (λ c. Bool·beq (isWhite (0xE2 ∷ 0x80 ∷ c ∷ [])) (cond (leb c 0x8A) (leb 0x80 c) (cond (leb c 0xA9) (leb 0xA8 c) (eqb c 0xAF)))) 256 refl c h)
 
 -- ---- a character by the number of its bytes
 

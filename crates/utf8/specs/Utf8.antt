@@ -51,9 +51,13 @@ secondHigh b = cond (eqb b 0xED) 0x9F (cond (eqb b 0xF4) 0x8F 0xBF)
 abbrev pub state : ℕ → ℕ → ℕ → State
 state m a b = record { more = m; low = a; high = b }
 
+-- so many bytes are to come, each any that continues a character
+abbrev pub plain : ℕ → State
+plain m = state m 0x80 0xBF
+
 -- between two characters
 abbrev pub whole : State
-whole = state 0 0x80 0xBF
+whole = plain 0
 
 -- no byte leads on from here
 abbrev pub dead : State
@@ -65,7 +69,7 @@ begun b = cond (eqb (lengthBy b) 0) dead (state (lengthBy b - 1) (secondLow b) (
 
 -- after one byte more
 abbrev pub step : State → ℕ → State
-step u b = cond (eqb (u .more) 0) (begun b) (cond (leb (u .low) b && leb b (u .high)) (state (u .more - 1) 0x80 0xBF) dead)
+step u b = cond (eqb (u .more) 0) (begun b) (cond (leb (u .low) b && leb b (u .high)) (plain (u .more - 1)) dead)
 
 unfoldable pub run : State → List ℕ → State
 run u [] = u

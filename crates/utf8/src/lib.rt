@@ -1,12 +1,15 @@
-// UTF-8 by RFC 3629: the length of a character by its first byte, and whether bytes are valid text.
+// UTF-8 by RFC 3629: the length of a character by its first byte, whether bytes are valid text, the characters of a text,
+// Unicode's White_Space, and trimming.
 
 ghost use mathlib.Core.Path.{_≡_};
-ghost use Prim.Native.Nat.{_<_};
-ghost use lib.ListN.{length};
+ghost use mathlib.Core.Bool.{cond};
 ghost use mathlib.Core.List.{[], _∷_};
+ghost use Prim.Native.Nat.{_<_};
+ghost use lib.Dec.{eqb};
+ghost use lib.ListN.{length};
+ghost use Rattle.utf8.specs.Utf8.{lengthBy, secondLow, secondHigh, plain, dead, begun, step, valid};
 ghost use Rattle.utf8.specs.Chars.{continues, charLen, LastAt, isWhite};
 ghost use Rattle.utf8.specs.Trim.{trimStart, trimEnd, trim};
-ghost use Rattle.utf8.specs.Utf8.{lengthBy, secondLow, secondHigh, begun, step, valid};
 
 // A place in a text: how many bytes of the character are to come, and what the next lies between.
 pub struct State {
@@ -37,30 +40,53 @@ pub fn length_by(b: u8) -> u8
     0
 }
 
+// A bound of the second byte, by the first: two first bytes have one of their own.
+fn bound(b: u8, x: u8, at_x: u8, y: u8, at_y: u8, other: u8) -> u8
+    ensures { λ r. ⌜ r ≡ cond (eqb b x) «at_x» (cond (eqb b y) «at_y» other) ⌝ }
+{
+    if b == x {
+        return at_x;
+    }
+    if b == y {
+        return at_y;
+    }
+    other
+}
+
 // The least second byte: after E0 and F0 what is lower is an overlong form.
 fn second_low(b: u8) -> u8
     ensures { λ r. ⌜ r ≡ secondLow b ⌝ }
 {
-    if b == 0xE0 {
-        return 0xA0;
-    }
-    if b == 0xF0 {
-        return 0x90;
-    }
-    0x80
+    bound(b, 0xE0, 0xA0, 0xF0, 0x90, 0x80)
 }
 
 // The greatest second byte: after ED what is higher is a surrogate, after F4 above 10FFFF.
 fn second_high(b: u8) -> u8
     ensures { λ r. ⌜ r ≡ secondHigh b ⌝ }
 {
-    if b == 0xED {
-        return 0x9F;
+    bound(b, 0xED, 0x9F, 0xF4, 0x8F, 0xBF)
+}
+
+// So many bytes are to come, each any that continues a character.
+fn plain(more: u8) -> State
+    ensures { λ r. ⌜ r ≡ plain more ⌝ }
+{
+    State {
+        more,
+        low: 0x80,
+        high: 0xBF,
     }
-    if b == 0xF4 {
-        return 0x8F;
+}
+
+// No byte leads on from here.
+fn dead() -> State
+    ensures { λ r. ⌜ r ≡ dead ⌝ }
+{
+    State {
+        more: 1,
+        low: 1,
+        high: 0,
     }
-    0xBF
 }
 
 // The state after a first byte.
@@ -69,11 +95,7 @@ fn begin(b: u8) -> State
 {
     let n = length_by(b);
     if n == 0 {
-        return State {
-            more: 1,
-            low: 1,
-            high: 0,
-        };
+        return dead();
     }
     State {
         more: n - 1,
@@ -89,31 +111,20 @@ fn step(u: State, b: u8) -> State
     if u.more == 0 {
         return begin(b);
     }
-    if u.low <= b {
-        if b <= u.high {
-            return State {
-                more: u.more - 1,
-                low: 0x80,
-                high: 0xBF,
-            };
-        }
+    if b < u.low {
+        return dead();
     }
-    State {
-        more: 1,
-        low: 1,
-        high: 0,
+    if u.high < b {
+        return dead();
     }
+    plain(u.more - 1)
 }
 
 // Whether the bytes are valid text: whole characters, none overlong, no surrogate, none above 10FFFF.
 pub fn valid(s: &[u8]) -> bool
     ensures { λ r. ⌜ r ≡ valid (now (s .entry)) ⌝ }
 {
-    let mut u = State {
-        more: 0,
-        low: 0x80,
-        high: 0xBF,
-    };
+    let mut u = plain(0);
     let mut i = 0;
     while i < s.len() {
         u = step(u, s[i]);
@@ -146,7 +157,7 @@ pub fn char_len(s: &[u8]) -> usize
     n
 }
 
-// Where the last character of some bytes begins.
+// Where the last character begins, of one byte or more.
 fn last_at(s: &[u8]) -> usize
     requires { ⌜ 0 < length (now s) ⌝ }
     ensures { λ r. ⌜ LastAt (now (s .entry)) r ⌝ }

@@ -8,8 +8,11 @@ use Rattle.utf8.proofs.begin.Tie as tie
 length-by-requires : tie.Need-length-by-requires
 length-by-requires c κs = search needs
 
+dead-requires : tie.Need-dead-requires
+dead-requires c κs = search needs
+
 returns : tie.Need-returns
-returns c = rw (eq-eqb _ _ (sym (c .before .length-by .ensures) ∙ c .if1 .taken))
+returns c = rw (eq-eqb _ _ (sym (c .before .before .length-by .ensures) ∙ c .before .if1 .taken)) (c .dead .ensures)
 
 sub-t4 : tie.Need-sub-t4
 sub-t4 c = search needs
@@ -28,4 +31,4 @@ returns-2 c =
 pub begin-spec : {M : Type 1} → statement M
 begin-spec =
     tie.close
-    (tie.spec length-by-requires returns sub-t4 second-low-requires second-high-requires returns-2)
+    (tie.spec length-by-requires dead-requires returns sub-t4 second-low-requires second-high-requires returns-2)

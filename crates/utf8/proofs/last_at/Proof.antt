@@ -1,6 +1,5 @@
 -- The invariant: what stands from k on is one character, or the end of one.
 use mathlib.Core.Path.{sym, _∙_}
-use native.Mathlib.Omega.{arith}
 use borrow.Author.Needs.{needs}
 use borrow.Author.Tests.{not-true, not-false}
 use Rattle.utf8.proofs.Chars.{OneFrom, one-start, one-on, one-stop, one-all}

@@ -10,23 +10,45 @@ begin-requires c κs = search needs
 returns : tie.Need-returns
 returns c = rw (eq-eqb _ _ (c .before .if1 .taken)) (c .begin .ensures)
 
-sub-t5 : tie.Need-sub-t5
-sub-t5 c = search needs
+dead-requires : tie.Need-dead-requires
+dead-requires c κs = search needs
 
 returns-2 : tie.Need-returns-2
 returns-2 c =
-    let second = c .before .before .before in
-    let first = second .before .before in
-    rw (ne-eqb _ _ (first .if1 .left), le-leb _ _ (second .if2 .taken), le-leb _ _ (c .before .if3 .taken))
+    let low = c .before in
+    rw (ne-eqb _ _ (low .before .before .if1 .left), lt-leb _ _ (low .if2 .taken)) (c .dead .ensures)
+
+dead-requires-2 : tie.Need-dead-requires-2
+dead-requires-2 c κs = search needs
 
 returns-3 : tie.Need-returns-3
 returns-3 c =
-    let second = c .before .before in
-    let first = second .before .before in
-    rw (ne-eqb _ _ (first .if1 .left), le-leb _ _ (second .if2 .taken), lt-leb _ _ (c .if3 .left))
+    let high = c .before in
+    let low = high .before .before in
+    rw (ne-eqb _ _ (low .before .before .if1 .left), le-leb _ _ (low .if2 .left), lt-leb _ _ (high .if3 .taken)) (c .dead2 .ensures)
+
+sub-plain : tie.Need-sub-plain
+sub-plain c = search needs
+
+plain-requires : tie.Need-plain-requires
+plain-requires c κs = search needs
 
 returns-4 : tie.Need-returns-4
-returns-4 c = rw (ne-eqb _ _ (c .before .before .if1 .left), lt-leb _ _ (c .if2 .left))
+returns-4 c =
+    let high = c .before .before in
+    let low = high .before .before in
+    rw (ne-eqb _ _ (low .before .before .if1 .left), le-leb _ _ (low .if2 .left), le-leb _ _ (high .if3 .left)) (c .plain .ensures)
 
 pub step-spec : {M : Type 1} → statement M
-step-spec = tie.close (tie.spec begin-requires returns sub-t5 returns-2 returns-3 returns-4)
+step-spec =
+    tie.close
+    (tie.spec
+    begin-requires
+    returns
+    dead-requires
+    returns-2
+    dead-requires-2
+    returns-3
+    sub-plain
+    plain-requires
+    returns-4)

@@ -1,5 +1,5 @@
 -- The invariant: the run over what is left, from the present state, ends as the run over the whole.
-use mathlib.Core.Path.{_≡_, refl, ap, sym, _∙_}
+use mathlib.Core.Path.{_≡_, ap, sym, _∙_}
 use Prim.Native.Nat.{_≤_, _-_}
 use native.Mathlib.Omega.{arith}
 use borrow.Author.Needs.{needs}
@@ -17,8 +17,11 @@ Inv-loop s u₀ i₀ u i = (i ≤ length s) × (run u (drop i s) ≡ run whole s
 abbrev μ-loop : tie.MeasureT-loop
 μ-loop s u₀ i₀ u i = length s - i
 
+plain-requires : tie.Need-plain-requires Inv-loop μ-loop
+plain-requires c κs = search needs
+
 loop-holds : tie.Need-loop-holds Inv-loop μ-loop
-loop-holds c = (omega arith, refl)
+loop-holds c = (omega arith, rw (c .plain .ensures))
 
 shared-slice-read-step : tie.Need-shared-slice-read-step Inv-loop μ-loop
 shared-slice-read-step c = search needs
@@ -36,13 +39,13 @@ loop-again : tie.Need-loop-again Inv-loop μ-loop
 loop-again c =
     let turn = c .before .before in
     let at = turn .before .loop in
-    (omega arith, rw (c .step .ensures, ← run-cons (at .u) (turn .before .before .before .args .s .now) (at .i) (turn .loop-test .taken)) (at .inv .1))
+    (omega arith, rw (c .step .ensures, ← run-cons (at .u) (turn .before .before .before .before .args .s .now) (at .i) (turn .loop-test .taken)) (at .inv .1))
 
 returns : tie.Need-returns Inv-loop μ-loop
 unfolding valid
 returns c =
     let at = c .before .before in
-    ap (λ (u : State). eqb (u .more) 0) (sym (run-end (at .loop .u) (at .before .before .args .s .now) (at .loop .i) (c .before .loop-test .left)) ∙ at .loop .inv .1)
+    ap (λ (u : State). eqb (u .more) 0) (sym (run-end (at .loop .u) (at .before .before .before .args .s .now) (at .loop .i) (c .before .loop-test .left)) ∙ at .loop .inv .1)
 
 pub valid-spec : {M : Type 1} → statement M
 valid-spec =
@@ -50,6 +53,7 @@ valid-spec =
     (tie.spec
     Inv-loop
     μ-loop
+    plain-requires
     loop-holds
     shared-slice-read-step
     step-requires

@@ -1,7 +1,7 @@
 -- Each answer's tests, in order, choose the same case of the definition.
 use borrow.Author.Tests.{eq-eqb, ne-eqb}
-use Rattle.utf8.proofs.second_high.Statement.{statement}
-use Rattle.utf8.proofs.second_high.Tie as tie
+use Rattle.utf8.proofs.bound.Statement.{statement}
+use Rattle.utf8.proofs.bound.Tie as tie
 
 returns : tie.Need-returns
 returns c = simp (eq-eqb _ _ (c .if1 .taken))
@@ -12,5 +12,5 @@ returns-2 c = simp (ne-eqb _ _ (c .before .if1 .left), eq-eqb _ _ (c .if2 .taken
 returns-3 : tie.Need-returns-3
 returns-3 c = simp (ne-eqb _ _ (c .before .if1 .left), ne-eqb _ _ (c .if2 .left))
 
-pub second-high-spec : {M : Type 1} → statement M
-second-high-spec = tie.close (tie.spec returns returns-2 returns-3)
+pub bound-spec : {M : Type 1} → statement M
+bound-spec = tie.close (tie.spec returns returns-2 returns-3)
