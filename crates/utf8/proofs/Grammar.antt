@@ -73,7 +73,7 @@ leads-f4 = leads refl refl refl
 less-one : (n : ℕ) → suc n - 1 ≡ n
 less-one n = omega arith
 
-begun-leads : {b n lo hi : ℕ} → Leads b n lo hi → begun b ≡ state n lo hi
+pub begun-leads : {b n lo hi : ℕ} → Leads b n lo hi → begun b ≡ state n lo hi
 begun-leads {b} {n} w = rw (w .by, w .from, w .to, ne-eqb (suc n) 0 (omega arith), less-one n)
 
 -- a byte within its bounds

@@ -89,10 +89,13 @@ fn dead() -> State
     }
 }
 
-// The state after a first byte.
+// The state after a first byte. One-byte characters are told apart first, since most texts have few others.
 fn begin(b: u8) -> State
     ensures { λ r. ⌜ r ≡ begun b ⌝ }
 {
+    if b <= 0x7F {
+        return plain(0);
+    }
     let n = length_by(b);
     if n == 0 {
         return dead();
