@@ -27,7 +27,7 @@ use Rattle.mitex_state.specs.Colors.{Model, greedyModel, argumentModel, 
 use Rattle.mitex_state.specs.Commands.{itemIn, labelNow, labelHeld, labelIn, typstName, isArgument, greedyIn, argumentsOf, argumentsBy, stackEnv, written, normalBy, commandOf, commandBy}
 use Rattle.mitex_state.specs.Tables.{lettersFit, hasEnds}
 use Rattle.mitex_state.specs.Environments.{Caption, absent, bare, caption, lastCaption, mathEnv, captioned, tableBy, takeLabel, envOf, plainEnv, envBody, isList, envBy}
-use Rattle.mitex_state.specs.Conversion.{elementOf, armBy, step, convert}
+use Rattle.mitex_state.specs.Conversion.{elementOf, armBy, step, convert, levels, startContext, blocksFrom}
 use Rattle.mitex_state.specs.Keeping.{Short, isWalkNumber, Kept, Keeps}
 use Rattle.mitex_state.specs.Keeping.Kept.{stops, goes}
 use Rattle.mitex_state.specs.declared.LaTeXMode.{LaTeXMode}
@@ -298,3 +298,7 @@ keeps-number d x t c n r e = of-refused (subst (Kept (Short c)) e (keeps d x t c
 
 pub never-six : (d : ℕ) (x : Context) (t : Tree) (c : Carry) (n r : ℕ) → convert d x t c ≡ refused n r → n ≡ 6 → ⊥
 never-six d x t c n r e six = subst (λ (m : ℕ). T (isWalkNumber m)) six (keeps-number d x t c n r e)
+
+-- and so do blocks one after the other
+pub blocks-keep : (rules : List Rule) (m : LaTeXMode) (o : ℕ) (f : Forest) → Keeps (blocksFrom rules m o f)
+blocks-keep rules m o f = keeps-each (convert levels (startContext rules m)) (keeps levels (startContext rules m)) o _ f
