@@ -8,10 +8,9 @@ use mathlib.Core.List.{List, []}
 use Prim.Native.Nat.{ℕ, zero, suc, _+_, _≤_}
 use native.Mathlib.Omega.{arith}
 use lib.ListN.{drop}
-use lib.Dec.{eqb}
 use Rattle.utf8.specs.Trim.{trim}
 use Rattle.mitex_spec.specs.Rules.{Rule, getCmd, getEnv, writtenName}
-use Rattle.mitex_syntax.specs.Syntax.{ClauseArgument, ClauseCommandName, ItemBegin}
+use Rattle.mitex_syntax.specs.Syntax.{ClauseArgument, ItemBegin}
 use Rattle.mitex_syntax.specs.Tree.{Tree, Forest, size, sizes, kindOf, textOf}
 use Rattle.mitex_syntax.specs.Tree.Tree.{token, node}
 use Rattle.mitex_syntax.specs.Tree.Forest.{none, more}

@@ -1,7 +1,7 @@
 -- The loops of the converter over children, in one: each loop says what it does with a child (`actOf`), an act says what is
 -- written before and behind the child and whether the child is converted, and the loop goes on in its next state.
 use mathlib.Core.Bool.{Bool, true, false, _&&_, _||_, not, cond}
-use mathlib.Core.List.{List, [], _∷_, _++_}
+use mathlib.Core.List.{List, [], _++_}
 use Prim.Native.Nat.{ℕ, _+_}
 use lib.ListN.{drop}
 use lib.Dec.{eqb}

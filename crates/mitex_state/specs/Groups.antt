@@ -1,14 +1,14 @@
 -- Groups: children alone, formulas, curly groups, `\left` and `\right`, attachments.
-use mathlib.Core.Bool.{Bool, true, false, cond}
+use mathlib.Core.Bool.{true, cond}
 use mathlib.Core.List.{List, []}
 use Prim.Native.Nat.{ℕ, _+_}
 use lib.ListN.{drop}
 use Rattle.text.specs.Ascii.{ascii}
 use Rattle.text.specs.Compare.{same}
-use Rattle.mitex_syntax.specs.Tree.{Tree, Forest, size, textOf}
+use Rattle.mitex_syntax.specs.Tree.{size, textOf}
 use Rattle.mitex_syntax.specs.Tree.Forest.{none, more}
 use Rattle.mitex_syntax.specs.Views.{isValid, isInline}
-use Rattle.mitex_state.specs.Outcome.{Context, Carry, Outcome, Conv, Arm, after, closing, inMode, inEnv}
+use Rattle.mitex_state.specs.Outcome.{Arm, after, closing, inMode, inEnv}
 use Rattle.mitex_state.specs.Outcome.Outcome.{refused, done}
 use Rattle.mitex_state.specs.Texts.{formulaBegin, formulaEnd}
 use Rattle.mitex_state.specs.Children.{each}

@@ -1,5 +1,5 @@
 -- `\includegraphics[width=0.5\textwidth]{example-image}`: options split at commas, then at `=`, all trimmed.
-use mathlib.Core.Bool.{Bool, true, false, _||_, cond}
+use mathlib.Core.Bool.{_||_, cond}
 use mathlib.Core.Option.{Option}
 use mathlib.Core.Option.Option.{none as nothing, some}
 use mathlib.Core.List.{List, [], _∷_, _++_}

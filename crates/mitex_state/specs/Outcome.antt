@@ -1,7 +1,7 @@
 -- What a conversion comes to. Context goes down (mode, environment, indent), carry goes along (space flag, held label), and
 -- the rows of refusals are counted from the element's own row.
-use mathlib.Core.Bool.{Bool, true, false, cond}
-use mathlib.Core.List.{List, [], _++_}
+use mathlib.Core.Bool.{Bool}
+use mathlib.Core.List.{List, _++_}
 use Prim.Native.Nat.{ℕ, _+_}
 use Rattle.mitex_spec.specs.Rules.{Rule}
 use Rattle.mitex_syntax.specs.Tree.{Tree, Forest}

@@ -1,6 +1,6 @@
 -- The texts that the converter writes, and the names that it looks for, each once.
 use Prim.Native.Nat.{ℕ}
-use mathlib.Core.List.{List, [], _∷_}
+use mathlib.Core.List.{List, []}
 use mathlib.Core.Bool.{Bool, true, false, cond}
 use lib.Dec.{eqb}
 use Rattle.text.specs.Ascii.{ascii}
