@@ -3,3 +3,7 @@ pub mod Rows
 pub mod Decode
 pub mod Nesting
 pub mod Runs
+pub mod Roots
+pub mod Shapes
+pub mod Answers
+pub mod Rules

@@ -3,7 +3,7 @@ use mathlib.Core.Path.{_≡_}
 use mathlib.Core.Bool.{Bool, true, false, _&&_, cond}
 use mathlib.Core.Option.{Option}
 use mathlib.Core.Option.Option.{none as nothing, some}
-use Prim.Native.Nat.{ℕ, suc, _*_, _≤_, _<_}
+use Prim.Native.Nat.{ℕ, suc, _+_, _*_, _≤_, _<_}
 use mathlib.Core.List.{List, [], _∷_, _++_}
 use lib.ListN.{length, getD}
 use lib.Dec.{T, eqb, leb}
@@ -13,16 +13,20 @@ use Rattle.mitex_syntax.specs.Syntax.{ScopeRoot, isNode}
 use Rattle.mitex_syntax.specs.Tree.{Forest, rowsOfs, count}
 use Rattle.mitex_syntax.specs.Tree.Tree.{token, node}
 use Rattle.mitex_syntax.specs.Tree.Forest.{none, more}
-use Rattle.mitex_syntax.specs.Spells.{tokenFits}
-use Rattle.mitex_parser.specs.Layout.{fileMost, blocksMost, Line}
+use Rattle.mitex_syntax.specs.Spells.{tokenFits, SpellsAll, SomeTree}
+use Rattle.mitex_syntax.specs.declared.Place.{Place}
+use Rattle.mitex_syntax.specs.declared.Place.the-variants.{Nowhere, At}
+use Rattle.mitex_parser.specs.Layout.{fileMost, blocksMost, Line, root}
 use Rattle.mitex_parser.specs.Layout.Line.{tok, nod}
-use Rattle.mitex_parser.specs.Depth.{depths}
+use Rattle.mitex_parser.specs.Depth.{depths, depthMost}
+use Rattle.mitex_parser.specs.Check.{byDepth, answerOf}
 use Rattle.mitex_parser.specs.declared.Row.{Row}
 use Rattle.mitex_parser.specs.declared.Row.the-variants.{Bad, Token, Node}
 use Rattle.mitex_parser.specs.declared.Nest.{Nest}
 use Rattle.mitex_parser.specs.declared.Nest.the-variants.{Broken, Deep, Fine}
 use Rattle.mitex_parser.specs.declared.Blocks.{Blocks}
 use Rattle.mitex_parser.specs.declared.Blocks.the-variants.{Amiss, Are}
+use Rattle.mitex_parser.specs.declared.Checked.{Checked}
 use Rattle.mitex_parser.specs.declared.Shape.{Shape}
 use Rattle.mitex_parser.specs.declared.Shape.the-variants.{Right, Breaks}
 
@@ -69,12 +73,28 @@ blocksIn (more t (more u f)) = Amiss
 blocksIn (more (token k s) none) = Amiss
 blocksIn (more (node k f) none) = cond (eqb k ScopeRoot && leb (count f) blocksMost) (Are (count f)) Amiss
 
+-- something was found
+abbrev pub isThere : Place → Bool
+isThere Nowhere = false
+isThere (At a b c d) = true
+
 -- whether a row breaks a rule
 abbrev pub shapeOf : Option ℕ → Shape
 shapeOf nothing = Right
 shapeOf (some row) = Breaks row
 
+-- the answer for the trees that the rows of a file grow to
+abbrev pub answerTo : Option Forest → Checked
+answerTo o = answerOf (byDepth (root o))
+
 -- ---- what is asked
+
+-- the rows are those of some lines
+pub record SomeLines (rows : List ℕ) : Type 0 where
+  pub ls : List Line
+  pub spelt : rows ≡ bytesOf ls
+  pub fit : Fits ls
+  pub few : length rows ≤ fileMost
 
 -- the rows are those of some trees
 pub record SomeRows (rows : List ℕ) : Type 0 where
@@ -82,9 +102,24 @@ pub record SomeRows (rows : List ℕ) : Type 0 where
   pub spelt : rows ≡ rowsOfs forest
   pub few : length rows ≤ fileMost
 
+-- and the text is theirs
+pub record SomeTrees (rows text : List ℕ) : Type 0 where
+  pub forest : Forest
+  pub spells : SpellsAll forest rows text
+  pub low : depths forest ≤ depthMost
+  pub few : length rows ≤ fileMost
+  pub short : length text ≤ fileMost
+
 -- the areas of a file within the limits
 pub record Areas (rows text : List ℕ) : Type 0 where
   pub many : ℕ
   pub so-many : length rows ≡ 8 * many
   pub few : length rows ≤ fileMost
   pub short : length text ≤ fileMost
+
+-- an element is spelt, in bytes within the limits, and its first row has the number `row`
+pub record Checkable (rows text : List ℕ) (row : ℕ) : Type 0 where
+  pub given : SomeTree rows text
+  pub few : length rows ≤ fileMost
+  pub short : length text ≤ fileMost
+  pub low : row + length rows ≤ 2 * fileMost

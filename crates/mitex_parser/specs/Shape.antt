@@ -15,13 +15,20 @@ use Rattle.mitex_syntax.specs.Tree.Tree.{token, node}
 use Rattle.mitex_syntax.specs.Tree.Forest.{none, more}
 use Rattle.mitex_syntax.specs.Views.{firstOf, kindIn, textIn, cmdName, beginOf, firstTokens, argumentWith}
 
+abbrev pub backslash : ℕ
+backslash = 92
+
 -- the text begins with a backslash
 abbrev pub slashed : List ℕ → Bool
-slashed s = eqb (getD s 0 0) 92
+slashed s = eqb (getD s 0 0) backslash
+
+-- one-byte characters are at most this
+abbrev pub oneByte : ℕ
+oneByte = 127
 
 -- the text has 2 bytes or more, both ends one-byte characters
 abbrev pub goodEnds : List ℕ → Bool
-goodEnds s = leb 2 (length s) && (leb (getD s 0 0) 127 && leb (getD s (length s - 1) 0) 127)
+goodEnds s = leb 2 (length s) && (leb (getD s 0 0) oneByte && leb (getD s (length s - 1) 0) oneByte)
 
 -- the commands whose arguments have rules
 abbrev pub labelName : List ℕ

@@ -5,15 +5,55 @@ ghost use mathlib.Core.List.{List};
 ghost use Prim.Native.Nat.{ℕ, _*_, _≤_, _<_};
 ghost use lib.ListN.{length};
 ghost use Rattle.text.specs.Writing.{cap};
-ghost use Rattle.mitex_syntax.specs.Tree.{Forest};
-ghost use Rattle.mitex_syntax.specs.Spells.{tokenFits};
-ghost use Rattle.mitex_parser.specs.Layout.{Line, tokenRow, nodeRow, rowAt, taken as takenOf, lines, split, grow};
-ghost use Rattle.mitex_parser.specs.Shape.{isSome};
-ghost use Rattle.mitex_parser.specs.Parts.{bytesOf, Fits, isBad, underOf, Nested};
+ghost use Rattle.mitex_syntax.specs.Tree.{Tree, Forest, rowsOfs, count};
+ghost use Rattle.mitex_syntax.specs.Tree.Tree.{node};
+ghost use Rattle.mitex_syntax.specs.Syntax.{ItemCurly, ItemBracket};
+ghost use Rattle.mitex_syntax.specs.Views.{textIn, argumentWith};
+ghost use Rattle.mitex_syntax.specs.Spells.{tokenFits, Spells, SpellsAll, Begins, SomeForest};
+ghost use Rattle.mitex_parser.specs.Layout.{Line, tokenRow, nodeRow, rowAt, taken as takenOf, lines, split, grow, grows};
+ghost use Rattle.mitex_parser.specs.Depth.{depths, depthMost};
+ghost use Rattle.mitex_parser.specs.Shape.{isSome, slashed, goodEnds, symFits, lrFits, labelFits, endsIn, imageFits, colorFits, argumentsFit, cmdFits, envFits, nodeFits, unless, lowest};
+ghost use Rattle.mitex_parser.specs.Check.{checkTree, answerOf};
+ghost use Rattle.mitex_parser.specs.declared.Nest.the-variants.{Deep};
+ghost use Rattle.mitex_parser.specs.Parts.{bytesOf, Fits, isBad, underOf, Nested, blocksIn, isThere, shapeOf, answerTo, SomeLines, SomeRows, SomeTrees, Areas, Checkable};
+use mitex_syntax::CLAUSE_ARGUMENT;
+use mitex_syntax::CLAUSE_LR;
+use mitex_syntax::ITEM_BEGIN;
+use mitex_syntax::ITEM_BRACKET;
+use mitex_syntax::ITEM_CMD;
+use mitex_syntax::ITEM_CURLY;
+use mitex_syntax::ITEM_END;
+use mitex_syntax::ITEM_ENV;
+use mitex_syntax::Place;
+use mitex_syntax::SCOPE_ROOT;
+use mitex_syntax::TOKEN_COMMAND_SYM;
+use mitex_syntax::argument_with;
+use mitex_syntax::extent;
+use mitex_syntax::find_kind;
+use mitex_syntax::first_token;
 use mitex_syntax::is_node;
 use mitex_syntax::is_token;
+use mitex_syntax::name_tok;
+use mitex_syntax::span_at;
+use mitex_syntax::text_at;
 use text::read_u32;
+use text::same;
 use utf8::valid;
+
+// A file is at most so many bytes.
+const FILE_MOST: usize = 65536;
+
+// No row lies deeper.
+const DEPTH_MOST: usize = 64;
+
+// The blocks are at most so many.
+const BLOCKS_MOST: usize = 512;
+
+// One-byte characters are at most this.
+const ONE_BYTE: u8 = 127;
+
+// The kind of what is not there.
+const NO_KIND: u8 = 0;
 
 // A row that was read: a token with its text length, or a node with how many rows lie under it.
 pub enum Row {
@@ -223,4 +263,332 @@ fn whole(rows: &[u8]) -> bool
         rest = &rest[8..];
     }
     true
+}
+
+// How many trees stand side by side.
+fn count_trees(rows: &[u8]) -> usize
+    requires { ⌜ SomeRows (now rows) ⌝ }
+    ensures { λ r. ⌜ ((f : Forest) → now (rows .entry) ≡ rowsOfs f → r ≡ count f) ⌝ }
+{
+    let mut rest = rows;
+    let mut m = 0;
+    while 8 <= rest.len() {
+        let end = extent(rest, 0);
+        rest = &rest[end..];
+        m += 1;
+    }
+    m
+}
+
+// The blocks of a root that is a ScopeRoot over all other rows.
+fn root_blocks(rows: &[u8]) -> Blocks
+    requires { ⌜ SomeRows (now rows) ⌝ }
+    ensures { λ r. ⌜ ((f : Forest) → now (rows .entry) ≡ rowsOfs f → r ≡ blocksIn f) ⌝ }
+{
+    if rows.len() < 8 {
+        return Blocks::Amiss;
+    }
+    if rows[0] != SCOPE_ROOT {
+        return Blocks::Amiss;
+    }
+    if rows[1] == 1 {
+        return Blocks::Amiss;
+    }
+    let end = extent(rows, 0);
+    if rows.len() != end {
+        return Blocks::Amiss;
+    }
+    let m = count_trees(&rows[8..]);
+    if m <= BLOCKS_MOST {
+        return Blocks::Are(m);
+    }
+    Blocks::Amiss
+}
+
+// ---- the shape
+
+// Whether the text begins with a backslash.
+fn begins_slashed(s: &[u8]) -> bool
+    ensures { λ r. ⌜ r ≡ slashed (now (s .entry)) ⌝ }
+{
+    if s.len() < 1 {
+        return false;
+    }
+    s[0] == b'\\'
+}
+
+// Whether the text has 2 bytes or more, both ends one-byte characters.
+fn good_ends(s: &[u8]) -> bool
+    ensures { λ r. ⌜ r ≡ goodEnds (now (s .entry)) ⌝ }
+{
+    if s.len() < 2 {
+        return false;
+    }
+    if s[0] <= ONE_BYTE {
+        return s[s.len() - 1] <= ONE_BYTE;
+    }
+    false
+}
+
+// Whether a token under a node of the kind `up` may be so.
+fn sym_fits(up: u8, k: u8, s: &[u8]) -> bool
+    ensures { λ r. ⌜ r ≡ symFits up k (now (s .entry)) ⌝ }
+{
+    if k != TOKEN_COMMAND_SYM {
+        return true;
+    }
+    if up == ITEM_BEGIN {
+        return true;
+    }
+    if up == ITEM_END {
+        return true;
+    }
+    begins_slashed(s)
+}
+
+// Of the rules on a node, `rows` are those under it, and `text` begins with theirs.
+
+// Whether a ClauseLR's first child is a token that begins with a backslash.
+fn lr_fits(rows: &[u8], text: &[u8]) -> bool
+    ensures { λ r. ⌜ ((f : Forest) → Begins f (now (rows .entry)) (now (text .entry)) → r ≡ lrFits f) ⌝ }
+{
+    if rows.len() < 8 {
+        return false;
+    }
+    if rows[1] == 1 {
+        return begins_slashed(text);
+    }
+    false
+}
+
+// Whether something was found.
+fn is_there(place: Place) -> bool
+    ensures { λ r. ⌜ r ≡ isThere place ⌝ }
+{
+    match place {
+        Place::Nowhere => false,
+        Place::At {
+            row: _,
+            end: _,
+            from: _,
+            to: _,
+        } => true,
+    }
+}
+
+// Whether `\label` has an argument whose text has good ends.
+fn label_fits(rows: &[u8], text: &[u8]) -> bool
+    requires { ⌜ SomeForest (now rows) (now text) 0 0 ⌝ }
+    ensures { λ r. ⌜ ((f : Forest) → Begins f (now (rows .entry)) (now (text .entry)) → r ≡ labelFits f) ⌝ }
+{
+    good_ends(text_at(text, find_kind(rows, text, CLAUSE_ARGUMENT)))
+}
+
+// Whether `\includegraphics` has an argument with an ItemCurly, and the first has good ends.
+fn curly_fits(rows: &[u8], text: &[u8]) -> bool
+    requires { ⌜ SomeForest (now rows) (now text) 0 0 ⌝ }
+    ensures { λ r. ⌜ ((f : Forest) → Begins f (now (rows .entry)) (now (text .entry)) → r ≡ goodEnds (textIn (argumentWith ItemCurly f))) ⌝ }
+{
+    good_ends(text_at(text, argument_with(rows, text, ITEM_CURLY)))
+}
+
+// Whether its first argument with an ItemBracket, if there is one, has them.
+fn bracket_fits(rows: &[u8], text: &[u8]) -> bool
+    requires { ⌜ SomeForest (now rows) (now text) 0 0 ⌝ }
+    ensures { λ r. ⌜ ((f : Forest) → Begins f (now (rows .entry)) (now (text .entry)) → r ≡ endsIn (argumentWith ItemBracket f)) ⌝ }
+{
+    let place = argument_with(rows, text, ITEM_BRACKET);
+    if is_there(place) {
+        return good_ends(text_at(text, place));
+    }
+    true
+}
+
+// Whether, besides, each of its arguments has a child node.
+fn image_fits(rows: &[u8], text: &[u8]) -> bool
+    requires { ⌜ SomeForest (now rows) (now text) 0 0 ⌝ }
+    ensures { λ r. ⌜ ((f : Forest) → Begins f (now (rows .entry)) (now (text .entry)) → r ≡ imageFits f) ⌝ }
+{
+    if is_there(argument_with(rows, text, NO_KIND)) {
+        return false;
+    }
+    if curly_fits(rows, text) {
+        return bracket_fits(rows, text);
+    }
+    false
+}
+
+// Whether `\color` has an argument.
+fn color_fits(rows: &[u8], text: &[u8]) -> bool
+    requires { ⌜ SomeForest (now rows) (now text) 0 0 ⌝ }
+    ensures { λ r. ⌜ ((f : Forest) → Begins f (now (rows .entry)) (now (text .entry)) → r ≡ colorFits f) ⌝ }
+{
+    is_there(find_kind(rows, text, CLAUSE_ARGUMENT))
+}
+
+// Whether a command of this name may be over these rows.
+fn arguments_fit(name: &[u8], rows: &[u8], text: &[u8]) -> bool
+    requires { ⌜ SomeForest (now rows) (now text) 0 0 ⌝ }
+    ensures { λ r. ⌜ ((f : Forest) → Begins f (now (rows .entry)) (now (text .entry)) → r ≡ argumentsFit (now (name .entry)) f) ⌝ }
+{
+    if same(name, b"\\label") {
+        return label_fits(rows, text);
+    }
+    if same(name, b"\\includegraphics") {
+        return image_fits(rows, text);
+    }
+    if same(name, b"\\color") {
+        return color_fits(rows, text);
+    }
+    true
+}
+
+// Whether an ItemCmd may be over these rows: it has a name, which begins with a backslash, and the arguments that the name asks.
+fn cmd_fits(rows: &[u8], text: &[u8]) -> bool
+    requires { ⌜ SomeForest (now rows) (now text) 0 0 ⌝ }
+    ensures { λ r. ⌜ ((f : Forest) → Begins f (now (rows .entry)) (now (text .entry)) → r ≡ cmdFits f) ⌝ }
+{
+    let name = name_tok(rows, text);
+    if begins_slashed(name) {
+        return arguments_fit(name, rows, text);
+    }
+    false
+}
+
+// Whether an ItemEnv may be over these rows: the first token of its first ItemBegin is a TokenCommandSym.
+fn env_fits(rows: &[u8], text: &[u8]) -> bool
+    requires { ⌜ SomeForest (now rows) (now text) 0 0 ⌝ }
+    ensures { λ r. ⌜ ((f : Forest) → Begins f (now (rows .entry)) (now (text .entry)) → r ≡ envFits f) ⌝ }
+{
+    match find_kind(rows, text, ITEM_BEGIN) {
+        Place::Nowhere => false,
+        Place::At { row, end, from, to } => first_token(&rows[row + 8..end], &text[from..to]).kind
+            == TOKEN_COMMAND_SYM,
+    }
+}
+
+// Whether a node of the kind `k` may be over these rows.
+fn node_fits(k: u8, rows: &[u8], text: &[u8]) -> bool
+    requires { ⌜ SomeForest (now rows) (now text) 0 0 ⌝ }
+    ensures { λ r. ⌜ ((f : Forest) → Begins f (now (rows .entry)) (now (text .entry)) → r ≡ nodeFits k f) ⌝ }
+{
+    if k == CLAUSE_LR {
+        return lr_fits(rows, text);
+    }
+    if k == ITEM_CMD {
+        return cmd_fits(rows, text);
+    }
+    if k == ITEM_ENV {
+        return env_fits(rows, text);
+    }
+    true
+}
+
+// What is known of a row that is right, or breaks a rule.
+fn unless(fits: bool, row: usize) -> Shape
+    ensures { λ r. ⌜ r ≡ shapeOf (unless fits row) ⌝ }
+{
+    if fits {
+        return Shape::Right;
+    }
+    Shape::Breaks(row)
+}
+
+// The lowest row of an element that breaks a shape rule; `up` is the kind above it, `row` the number of its own row.
+fn check_shape(rows: &[u8], text: &[u8], up: u8, row: usize) -> Shape
+    requires { ⌜ Checkable (now rows) (now text) row ⌝ }
+    ensures { λ r. ⌜ ((t : Tree) → Spells t (now (rows .entry)) (now (text .entry)) → r ≡ shapeOf (lowest up row t)) ⌝ }
+{
+    let k = rows[0];
+    if rows[1] == 1 {
+        return unless(sym_fits(up, k, text), row);
+    }
+    if !node_fits(k, &rows[8..], text) {
+        return Shape::Breaks(row);
+    }
+    let mut i = 8;
+    let mut j = 0;
+    let mut at = row + 1;
+    while i < rows.len() {
+        let s = span_at(rows, i);
+        let e = s.rows;
+        let n = s.text;
+        match check_shape(&rows[i..i + e], &text[j..j + n], k, at) {
+            Shape::Breaks(r) => return Shape::Breaks(r),
+            Shape::Right => {}
+        }
+        i += e;
+        j += n;
+        at += e / 8;
+    }
+    Shape::Right
+}
+
+// ---- the check
+
+// The answer for rows that lie deeper than allowed, or do not nest.
+fn check_deep(rows: &[u8]) -> Checked
+    requires { ⌜ SomeLines (now rows) ⌝ }
+    ensures { λ r. ⌜ ((ls : List Line) → now (rows .entry) ≡ bytesOf ls → Fits ls → Nested (grow ls) depthMost Deep → r ≡ answerTo (grow ls)) ⌝ }
+{
+    if !whole(rows) {
+        return Checked::Refused { number: 3, row: 0 };
+    }
+    match root_blocks(rows) {
+        Blocks::Amiss => Checked::Refused { number: 3, row: 0 },
+        Blocks::Are(_) => Checked::Refused { number: 4, row: 0 },
+    }
+}
+
+// The answer for rows that nest no deeper than allowed.
+fn check_root(rows: &[u8], text: &[u8]) -> Checked
+    requires { ⌜ SomeTrees (now rows) (now text) ⌝ }
+    ensures { λ r. ⌜ ((f : Forest) → SpellsAll f (now (rows .entry)) (now (text .entry)) → depths f ≤ depthMost → r ≡ answerTo (some f)) ⌝ }
+{
+    match root_blocks(rows) {
+        Blocks::Amiss => Checked::Refused { number: 3, row: 0 },
+        Blocks::Are(blocks) => match check_shape(rows, text, 0, 0) {
+            Shape::Breaks(row) => Checked::Refused { number: 5, row },
+            Shape::Right => Checked::Whole {
+                start: text.len(),
+                rows: rows.len() / 8,
+                blocks,
+            },
+        },
+    }
+}
+
+// The check of the rows and the text area.
+fn check_areas(rows: &[u8], text: &[u8]) -> Checked
+    requires { ⌜ Areas (now rows) (now text) ⌝ }
+    ensures { λ r. ⌜ ((n : ℕ) → length (now (rows .entry)) ≡ 8 * n → r ≡ answerTo (grows (lines n (now (rows .entry)) (now (text .entry))))) ⌝ }
+{
+    if !lines_fit(rows, text) {
+        return Checked::Refused { number: 3, row: 0 };
+    }
+    match check_rows(rows, DEPTH_MOST) {
+        Nest::Broken => Checked::Refused { number: 3, row: 0 },
+        Nest::Deep => check_deep(rows),
+        Nest::Fine => check_root(rows, text),
+    }
+}
+
+// The check of a tree file: refusal 3, 4 or 5, or where its rows start, how many they are, and how many the blocks are.
+pub fn check_tree(file: &[u8]) -> Checked
+    ensures { λ r. ⌜ r ≡ answerOf (checkTree (now (file .entry))) ⌝ }
+{
+    let len = file.len();
+    if len < 8 {
+        return Checked::Refused { number: 3, row: 0 };
+    }
+    if FILE_MOST < len {
+        return Checked::Refused { number: 3, row: 0 };
+    }
+    let end = len - 8;
+    let start = read_u32(file, end);
+    let count = read_u32(file, end + 4);
+    if start + 8 * count + 8 != len {
+        return Checked::Refused { number: 3, row: 0 };
+    }
+    check_areas(&file[start..end], &file[..start])
 }

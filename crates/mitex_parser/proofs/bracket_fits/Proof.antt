@@ -1,0 +1,37 @@
+-- A place that is there has the text that `endsIn` asks; one that is not leaves it free.
+use mathlib.Core.Path.{sym, ap, _∙_}
+use Rattle.mitex_syntax.proofs.Places.{place-inside}
+use Rattle.mitex_parser.specs.Shape.{goodEnds}
+use Rattle.mitex_parser.proofs.Rules.{place-ends, place-free}
+use borrow.Author.Needs.{needs}
+use Rattle.mitex_parser.proofs.bracket_fits.Statement.{statement}
+use Rattle.mitex_parser.proofs.bracket_fits.Tie as tie
+
+argument-with-requires : tie.Need-argument-with-requires
+argument-with-requires c κs = search needs
+
+is-there-requires : tie.Need-is-there-requires
+is-there-requires c κs = search needs
+
+text-at-requires : tie.Need-text-at-requires
+text-at-requires c κs = place-inside (c .before .before .argument-with .ensures (c .before .before .before .before .before .pre .forest) (c .before .before .before .before .before .pre .begins))
+
+good-ends-requires : tie.Need-good-ends-requires
+good-ends-requires c κs = search needs
+
+returns : tie.Need-returns
+returns c = λ f sp. c .good-ends .ensures ∙ ap goodEnds (c .before .text-at .ensures) ∙ place-ends (c .before .before .before .before .argument-with .ensures f sp) (sym (c .before .before .before .is-there .ensures) ∙ c .before .before .if1 .taken)
+
+returns-2 : tie.Need-returns-2
+returns-2 c = λ f sp. place-free (c .before .before .argument-with .ensures f sp) (sym (c .before .is-there .ensures) ∙ c .if1 .left)
+
+pub bracket-fits-spec : {M : Type 1} → statement M
+bracket-fits-spec =
+    tie.close
+    (tie.spec
+    argument-with-requires
+    is-there-requires
+    text-at-requires
+    good-ends-requires
+    returns
+    returns-2)

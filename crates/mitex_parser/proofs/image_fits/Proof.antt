@@ -1,0 +1,39 @@
+-- The three tests of `imageFits`, in its order.
+use mathlib.Core.Path.{sym, _∙_}
+use Rattle.mitex_parser.proofs.Rules.{place-there}
+use borrow.Author.Needs.{needs}
+use Rattle.mitex_parser.proofs.image_fits.Statement.{statement}
+use Rattle.mitex_parser.proofs.image_fits.Tie as tie
+
+argument-with-requires : tie.Need-argument-with-requires
+argument-with-requires c κs = search needs
+
+is-there-requires : tie.Need-is-there-requires
+is-there-requires c κs = search needs
+
+returns : tie.Need-returns
+returns c = λ f sp. rw (sym (place-there (c .before .before .argument-with .ensures f sp)) ∙ sym (c .before .is-there .ensures) ∙ c .if1 .taken)
+
+curly-fits-requires : tie.Need-curly-fits-requires
+curly-fits-requires c κs = search needs
+
+bracket-fits-requires : tie.Need-bracket-fits-requires
+bracket-fits-requires c κs = search needs
+
+returns-2 : tie.Need-returns-2
+returns-2 c = λ f sp. rw (sym (place-there (c .before .before .before .before .before .argument-with .ensures f sp)) ∙ sym (c .before .before .before .before .is-there .ensures) ∙ c .before .before .before .if1 .left, sym (c .before .before .curly-fits .ensures f sp) ∙ c .before .if2 .taken) (c .bracket-fits .ensures f sp)
+
+returns-3 : tie.Need-returns-3
+returns-3 c = λ f sp. rw (sym (place-there (c .before .before .before .before .argument-with .ensures f sp)) ∙ sym (c .before .before .before .is-there .ensures) ∙ c .before .before .if1 .left, sym (c .before .curly-fits .ensures f sp) ∙ c .if2 .left)
+
+pub image-fits-spec : {M : Type 1} → statement M
+image-fits-spec =
+    tie.close
+    (tie.spec
+    argument-with-requires
+    is-there-requires
+    returns
+    curly-fits-requires
+    bracket-fits-requires
+    returns-2
+    returns-3)
