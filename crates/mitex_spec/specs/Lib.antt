@@ -1,1 +1,5 @@
 pub mod Rules
+pub mod RuleFile
+pub mod Index
+pub mod LookUp
+pub mod Examples

@@ -14,6 +14,9 @@ pub record Rule : Type 0 where
   pub alias : Option (List ℕ)
   pub class : ℕ
 
+abbrev pub rule : List ℕ → Option (List ℕ) → ℕ → Rule
+rule n a k = record { name = n; alias = a; class = k }
+
 -- the rule of a name
 unfoldable pub get : List Rule → List ℕ → Option Rule
 get [] name = none

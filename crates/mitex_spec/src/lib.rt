@@ -1,1 +1,322 @@
-// to come
+// The rules of a conversion, in a sorted file: its check, and what `get_cmd` and `get_env` answer.
+ghost use mathlib.Core.Path.{_≡_};
+ghost use mathlib.Core.Bool.{_||_};
+ghost use mathlib.Core.Option.Option.{some};
+ghost use mathlib.Core.List.{List};
+ghost use Prim.Native.Nat.{ℕ, _+_, _*_, _≤_, _<_};
+ghost use lib.ListN.{length, set};
+ghost use lib.Seq.{sets};
+ghost use Rattle.text.specs.Compare.{precedes};
+ghost use Rattle.mitex_spec.specs.Rules.{Rule, get, getCmd, getEnv, aliasOr};
+ghost use Rattle.mitex_spec.specs.RuleFile.{rulesOf, rulesIn, rising, padded, rowFits, aliasLength, taken, fileMost, startOf, countOf};
+ghost use Rattle.mitex_spec.specs.Index.{startsFrom, accepted, indexed, ruleNo, rankOf, SomeRules, SomeRule};
+ghost use Rattle.mitex_spec.specs.LookUp.{aliasOf, endOf, foundCmd, foundEnv, Finds, Answers};
+
+// What a look-up finds: the class of a rule, and where its alias stands in the rule file, if it has one.
+pub enum Found {
+    Absent,
+    Plain { class: u8 },
+    Aliased { class: u8, at: usize, size: usize },
+}
+
+const FILE_MOST: usize = 65536;
+
+const NO_ALIAS: usize = 65535;
+
+const CLASS_MOST: u8 = 10;
+
+const CMD_MOST: u8 = 2;
+
+// ---- the check
+
+// The length of the alias of the row that stands first; 0 where there is none.
+fn alias_length(rows: &[u8]) -> usize
+    requires { ⌜ 8 ≤ length (now rows) ⌝ }
+    ensures { λ r. ⌜ (r ≡ aliasLength (now (rows .entry))) × (r < 65536) ⌝ }
+{
+    let m = text::read_u16(rows, 2);
+    if m == NO_ALIAS {
+        return 0;
+    }
+    m
+}
+
+// The bytes of text that the row that stands first takes.
+fn taken(rows: &[u8]) -> usize
+    requires { ⌜ 8 ≤ length (now rows) ⌝ }
+    ensures { λ r. ⌜ (r ≡ taken (now (rows .entry))) × (r < 131072) ⌝ }
+{
+    text::read_u16(rows, 0) + alias_length(rows)
+}
+
+// Whether the last three bytes of the row that stands first are zeros.
+fn padded(rows: &[u8]) -> bool
+    requires { ⌜ 8 ≤ length (now rows) ⌝ }
+    ensures { λ r. ⌜ r ≡ padded (now (rows .entry)) ⌝ }
+{
+    if rows[5] != 0 {
+        return false;
+    }
+    if rows[6] != 0 {
+        return false;
+    }
+    rows[7] == 0
+}
+
+// Whether the row that stands first is one, with its texts first in `text`.
+fn row_fits(rows: &[u8], text: &[u8]) -> bool
+    requires { ⌜ 8 ≤ length (now rows) ⌝ }
+    ensures { λ r. ⌜ r ≡ rowFits (now (rows .entry)) (now (text .entry)) ⌝ }
+{
+    if !padded(rows) {
+        return false;
+    }
+    let end = taken(rows);
+    if text.len() < end {
+        return false;
+    }
+    if CLASS_MOST < rows[4] {
+        return false;
+    }
+    let n = text::read_u16(rows, 0);
+    if !utf8::valid(&text[..n]) {
+        return false;
+    }
+    utf8::valid(&text[n..end])
+}
+
+// Whether a name follows the one before it; the first follows none.
+fn follows(first: bool, last: &[u8], name: &[u8]) -> bool
+    ensures { λ r. ⌜ r ≡ (first || precedes (now (last .entry)) (now (name .entry))) ⌝ }
+{
+    if first {
+        return true;
+    }
+    text::precedes(last, name)
+}
+
+// Whether each row is one, the texts fill the text, and the names rise.
+fn rules_fit(rows: &[u8], text: &[u8]) -> bool
+    ensures { λ r. ⌜ ((n : ℕ) → length (now (rows .entry)) ≡ 8 * n → r ≡ accepted (rising (rulesIn n (now (rows .entry)) (now (text .entry))))) ⌝ }
+{
+    let mut l = rows;
+    let mut t = text;
+    let mut last = &text[..0];
+    let mut first = true;
+    while 8 <= l.len() {
+        if !row_fits(l, t) {
+            return false;
+        }
+        let n = text::read_u16(l, 0);
+        if !follows(first, last, &t[..n]) {
+            return false;
+        }
+        let m = taken(l);
+        last = &t[..n];
+        first = false;
+        t = &t[m..];
+        l = &l[8..];
+    }
+    t.len() == 0
+}
+
+// `at` as number `k` of the index, if it has so many.
+fn store(index: &mut [u32], k: usize, at: usize)
+    requires { ⌜ at < 4294967296 ⌝ }
+    ensures { λ _. ⌜ now (index .exit) ≡ set (now (index .entry)) k at ⌝ }
+{
+    if k < index.len() {
+        index[k] = at as u32;
+    }
+}
+
+// Where the name of each row begins.
+fn fill_index(rows: &[u8], index: &mut [u32])
+    requires { ⌜ length (now rows) ≤ fileMost ⌝ }
+    ensures { λ _. ⌜ ((n : ℕ) → length (now (rows .entry)) ≡ 8 * n → now (index .exit) ≡ sets (now (index .entry)) 0 (startsFrom 0 n (now (rows .entry)))) ⌝ }
+{
+    let mut l = rows;
+    let mut at: usize = 0;
+    let mut k: usize = 0;
+    while 8 <= l.len() {
+        store(index, k, at);
+        at += taken(l);
+        k += 1;
+        l = &l[8..];
+    }
+}
+
+// Where the rows start, by the trailer.
+fn start_of(file: &[u8]) -> usize
+    requires { ⌜ 8 ≤ length (now file) ⌝ }
+    ensures { λ r. ⌜ (r ≡ startOf (now (file .entry))) × (r < 4294967296) ⌝ }
+{
+    text::read_u32(file, file.len() - 8)
+}
+
+// How many rows there are, by the trailer.
+fn count_of(file: &[u8]) -> usize
+    requires { ⌜ 8 ≤ length (now file) ⌝ }
+    ensures { λ r. ⌜ (r ≡ countOf (now (file .entry))) × (r < 4294967296) ⌝ }
+{
+    text::read_u32(file, file.len() - 4)
+}
+
+// Whether a rule file keeps its layout; if so, where each name begins goes into the index.
+pub fn check_rules(file: &[u8], index: &mut [u32]) -> bool
+    ensures { λ r. ⌜ (r ≡ accepted (rulesOf (now (file .entry)))) × (now (index .exit) ≡ indexed (rulesOf (now (file .entry))) (now (index .entry))) ⌝ }
+{
+    if file.len() < 8 {
+        return false;
+    }
+    if FILE_MOST < file.len() {
+        return false;
+    }
+    let start = start_of(file);
+    if start + 8 * count_of(file) + 8 != file.len() {
+        return false;
+    }
+    let end = file.len() - 8;
+    if !rules_fit(&file[start..end], &file[..start]) {
+        return false;
+    }
+    fill_index(&file[start..end], index);
+    true
+}
+
+// ---- looking up
+
+fn wide_u32(n: u32) -> usize
+    ensures { λ r. ⌜ (r ≡ n) × (r < 4294967296) ⌝ }
+{
+    n as usize
+}
+
+// The name of the rule of a number.
+fn name_at<'a, 'b>(file: &'a [u8], index: &'b [u32], k: usize) -> &'a [u8]
+    requires { ⌜ SomeRule (now file) (now index) k ⌝ }
+    ensures { λ r. ⌜ ((rs : List Rule) → rulesOf (now (file .entry)) ≡ some rs → now r ≡ ruleNo rs k .name) ⌝ }
+{
+    let at = wide_u32(index[k]);
+    let row = start_of(file) + 8 * k;
+    let end = at + text::read_u16(file, row);
+    &file[at..end]
+}
+
+// How many names come before a name: by halving.
+fn rank(file: &[u8], index: &[u32], name: &[u8]) -> usize
+    requires { ⌜ SomeRules (now file) (now index) ⌝ }
+    ensures { λ r. ⌜ ((rs : List Rule) → rulesOf (now (file .entry)) ≡ some rs → r ≡ rankOf rs (now (name .entry))) ⌝ }
+{
+    let mut low = 0;
+    let mut high = count_of(file);
+    while low < high {
+        let middle = low + (high - low) / 2;
+        if text::precedes(name_at(file, index, middle), name) {
+            low = middle + 1;
+        } else {
+            high = middle;
+        }
+    }
+    low
+}
+
+// The rule of a number, found.
+fn rule_at(file: &[u8], index: &[u32], k: usize) -> Found
+    requires { ⌜ SomeRule (now file) (now index) k ⌝ }
+    ensures { λ r. ⌜ ((rs : List Rule) → rulesOf (now (file .entry)) ≡ some rs → Finds (now (file .entry)) (ruleNo rs k .name) (some (ruleNo rs k)) r) ⌝ }
+{
+    let row = start_of(file) + 8 * k;
+    let class = file[row + 4];
+    let size = text::read_u16(file, row + 2);
+    if size == NO_ALIAS {
+        return Found::Plain { class };
+    }
+    let at = wide_u32(index[k]) + text::read_u16(file, row);
+    Found::Aliased { class, at, size }
+}
+
+// The rule of a name.
+pub fn get(file: &[u8], index: &[u32], name: &[u8]) -> Found
+    requires { ⌜ SomeRules (now file) (now index) ⌝ }
+    ensures { λ r. ⌜ Answers (now (file .entry)) (now (name .entry)) (λ rs. get rs (now (name .entry))) r ⌝ }
+{
+    let k = rank(file, index, name);
+    if count_of(file) <= k {
+        return Found::Absent;
+    }
+    if text::same(name_at(file, index, k), name) {
+        return rule_at(file, index, k);
+    }
+    Found::Absent
+}
+
+// What was found, if it is a command.
+fn as_cmd(found: Found) -> Found
+    ensures { λ r. ⌜ r ≡ foundCmd found ⌝ }
+{
+    match found {
+        Found::Absent => Found::Absent,
+        Found::Plain { class } => {
+            if class <= CMD_MOST {
+                return Found::Plain { class };
+            }
+            Found::Absent
+        }
+        Found::Aliased { class, at, size } => {
+            if class <= CMD_MOST {
+                return Found::Aliased { class, at, size };
+            }
+            Found::Absent
+        }
+    }
+}
+
+// What was found, if it is an environment.
+fn as_env(found: Found) -> Found
+    ensures { λ r. ⌜ r ≡ foundEnv found ⌝ }
+{
+    match found {
+        Found::Absent => Found::Absent,
+        Found::Plain { class } => {
+            if class <= CMD_MOST {
+                return Found::Absent;
+            }
+            Found::Plain { class }
+        }
+        Found::Aliased { class, at, size } => {
+            if class <= CMD_MOST {
+                return Found::Absent;
+            }
+            Found::Aliased { class, at, size }
+        }
+    }
+}
+
+// The rule of a name in the kind of a command.
+pub fn get_cmd(file: &[u8], index: &[u32], name: &[u8]) -> Found
+    requires { ⌜ SomeRules (now file) (now index) ⌝ }
+    ensures { λ r. ⌜ Answers (now (file .entry)) (now (name .entry)) (λ rs. getCmd rs (now (name .entry))) r ⌝ }
+{
+    as_cmd(get(file, index, name))
+}
+
+// The rule of a name in the kind of an environment.
+pub fn get_env(file: &[u8], index: &[u32], name: &[u8]) -> Found
+    requires { ⌜ SomeRules (now file) (now index) ⌝ }
+    ensures { λ r. ⌜ Answers (now (file .entry)) (now (name .entry)) (λ rs. getEnv rs (now (name .entry))) r ⌝ }
+{
+    as_env(get(file, index, name))
+}
+
+// The written name: the alias, a part of the rule file, or the name itself where there is none.
+pub fn written_name<'a>(file: &'a [u8], name: &'a [u8], found: Found) -> &'a [u8]
+    requires { ⌜ endOf found ≤ length (now file) ⌝ }
+    ensures { λ r. ⌜ now r ≡ aliasOr (aliasOf (now (file .entry)) found) (now (name .entry)) ⌝ }
+{
+    match found {
+        Found::Absent => name,
+        Found::Plain { class: _ } => name,
+        Found::Aliased { class: _, at, size } => &file[at..at + size],
+    }
+}

@@ -1,10 +1,10 @@
 -- Numbers and their bytes are the same thing: each way gives the other back.
 use mathlib.Core.Path.{_≡_, refl, sym, ap, subst, _∙_}
-use mathlib.Core.List.{List, [], _∷_, _++_}
+use mathlib.Core.List.{List, [], _∷_}
 use Prim.Native.Nat.{ℕ, _+_, _*_, _/_, _%_, _≤_, _<_}
 use native.Mathlib.Omega.{arith}
 use lib.ListN.{length, drop, getD}
-use lib.Seq.{getD-drop, getD-append-add, drop-drop}
+use lib.Seq.{getD-drop, drop-drop}
 use Rattle.text.specs.Numbers.{Bytes, two, four, twoAt, fourAt}
 
 pub bytes-drop : (n : ℕ) (l : List ℕ) → Bytes l → Bytes (drop n l)

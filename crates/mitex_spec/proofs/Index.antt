@@ -1,0 +1,118 @@
+-- What the check leaves in the index are the offsets of the names (`checked-fit`), so that look-ups can be asked
+-- (`checked-ready`).
+use mathlib.Core.Path.{_≡_, refl, sym, ap, _∙_}
+use mathlib.Core.Bool.{Bool, true, false, true≢false}
+use mathlib.Core.Option.{Option}
+use mathlib.Core.Option.Option.{none, some}
+use mathlib.Core.List.{List, [], _∷_, _++_}
+use Prim.Native.Nat.{ℕ, _+_, _*_, _-_, _≤_, _<_}
+use native.Mathlib.Omega.{arith}
+use lib.ListN.{length, take, drop, length-append}
+use lib.Seq.{sets, sets-eq, take-append-seam}
+use Rattle.text.specs.Numbers.{Bytes}
+use Rattle.mitex_spec.specs.Rules.{Rule}
+use Rattle.mitex_spec.specs.RuleFile.{noAlias, startOf, countOf, rulesIn, rising, rulesOf, ruleText, textOfRules, rowsOfRules}
+use Rattle.mitex_spec.specs.Index.{offsetsFrom, startsFrom, accepted, indexed, Ready}
+use Rattle.mitex_spec.proofs.RuleFile.{ruleRow-reads, Whole, rowsIn, rules-whole, rules-broken, rows-long, file-rules}
+
+pub length-offsets : (rs : List Rule) (at : ℕ) → length (offsetsFrom at rs) ≡ length rs
+unfolding offsetsFrom
+length-offsets [] at = refl
+length-offsets (r ∷ rs) at = let e = length-offsets rs (at + length (ruleText r)) in omega arith
+
+-- the rows say where the names begin
+starts-offsets :
+    (rs : List Rule) (at : ℕ) → length (textOfRules rs) < noAlias → startsFrom at (length rs) (rowsOfRules rs) ≡ offsetsFrom at rs
+unfolding startsFrom offsetsFrom rowsOfRules textOfRules
+starts-offsets [] at h = refl
+starts-offsets (r ∷ rs) at h =
+    let long = length-append (ruleText r) (textOfRules rs) in
+    let e = ruleRow-reads r (rowsOfRules rs) [] (omega arith) .takes in
+    ap (λ k. at ∷ startsFrom (at + k) (length rs) (rowsOfRules rs)) e
+    ∙ ap (λ l. at ∷ l) (starts-offsets rs (at + length (ruleText r)) (omega arith))
+
+-- ---- what the check answers
+
+abbrev Checked : List ℕ → List ℕ → Bool → List ℕ → Type 0
+Checked file index ok index′ = (ok ≡ accepted (rulesOf file)) × (index′ ≡ indexed (rulesOf file) index)
+
+refused : (file index : List ℕ) → rulesOf file ≡ none → Checked file index false index
+refused file index e = (sym (ap accepted e), sym (ap (λ o. indexed o index) e))
+
+pub checked-broken : (file index : List ℕ) → (Whole file → ⊥) → Checked file index false index
+checked-broken file index h = refused file index (rules-broken file h)
+
+accepted-none : (o : Option (List Rule)) → accepted o ≡ false → o ≡ none
+accepted-none none e = refl
+accepted-none (some rs) e = absurd (true≢false e)
+
+accepted-some : (o : Option (List Rule)) → accepted o ≡ true → (rs : List Rule) × (o ≡ some rs)
+accepted-some none e = absurd (true≢false (sym e))
+accepted-some (some rs) e = (rs, refl)
+
+-- the parts that the code takes are the rows and the text
+module _ (file : List ℕ) (w : Whole file) (start : ℕ) (e : start ≡ startOf file) where
+  abbrev rows : List ℕ
+  rows = take (length file - 8 - start) (drop start file)
+
+  rows-are : rows ≡ rowsIn file
+  rows-are =
+      let sum = w .sum in
+      let many : length file - 8 - startOf file ≡ 8 * countOf file = omega arith in
+      ap (λ k. take (length file - 8 - k) (drop k file)) e ∙ ap (λ k. take k (drop (startOf file) file)) many
+
+  pub rows-many : length rows ≡ 8 * countOf file
+  rows-many = ap length rows-are ∙ rows-long file w
+
+  abbrev Asks : Bool → Type 0
+  Asks fit = (n : ℕ) → length rows ≡ 8 * n → fit ≡ accepted (rising (rulesIn n rows (take start file)))
+
+  fit-whole : (fit : Bool) → Asks fit → fit ≡ accepted (rulesOf file)
+  fit-whole fit asks =
+      asks (countOf file) rows-many
+      ∙ ap (λ l. accepted (rising (rulesIn (countOf file) l (take start file)))) rows-are
+      ∙ ap (λ k. accepted (rising (rulesIn (countOf file) (rowsIn file) (take k file)))) e
+      ∙ sym (ap accepted (rules-whole file w))
+
+  pub checked-unfit : (index : List ℕ) (fit : Bool) → Asks fit → fit ≡ false → Checked file index false index
+  checked-unfit index fit asks e = refused file index (accepted-none (rulesOf file) (sym (fit-whole fit asks) ∙ e))
+
+  pub checked-fit :
+      (index index′ : List ℕ) (fit : Bool) → Bytes file → Asks fit → fit ≡ true
+      → ((n : ℕ) → length rows ≡ 8 * n → index′ ≡ sets index 0 (startsFrom 0 n rows)) → Checked file index true index′
+  checked-fit index index′ fit by asks t fill =
+      let s = accepted-some (rulesOf file) (sym (fit-whole fit asks) ∙ t) in
+      let d = file-rules file (s .0) by (s .1) in
+      let start = d .start in
+      let sum = w .sum in
+      let most = w .most in (
+        sym (ap accepted (s .1)),
+        fill (countOf file) rows-many
+            ∙ ap (λ l. sets index 0 (startsFrom 0 (countOf file) l)) (rows-are ∙ d .rows-are)
+            ∙ ap (λ n. sets index 0 (startsFrom 0 n (rowsOfRules (s .0)))) (d .count)
+            ∙ ap (sets index 0) (starts-offsets (s .0) 0 (omega arith))
+            ∙ sym (ap (λ o. indexed o index) (s .1)),
+      )
+
+-- ---- what look-ups ask
+
+-- a file has at most 8,191 rules
+pub rules-few : (file : List ℕ) (rs : List Rule) → Bytes file → rulesOf file ≡ some rs → length rs ≤ 8191
+rules-few file rs by e =
+    let d = file-rules file rs by e in
+    let c = d .count in
+    let sum = d .whole .sum in
+    let most = d .whole .most in
+    omega arith
+
+-- an index that had room for them holds their offsets after the check
+pub checked-ready : (file index index′ : List ℕ) (rs : List Rule) → rulesOf file ≡ some rs → length rs ≤ length index → index′ ≡ indexed (rulesOf file) index → Ready file index′ rs
+checked-ready file index index′ rs e h q =
+    let l = length-offsets rs 0 in
+    record {
+      decodes = e;
+      holds =
+          ap (take (length rs)) (q ∙ ap (λ o. indexed o index) e ∙ sets-eq (offsetsFrom 0 rs) index 0 (omega arith))
+          ∙ ap (λ k. take k (offsetsFrom 0 rs ++ drop (0 + length (offsetsFrom 0 rs)) index)) (sym l)
+          ∙ take-append-seam (offsetsFrom 0 rs) (drop (0 + length (offsetsFrom 0 rs)) index);
+    }

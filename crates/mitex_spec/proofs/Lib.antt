@@ -1,0 +1,4 @@
+pub mod RuleFile
+mod Checking
+pub mod Index
+pub mod LookUp

@@ -1,0 +1,132 @@
+-- Past the tests of lengths the file is `Whole`, and the two loops decide (`checked-unfit`, `checked-fit`).
+use Rattle.mitex_spec.proofs.RuleFile.{Whole}
+use native.Mathlib.Omega.{arith}
+use mathlib.Core.Path.{sym}
+use borrow.Author.Tests.{not-true, not-false}
+use lib.Seq.{length-take-le}
+use Rattle.mitex_spec.proofs.Index.{checked-broken, checked-unfit, checked-fit}
+use borrow.Author.Needs.{needs}
+use Rattle.mitex_spec.proofs.check_rules.Statement.{statement}
+use Rattle.mitex_spec.proofs.check_rules.Tie as tie
+
+abbrev entry : tie.Else3 → tie.Start
+entry c = let a = c .before .before .before .before in a .before .before .before
+
+-- past the three tests of lengths
+whole : (c : tie.Else3) → Whole (entry c .args .file .now)
+whole c =
+    let s = c .before .before .start-of .ensures .0 in
+    let n = c .before .count-of .ensures .0 in
+    let e = c .if3 .left in
+    record { low = c .before .before .before .before .if1 .left; most = c .before .before .before .if2 .left; sum = omega arith }
+
+returns : tie.Need-returns
+returns c = checked-broken (c .before .before .before .args .file .now) (c .before .before .before .args .index .now) (λ w. omega (arith, w .low, c .if1 .taken))
+
+returns-2 : tie.Need-returns-2
+returns-2 c =
+    let c₁ = c .before .before .before .before in
+    checked-broken (c₁ .args .file .now) (c₁ .args .index .now) (λ w. omega (arith, w .most, c .if2 .taken))
+
+start-of-requires : tie.Need-start-of-requires
+start-of-requires c κs = search needs
+
+count-of-requires : tie.Need-count-of-requires
+count-of-requires c κs = search needs
+
+mul-if3 : tie.Need-mul-if3
+mul-if3 c = search needs
+
+add-if3 : tie.Need-add-if3
+add-if3 c = search needs
+
+add-if3-2 : tie.Need-add-if3-2
+add-if3-2 c = search needs
+
+returns-3 : tie.Need-returns-3
+returns-3 c =
+    let c₁ = c .before in
+    let c₂ = c₁ .before in
+    let c₃ = c₂ .before .before .before .before .before in
+    checked-broken (c₃ .args .file .now) (c₃ .args .index .now) (λ w. c .if3 .taken (let s = c₂ .start-of .ensures .0 in let n = c₁ .count-of .ensures .0 in let e = w .sum in omega arith))
+
+sub-end : tie.Need-sub-end
+sub-end c = search needs
+
+sub-rules-fit : tie.Need-sub-rules-fit
+sub-rules-fit c = search needs
+
+part-rules-fit-start : tie.Need-part-rules-fit-start
+part-rules-fit-start c = search needs
+
+part-rules-fit-end : tie.Need-part-rules-fit-end
+part-rules-fit-end c = search needs
+
+slice-aggregate-rules-fit : tie.Need-slice-aggregate-rules-fit
+slice-aggregate-rules-fit c =
+    let c₁ = c .before .before in
+    let c₂ = c₁ .before .before in
+    let w = whole c₁ in let e = w .sum in let s = c₂ .start-of .ensures .0 in sym (length-take-le _ _ (omega arith))
+
+rules-fit-requires : tie.Need-rules-fit-requires
+rules-fit-requires c κs = search needs
+
+returns-4 : tie.Need-returns-4
+returns-4 c =
+    let c₁ = c .before in
+    let c₂ = c₁ .before .before .before in
+    let c₃ = c₂ .before .before in
+    let c₄ = c₃ .before .before .before .before .before in
+    checked-unfit (c₄ .args .file .now) (whole c₂) (c₃ .start-of .result) (c₃ .start-of .ensures .0) (c₄ .args .index .now) (c₁ .rules-fit .result) (c₁ .rules-fit .ensures) (not-true _ (c .if4 .taken))
+
+sub-fill-index : tie.Need-sub-fill-index
+sub-fill-index c = search needs
+
+part-fill-index-start : tie.Need-part-fill-index-start
+part-fill-index-start c = search needs
+
+part-fill-index-end : tie.Need-part-fill-index-end
+part-fill-index-end c = search needs
+
+fill-index-requires : tie.Need-fill-index-requires
+fill-index-requires c κs = search needs
+
+same-length : tie.Need-same-length
+same-length c = search needs
+
+returns-5 : tie.Need-returns-5
+returns-5 c =
+    let c₁ = c .before .before in
+    let c₂ = c₁ .before .before .before in
+    let c₃ = c₂ .before in
+    let c₄ = c₃ .before .before .before in
+    let c₅ = c₄ .before .before in
+    let c₆ = c₅ .before .before .before .before in
+    let c₇ = c₆ .before in
+    checked-fit (c₇ .args .file .now) (whole c₄) (c₅ .start-of .result) (c₅ .start-of .ensures .0) (c₇ .args .index .now) _ (c₃ .rules-fit .result) (λ i. omega (arith, c₆ .shared-slice-known .given i)) (c₃ .rules-fit .ensures) (not-false _ (c₂ .if4 .left)) (c₁ .fill-index .ensures)
+
+pub check-rules-spec : {M : Type 1} → statement M
+check-rules-spec =
+    tie.close
+    (tie.spec
+    returns
+    returns-2
+    start-of-requires
+    count-of-requires
+    mul-if3
+    add-if3
+    add-if3-2
+    returns-3
+    sub-end
+    sub-rules-fit
+    part-rules-fit-start
+    part-rules-fit-end
+    slice-aggregate-rules-fit
+    rules-fit-requires
+    returns-4
+    sub-fill-index
+    part-fill-index-start
+    part-fill-index-end
+    fill-index-requires
+    same-length
+    returns-5)

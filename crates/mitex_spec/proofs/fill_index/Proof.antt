@@ -1,0 +1,83 @@
+-- The invariant is `Filled`: what is to be stored for all rows is what stands and what is to be stored for those left. Offsets stay small, as each row takes fewer than 131,072 bytes.
+use native.Mathlib.Omega.{arith}
+use mathlib.Core.Path.{_≡_, refl, _∙_, ap}
+use Prim.Native.Nat.{ℕ, _+_, _*_, _≤_}
+use lib.ListN.{length, length-set}
+use Rattle.mitex_spec.proofs.Checking.{rest-length, Filled, filled-start, filled-next, filled-end}
+use Rattle.mitex_spec.proofs.fill_index.Statement.{statement}
+use Rattle.mitex_spec.proofs.fill_index.Tie as tie
+
+abbrev Inv-loop : tie.InvT-loop
+Inv-loop rows index₀ l₀ at₀ k₀ index l at k = (at ≤ 131072 * k) × (8 * k + length l ≤ length rows) × (length index ≡ length index₀) × ((n : ℕ) → length rows ≡ 8 * n → Filled n rows index₀ index l at k)
+
+abbrev μ-loop : tie.MeasureT-loop
+μ-loop rows index₀ l₀ at₀ k₀ index l at k = length l
+
+loop-holds : tie.Need-loop-holds Inv-loop μ-loop
+loop-holds c = (omega arith, omega arith, refl, λ n e. filled-start n _ _ e)
+
+store-requires : tie.Need-store-requires Inv-loop μ-loop
+store-requires c κs = omega arith
+
+taken-requires : tie.Need-taken-requires Inv-loop μ-loop
+taken-requires c κs =
+    let c₁ = c .before .before .before .before in
+    c₁ .loop-test .taken
+
+add-at : tie.Need-add-at Inv-loop μ-loop
+add-at c = omega arith
+
+add-k : tie.Need-add-k Inv-loop μ-loop
+add-k c = omega arith
+
+sub-l : tie.Need-sub-l Inv-loop μ-loop
+sub-l c = omega arith
+
+part-l-start : tie.Need-part-l-start Inv-loop μ-loop
+part-l-start c = omega arith
+
+part-l-end : tie.Need-part-l-end Inv-loop μ-loop
+part-l-end c = omega arith
+
+loop-less : tie.Need-loop-less Inv-loop μ-loop
+loop-less c =
+    let c₁ = c .before .before .before .before .before in
+    let c₂ = c₁ .before .before in
+    omega (arith, rest-length (c₂ .loop .l .now) 8)
+
+loop-again : tie.Need-loop-again Inv-loop μ-loop
+loop-again c =
+    let c₁ = c .before in
+    let c₂ = c₁ .before .before .before in
+    let c₃ = c₂ .before .before in
+    let c₄ = c₃ .before in
+    let loop = c₄ .loop in
+    let store = c₂ .store in
+    let taken = c₁ .taken in
+    let n = rest-length (loop .l .now) 8 in
+    (omega arith, omega arith, ap length (store .ensures) ∙ length-set (loop .index) (loop .k) (loop .at) ∙ loop .inv .2, λ n e. filled-next (loop .inv .3 n e) _ (taken .result) (c₃ .loop-test .taken) (store .ensures) (taken .ensures .0))
+
+same-length : tie.Need-same-length Inv-loop μ-loop
+same-length c = c .before .loop .inv .2
+
+returns : tie.Need-returns Inv-loop μ-loop
+returns c = λ n e. filled-end (c .before .loop .inv .3 n e) (c .loop-test .left)
+
+pub fill-index-spec : {M : Type 1} → statement M
+fill-index-spec =
+    tie.close
+    (tie.spec
+    Inv-loop
+    μ-loop
+    loop-holds
+    store-requires
+    taken-requires
+    add-at
+    add-k
+    sub-l
+    part-l-start
+    part-l-end
+    loop-less
+    loop-again
+    same-length
+    returns)

@@ -1,0 +1,47 @@
+-- The first byte that is no zero decides.
+use lib.Dec.{eqb}
+use lib.ListN.{getD}
+use mathlib.Core.Path.{refl}
+use borrow.Author.Tests.{eq-eqb, ne-eqb}
+use Rattle.mitex_spec.proofs.Checking.{and-first, and-later}
+use borrow.Author.Needs.{needs}
+use Rattle.mitex_spec.proofs.padded.Statement.{statement}
+use Rattle.mitex_spec.proofs.padded.Tie as tie
+
+shared-slice-read-if1 : tie.Need-shared-slice-read-if1
+shared-slice-read-if1 c = search needs
+
+returns : tie.Need-returns
+returns c = let rows = c .before .before .args .rows .now in and-first (eqb (getD rows 5 0) 0) _ (ne-eqb (getD rows 5 0) 0 (c .if1 .taken))
+
+shared-slice-read-if2 : tie.Need-shared-slice-read-if2
+shared-slice-read-if2 c = search needs
+
+returns-2 : tie.Need-returns-2
+returns-2 c =
+    let c₁ = c .before .before in
+    let c₂ = c₁ .before .before in
+    let rows = c₂ .args .rows .now in
+    and-later (eqb (getD rows 5 0) 0) _ _ (eq-eqb (getD rows 5 0) 0 (c₁ .if1 .left)) (and-first (eqb (getD rows 6 0) 0) _ (ne-eqb (getD rows 6 0) 0 (c .if2 .taken)))
+
+shared-slice-read-result : tie.Need-shared-slice-read-result
+shared-slice-read-result c = search needs
+
+returns-3 : tie.Need-returns-3
+returns-3 c =
+    let c₁ = c .before in
+    let c₂ = c₁ .before .before in
+    let c₃ = c₂ .before .before in
+    let rows = c₃ .args .rows .now in
+    and-later (eqb (getD rows 5 0) 0) _ _ (eq-eqb (getD rows 5 0) 0 (c₂ .if1 .left)) (and-later (eqb (getD rows 6 0) 0) _ _ (eq-eqb (getD rows 6 0) 0 (c₁ .if2 .left)) refl)
+
+pub padded-spec : {M : Type 1} → statement M
+padded-spec =
+    tie.close
+    (tie.spec
+    shared-slice-read-if1
+    returns
+    shared-slice-read-if2
+    returns-2
+    shared-slice-read-result
+    returns-3)

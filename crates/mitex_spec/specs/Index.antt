@@ -1,0 +1,55 @@
+-- The index of a rule file: for each rule where its name begins in the file. A rule's row and its name are then found by
+-- the rule's number, and a name by halving.
+use mathlib.Core.Path.{_≡_}
+use mathlib.Core.Bool.{Bool, true, false, cond}
+use mathlib.Core.Option.{Option}
+use mathlib.Core.Option.Option.{none, some}
+use mathlib.Core.List.{List, [], _∷_}
+use Prim.Native.Nat.{ℕ, zero, suc, _+_, _<_}
+use lib.ListN.{length, take, drop, getD}
+use lib.Seq.{sets}
+use Rattle.text.specs.Compare.{precedes}
+use Rattle.mitex_spec.specs.Rules.{Rule, rule}
+use Rattle.mitex_spec.specs.RuleFile.{rulesOf, ruleText, taken}
+
+-- where the names of rules begin whose texts stand from `at` on
+unfoldable pub offsetsFrom : ℕ → List Rule → List ℕ
+offsetsFrom at [] = []
+offsetsFrom at (r ∷ rs) = at ∷ offsetsFrom (at + length (ruleText r)) rs
+
+-- the same by the rows
+unfoldable pub startsFrom : ℕ → ℕ → List ℕ → List ℕ
+startsFrom at zero rows = []
+startsFrom at (suc n) rows = at ∷ startsFrom (at + taken rows) n (drop 8 rows)
+
+-- whether there are rules, and what the check leaves in the index: what it had where there are none
+abbrev pub accepted : Option (List Rule) → Bool
+accepted none = false
+accepted (some rs) = true
+
+abbrev pub indexed : Option (List Rule) → List ℕ → List ℕ
+indexed none index = index
+indexed (some rs) index = sets index 0 (offsetsFrom 0 rs)
+
+-- the rule of a number, and how many of the first names come before a name
+abbrev pub ruleNo : List Rule → ℕ → Rule
+ruleNo rs k = getD rs k (rule [] none 0)
+
+unfoldable pub rankOf : List Rule → List ℕ → ℕ
+rankOf [] name = 0
+rankOf (r ∷ rs) name = cond (precedes (r .name) name) (1 + rankOf rs name) 0
+
+-- what a look-up asks, and the check establishes (`checked-ready`, proofs/Index.antt): the file has these rules, and the index
+-- begins with their offsets
+pub record Ready (file index : List ℕ) (rules : List Rule) : Type 0 where
+  pub decodes : rulesOf file ≡ some rules
+  pub holds : take (length rules) index ≡ offsetsFrom 0 rules
+
+pub record SomeRules (file index : List ℕ) : Type 0 where
+  pub rules : List Rule
+  pub ready : Ready file index rules
+
+pub record SomeRule (file index : List ℕ) (k : ℕ) : Type 0 where
+  pub rules : List Rule
+  pub ready : Ready file index rules
+  pub few : k < length rules
