@@ -1,6 +1,6 @@
 -- What tests on a kind give: each law is a case of `is_trivia`, `is_token` or `is_node`.
 use mathlib.Core.Path.{_≡_, refl, sym, ap, _∙_}
-use mathlib.Core.Bool.{Bool, true, false, _&&_, _||_, not}
+use mathlib.Core.Bool.{Bool, true, false, _&&_, _||_, not, and-true, and-false}
 use Prim.Native.Nat.{ℕ, _≤_, _<_}
 use native.Mathlib.Omega.{arith}
 use borrow.Author.Tests.{ne-eqb, le-leb, lt-leb, leb-true, leb-false}
@@ -31,16 +31,8 @@ module _ (k : ℕ) (no-error : k ≡ TokenError → ⊥) where
       ∙ ap (λ (x : Bool). x && not b) h
 
   pub token-not-node : (b : Bool) → b ≡ isToken k → b ≡ true → false ≡ isNode k
-  token-not-node b e h = sym (node-by {c = isKind k} (sym e ∙ h) refl ∙ go (isKind k))
-    where
-      go : (c : Bool) → c && false ≡ false
-      go true = refl
-      go false = refl
+  token-not-node b e h = sym (node-by {c = isKind k} (sym e ∙ h) refl ∙ and-false (isKind k))
 
   pub other-node : (b : Bool) → b ≡ isToken k → b ≡ false → (k ≡ 0 → ⊥) → leb k ItemTypstCode ≡ isNode k
   other-node b e h no-zero =
-      sym (node-by {c = leb k ItemTypstCode} (sym e ∙ h) (ap (λ (x : Bool). x && leb k ItemTypstCode) (le-leb 1 k (omega (arith, no-zero)))) ∙ go (leb k ItemTypstCode))
-    where
-      go : (c : Bool) → c && true ≡ c
-      go true = refl
-      go false = refl
+      sym (node-by {c = leb k ItemTypstCode} (sym e ∙ h) (ap (λ (x : Bool). x && leb k ItemTypstCode) (le-leb 1 k (omega (arith, no-zero)))) ∙ and-true (leb k ItemTypstCode))

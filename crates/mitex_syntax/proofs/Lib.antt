@@ -1,5 +1,6 @@
 pub mod Reading
 pub mod Kinding
+pub mod Deciding
 pub mod Trees
 pub mod Seeking
 pub mod Places

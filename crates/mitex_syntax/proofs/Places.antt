@@ -4,17 +4,19 @@ use mathlib.Core.Path.{_≡_, sym, ap, subst, _∙_}
 use mathlib.Core.Bool.{Bool}
 use mathlib.Core.Option.Option.{none as nothing}
 use mathlib.Core.List.{List}
-use Prim.Native.Nat.{ℕ, _≤_, _<_}
+use Prim.Native.Nat.{ℕ, _+_, _-_, _≤_, _<_}
 use native.Mathlib.Omega.{arith}
-use lib.ListN.{length}
+use lib.ListN.{length, take, drop, length-drop, length-take}
+use lib.Seq.{drop-at, drop-drop, take-add, length-take-le}
 use Rattle.text.specs.Writing.{cap}
 use Rattle.mitex_syntax.specs.Tree.{Tree, Forest}
-use Rattle.mitex_syntax.specs.Views.{firstBy, textIn}
+use Rattle.mitex_syntax.specs.Views.{firstBy, childrenOf, childrenIn, textIn}
 use Rattle.mitex_syntax.specs.Spells.{Begins, SomeForest}
 use Rattle.mitex_syntax.specs.Places.{Stands, Placed, partAt, InText}
 use Rattle.mitex_syntax.specs.Places.Placed.{missing, there}
 use Rattle.mitex_syntax.specs.declared.Place.{Place}
 use Rattle.mitex_syntax.specs.declared.Place.the-variants.{Nowhere, At}
+use Rattle.mitex_syntax.proofs.Trees.{children-begin}
 
 -- what a view asks of children that are spelt
 pub some-forest : {f : Forest} {rows text : List ℕ} → Begins f rows text → length rows < cap → length text < cap → SomeForest rows text 0 0
@@ -45,3 +47,28 @@ module _ {p : Tree → Bool} {f : Forest} {rows text : List ℕ} {i : ℕ} where
 
 pub at-inside : (text : List ℕ) {r : Place} {a b c d : ℕ} → InText text r → r ≡ At a b c d → (c ≤ d) × (d ≤ length text)
 at-inside text m e = subst (InText text) e m
+
+-- ---- the children of what was found
+
+drop-take : (m k : ℕ) (l : List ℕ) → m ≤ length l → drop m (take (m + k) l) ≡ take k (drop m l)
+drop-take m k l h = ap (drop m) (take-add m k l) ∙ drop-at (take m l) (take k (drop m l)) m (length-take-le m l h)
+
+module _ {p : Tree → Bool} {f : Forest} {rows text : List ℕ} {i a b c d : ℕ} (s : Stands p f rows text i a b c d) where
+  pub found-children : Begins (childrenOf (s .tree)) (take (b - (a + 8)) (drop (a + 8) rows)) (take (d - c) (drop c text))
+  found-children =
+      let some = s .some-rows in
+      let end = s .end in
+      let l = length-drop a rows in
+      let e : b - a ≡ 8 + (b - (a + 8)) = omega arith in
+      let er : drop 8 (take (b - a) (drop a rows)) ≡ take (b - (a + 8)) (drop (a + 8) rows) =
+      ap (λ (n : ℕ). drop 8 (take n (drop a rows))) e ∙ drop-take 8 (b - (a + 8)) (drop a rows) (omega arith)
+      ∙ ap (take (b - (a + 8))) (drop-drop 8 a rows) in
+      subst (λ (R : List ℕ). Begins (childrenOf (s .tree)) R (take (d - c) (drop c text))) er (children-begin (s .tree) (s .spells))
+
+  pub found-some :
+      length rows < cap → length text < cap → SomeForest (take (b - (a + 8)) (drop (a + 8) rows)) (take (d - c) (drop c text)) 0 0
+  found-some few short =
+      some-forest found-children (simp (length-take, length-drop) (omega arith)) (simp (length-take, length-drop) (omega arith))
+
+  pub children-found : childrenIn (firstBy p f) ≡ childrenOf (s .tree)
+  children-found = ap childrenIn (s .is)

@@ -8,19 +8,21 @@ use mathlib.Core.List.{List, _++_, append-assoc}
 use Prim.Native.Nat.{ℕ, _+_, _*_, _-_, _≤_, _<_}
 use native.Mathlib.Omega.{arith}
 use borrow.Author.Tests.{eq-eqb, ne-eqb, ltb-true, ltb-false}
-use lib.Dec.{ltb}
+use lib.Dec.{eqb, ltb}
 use lib.ListN.{length, take, drop, getD, length-drop}
 use lib.Seq.{take-at, drop-drop, take-all}
+use Rattle.text.specs.Compare.{same}
 use Rattle.text.specs.Writing.{cap}
 use Rattle.mitex_syntax.specs.Tree.{Tree, Forest, size, sizes, rowsOf, rowsOfs, textOf, textsOf}
 use Rattle.mitex_syntax.specs.Tree.Tree.{token, node}
 use Rattle.mitex_syntax.specs.Tree.Forest.{none, more}
 use Rattle.mitex_syntax.specs.Rows.{numOf, extentOf}
-use Rattle.mitex_syntax.specs.Views.{isNodeTree, childrenOf, kindIn, textIn, firstToken, firstTokens, lastToken, lastTokens}
+use Rattle.mitex_syntax.specs.Views.{isNodeTree, childrenOf, kindIn, textIn, firstToken, firstTokens, lastToken, lastTokens, isTokenOf}
 use Rattle.mitex_syntax.specs.Spells.{Sound, Begins}
 use Rattle.mitex_syntax.specs.Places.{TokenIs, Hops}
 use Rattle.mitex_syntax.specs.declared.Token.{Token}
 use Rattle.mitex_syntax.specs.declared.Span.{Span}
+use Rattle.mitex_syntax.proofs.Deciding.{and-then, and-not}
 use Rattle.mitex_syntax.proofs.Trees.{length-rowss, four-says, size-some, left, no-left, First, first-spelt, Element, element, rows-e, text-n, past}
 use Rattle.mitex_syntax.proofs.Seeking.{kind-here, mark-here, size-token}
 
@@ -313,3 +315,13 @@ module _ {f : Forest} {rows text : List ℕ} {i j : ℕ} (w : Lasts f rows text 
   pub last-none : length rows ≤ i → lastTokens f ≡ nothing
   unfolding lastToken
   last-none h = w .still ∙ ap lastTokens (no-left (w .forest) (w .begins .rows-are) (simp length-drop (omega arith)))
+
+-- ---- a token that is tested
+
+module _ {o : Option Tree} {text : List ℕ} {r : Token} (m : TokenIs o text r) (k : ℕ) (s : List ℕ) where
+  pub token-of-same : r .kind ≡ k → {b : Bool} → b ≡ same (take (r .to - r .from) (drop (r .from) text)) s → b ≡ isTokenOf k s o
+  token-of-same e {b} q =
+      and-then (eqb (kindIn o) k) (same (textIn o) s) refl (eq-eqb (kindIn o) k (sym (m .kind) ∙ e)) (q ∙ ap (λ (l : List ℕ). same l s) (m .text-is))
+
+  pub token-of-other : (r .kind ≡ k → ⊥) → false ≡ isTokenOf k s o
+  token-of-other e = and-not (eqb (kindIn o) k) (same (textIn o) s) refl (ne-eqb (kindIn o) k (λ q. e (m .kind ∙ q)))

@@ -73,6 +73,9 @@ pub record TokenIs (o : Option Tree) (text : List ℕ) (r : Token) : Type 0 wher
   pub stop : r .to ≤ length text
   pub text-is : take (r .to - r .from) (drop (r .from) text) ≡ textIn o
 
+abbrev pub TokenInText : List ℕ → Token → Type 0
+TokenInText text t = (t .from ≤ t .to) × (t .to ≤ length text)
+
 -- the way to the last token: over an element that is not the last, and into one that is
 pub record Hops (rows : List ℕ) (i : ℕ) (r : Span) : Type 0 where
   pub over-rows : i + extentOf (drop i rows) < length rows → r .rows ≡ extentOf (drop i rows)

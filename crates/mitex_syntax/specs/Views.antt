@@ -140,12 +140,15 @@ isInline f = isTokenOf TokenDollar (ascii "$") (firstTokens f) || isTokenOf Toke
 abbrev pub isPair : ℕ → List ℕ → ℕ → List ℕ → Forest → Bool
 isPair k s m e f = isTokenOf k s (firstTokens f) && isTokenOf m e (lastTokens f)
 
+abbrev pub dollarEnds : Forest → Bool
+dollarEnds f = isPair TokenDollar (ascii "$") TokenDollar (ascii "$") f || isPair TokenDollar (ascii "$$") TokenDollar (ascii "$$") f
+
+abbrev pub mathEnds : Forest → Bool
+mathEnds f =
+    isPair TokenBeginMath (ascii "\\(") TokenEndMath (ascii "\\)") f || isPair TokenBeginMath (ascii "\\[") TokenEndMath (ascii "\\]") f
+
 abbrev pub isValid : Forest → Bool
-isValid f =
-    isPair TokenDollar (ascii "$") TokenDollar (ascii "$") f
-    || (isPair TokenDollar (ascii "$$") TokenDollar (ascii "$$") f
-    || (isPair TokenBeginMath (ascii "\\(") TokenEndMath (ascii "\\)") f
-    || isPair TokenBeginMath (ascii "\\[") TokenEndMath (ascii "\\]") f))
+isValid f = dollarEnds f || mathEnds f
 
 -- ---- a text between two ends
 

@@ -1,15 +1,17 @@
 // Trees as rows: the kinds of elements, what the rows of an element say, and the typed views of syntax.rs. A node's rows and its
 // text are parts of the caller's tree file.
 ghost use mathlib.Core.Path.{_≡_};
+ghost use mathlib.Core.Option.{Option};
 ghost use Prim.Native.Nat.{_+_, _-_, _%_, _≤_, _<_};
 ghost use lib.ListN.{length, take, drop};
 ghost use Rattle.text.specs.Writing.{cap};
-ghost use Rattle.mitex_syntax.specs.Syntax.{ClauseArgument, isTrivia, isToken, isNode};
+ghost use Rattle.utf8.specs.Trim.{trim};
+ghost use Rattle.mitex_syntax.specs.Syntax.{ClauseArgument, ItemBegin, isTrivia, isToken, isNode};
 ghost use Rattle.mitex_syntax.specs.Tree.{Tree, Forest, rowsOf, rowsOfs};
 ghost use Rattle.mitex_syntax.specs.Rows.{numOf, extentOf, tokenAt, tokenSum, Spans};
-ghost use Rattle.mitex_syntax.specs.Views.{isOf, isNodeTree, isArgumentWith, firstNode, kindIn, cmdName, firstTokens, lastTokens};
+ghost use Rattle.mitex_syntax.specs.Views.{isOf, isNodeTree, isArgumentWith, firstNode, kindIn, cmdName, firstTokens, lastTokens, envName, isTokenOf, isInline, isPair, dollarEnds, mathEnds, isValid, inner};
 ghost use Rattle.mitex_syntax.specs.Spells.{Begins, SomeRows, SomeElement, SomeForest};
-ghost use Rattle.mitex_syntax.specs.Places.{picks, Finds, InText, partAt, TokenIs, Hops};
+ghost use Rattle.mitex_syntax.specs.Places.{picks, Finds, InText, partAt, TokenIs, TokenInText, Hops};
 
 // ---- kinds, in the order in which the main match of `Converter::convert` names them
 
@@ -449,10 +451,125 @@ pub fn last_token(rows: &[u8], text: &[u8]) -> Token
 
 // The text of a token.
 pub fn token_text<'a>(text: &'a [u8], t: Token) -> &'a [u8]
-    requires { ⌜ (t .from ≤ t .to) × (t .to ≤ length (now text)) ⌝ }
+    requires { ⌜ TokenInText (now text) t ⌝ }
     ensures { λ r. ⌜ now r ≡ take (t .to - t .from) (drop (t .from) (now (text .entry))) ⌝ }
 {
     let from = t.from;
     let to = t.to;
     &text[from..to]
+}
+
+// ---- environments
+
+// `EnvItem::begin`: where the first ItemBegin stands.
+pub fn begin(rows: &[u8], text: &[u8]) -> Place
+    requires { ⌜ SomeForest (now rows) (now text) 0 0 ⌝ }
+    ensures { λ r. ⌜ Finds (isOf ItemBegin) (now (rows .entry)) (now (text .entry)) 0 0 r ⌝ }
+{
+    find_kind(rows, text, ITEM_BEGIN)
+}
+
+// `EnvItem::name_tok`: the name of an environment over these children.
+pub fn env_name<'a>(rows: &[u8], text: &'a [u8]) -> &'a [u8]
+    requires { ⌜ SomeForest (now rows) (now text) 0 0 ⌝ }
+    ensures { λ r. ⌜ ((f : Forest) → Begins f (now (rows .entry)) (now (text .entry)) → now r ≡ envName f) ⌝ }
+{
+    match begin(rows, text) {
+        Place::Nowhere => &text[0..0],
+        Place::At { row, end, from, to } => {
+            let s = &text[from..to];
+            token_text(s, first_token(&rows[row + 8..end], s))
+        }
+    }
+}
+
+// ---- formulas
+
+// Whether a token is of this kind and has this text.
+fn is_token_of(text: &[u8], t: Token, kind: u8, s: &[u8]) -> bool
+    requires { ⌜ TokenInText (now text) t ⌝ }
+    ensures { λ r. ⌜ ((o : Option Tree) → TokenIs o (now (text .entry)) t → r ≡ isTokenOf kind (now (s .entry)) o) ⌝ }
+{
+    if t.kind == kind {
+        return text::same(token_text(text, t), s);
+    }
+    false
+}
+
+// `FormulaItem::is_inline`.
+pub fn is_inline(rows: &[u8], text: &[u8]) -> bool
+    requires { ⌜ SomeForest (now rows) (now text) 0 0 ⌝ }
+    ensures { λ r. ⌜ ((f : Forest) → Begins f (now (rows .entry)) (now (text .entry)) → r ≡ isInline f) ⌝ }
+{
+    let t = first_token(rows, text);
+    if is_token_of(text, t, TOKEN_DOLLAR, b"$") {
+        return true;
+    }
+    is_token_of(text, t, TOKEN_BEGIN_MATH, b"\\(")
+}
+
+// Whether the two ends are tokens of these kinds and texts.
+fn is_pair(text: &[u8], a: Token, k: u8, s: &[u8], b: Token, m: u8, e: &[u8]) -> bool
+    requires { ⌜ TokenInText (now text) a × TokenInText (now text) b ⌝ }
+    ensures { λ r. ⌜ ((f : Forest) → TokenIs (firstTokens f) (now (text .entry)) a → TokenIs (lastTokens f) (now (text .entry)) b → r ≡ isPair k (now (s .entry)) m (now (e .entry)) f) ⌝ }
+{
+    if is_token_of(text, a, k, s) {
+        return is_token_of(text, b, m, e);
+    }
+    false
+}
+
+// Whether both ends are `$`, or both `$$`.
+fn dollar_ends(text: &[u8], a: Token, b: Token) -> bool
+    requires { ⌜ TokenInText (now text) a × TokenInText (now text) b ⌝ }
+    ensures { λ r. ⌜ ((f : Forest) → TokenIs (firstTokens f) (now (text .entry)) a → TokenIs (lastTokens f) (now (text .entry)) b → r ≡ dollarEnds f) ⌝ }
+{
+    if is_pair(text, a, TOKEN_DOLLAR, b"$", b, TOKEN_DOLLAR, b"$") {
+        return true;
+    }
+    is_pair(text, a, TOKEN_DOLLAR, b"$$", b, TOKEN_DOLLAR, b"$$")
+}
+
+// Whether the ends are `\(` and `\)`, or `\[` and `\]`.
+fn math_ends(text: &[u8], a: Token, b: Token) -> bool
+    requires { ⌜ TokenInText (now text) a × TokenInText (now text) b ⌝ }
+    ensures { λ r. ⌜ ((f : Forest) → TokenIs (firstTokens f) (now (text .entry)) a → TokenIs (lastTokens f) (now (text .entry)) b → r ≡ mathEnds f) ⌝ }
+{
+    if is_pair(text, a, TOKEN_BEGIN_MATH, b"\\(", b, TOKEN_END_MATH, b"\\)") {
+        return true;
+    }
+    is_pair(text, a, TOKEN_BEGIN_MATH, b"\\[", b, TOKEN_END_MATH, b"\\]")
+}
+
+// `FormulaItem::is_valid`: whether the formula ends as it began.
+pub fn is_valid(rows: &[u8], text: &[u8]) -> bool
+    requires { ⌜ SomeForest (now rows) (now text) 0 0 ⌝ }
+    ensures { λ r. ⌜ ((f : Forest) → Begins f (now (rows .entry)) (now (text .entry)) → r ≡ isValid f) ⌝ }
+{
+    let a = first_token(rows, text);
+    let b = last_token(rows, text);
+    if dollar_ends(text, a, b) {
+        return true;
+    }
+    math_ends(text, a, b)
+}
+
+// ---- a text between two ends
+
+// The text without its first and its last byte; none of a shorter one.
+pub fn inner<'a>(s: &'a [u8]) -> &'a [u8]
+    ensures { λ r. ⌜ now r ≡ inner (now (s .entry)) ⌝ }
+{
+    if s.len() < 2 {
+        return &s[0..0];
+    }
+    let end = s.len() - 1;
+    &s[1..end]
+}
+
+// What stands between the ends of a text, trimmed: the label in `{eq:one}`.
+pub fn trimmed_inner<'a>(s: &'a [u8]) -> &'a [u8]
+    ensures { λ r. ⌜ now r ≡ trim (inner (now (s .entry))) ⌝ }
+{
+    utf8::trim(inner(s))
 }

@@ -1,0 +1,51 @@
+-- `is_inline`: one beginning, then the other.
+use Prim.Native.Nat.{_≤_}
+use lib.ListN.{length}
+use Rattle.text.specs.Ascii.{ascii}
+use Rattle.mitex_syntax.specs.Syntax.{TokenBeginMath}
+use Rattle.mitex_syntax.specs.Views.{firstTokens, isTokenOf}
+use Rattle.mitex_syntax.proofs.Deciding.{or-then, or-not}
+use borrow.Author.Needs.{needs}
+use Rattle.mitex_syntax.proofs.is_inline.Statement.{statement}
+use Rattle.mitex_syntax.proofs.is_inline.Tie as tie
+
+abbrev start : tie.After-first-token → tie.Start
+start c = c .before .before .before
+
+inside :
+    (c : tie.After-first-token)
+    → (c .first-token .result .from ≤ c .first-token .result .to) × (c .first-token .result .to ≤ length (start c .args .text .now))
+inside c = let pre = start c .pre in let is = c .first-token .ensures (pre .forest) (pre .begins) in (is .some, is .stop)
+
+first-token-requires : tie.Need-first-token-requires
+first-token-requires c κs = search needs
+
+slice-aggregate-is-token-of : tie.Need-slice-aggregate-is-token-of
+slice-aggregate-is-token-of c = search needs
+
+is-token-of-requires : tie.Need-is-token-of-requires
+is-token-of-requires c κs = inside (c .before)
+
+returns : tie.Need-returns
+returns c = λ f sp. or-then _ (isTokenOf TokenBeginMath (ascii "\\(") (firstTokens f)) (c .before .is-token-of .ensures (firstTokens f) (c .before .before .before .first-token .ensures f sp)) (c .if1 .taken)
+
+slice-aggregate-is-token-of-2 : tie.Need-slice-aggregate-is-token-of-2
+slice-aggregate-is-token-of-2 c = search needs
+
+is-token-of-requires-2 : tie.Need-is-token-of-requires-2
+is-token-of-requires-2 c κs = inside (c .before .before .before .before)
+
+returns-2 : tie.Need-returns-2
+returns-2 c = λ f sp. or-not _ _ (c .before .before .before .is-token-of .ensures (firstTokens f) (c .before .before .before .before .before .first-token .ensures f sp)) (c .before .before .if1 .left) (c .is-token-of2 .ensures (firstTokens f) (c .before .before .before .before .before .first-token .ensures f sp))
+
+pub is-inline-spec : {M : Type 1} → statement M
+is-inline-spec =
+    tie.close
+    (tie.spec
+    first-token-requires
+    slice-aggregate-is-token-of
+    is-token-of-requires
+    returns
+    slice-aggregate-is-token-of-2
+    is-token-of-requires-2
+    returns-2)

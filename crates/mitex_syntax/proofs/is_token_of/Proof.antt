@@ -1,0 +1,24 @@
+-- `is_token_of`: kind first, then text (`token-of-same`, `token-of-other`).
+use mathlib.Core.Path.{ap, _∙_}
+use mathlib.Core.List.{List}
+use Prim.Native.Nat.{ℕ}
+use Rattle.text.specs.Compare.{same}
+use Rattle.mitex_syntax.proofs.Tokens.{token-of-same, token-of-other}
+use borrow.Author.Needs.{needs}
+use Rattle.mitex_syntax.proofs.is_token_of.Statement.{statement}
+use Rattle.mitex_syntax.proofs.is_token_of.Tie as tie
+
+token-text-requires : tie.Need-token-text-requires
+token-text-requires c κs = search needs
+
+same-requires : tie.Need-same-requires
+same-requires c κs = search needs
+
+returns : tie.Need-returns
+returns c = λ o m. token-of-same m (c .before .before .before .before .before .before .args .kind) (c .before .before .before .before .before .before .args .s .now) (c .before .before .if1 .taken) (c .same .ensures ∙ ap (λ (l : List ℕ). same l (c .before .before .before .before .before .before .args .s .now)) (c .before .token-text .ensures))
+
+returns-2 : tie.Need-returns-2
+returns-2 c = λ o m. token-of-other m (c .before .before .before .before .args .kind) (c .before .before .before .before .args .s .now) (c .if1 .left)
+
+pub is-token-of-spec : {M : Type 1} → statement M
+is-token-of-spec = tie.close (tie.spec token-text-requires same-requires returns returns-2)

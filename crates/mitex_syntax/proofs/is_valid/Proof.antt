@@ -1,0 +1,50 @@
+-- `is_valid`: the ends of one sort, then those of the other.
+use Rattle.mitex_syntax.specs.Views.{mathEnds}
+use Rattle.mitex_syntax.specs.Places.{TokenInText}
+use Rattle.mitex_syntax.proofs.Deciding.{or-then, or-not}
+use borrow.Author.Needs.{needs}
+use Rattle.mitex_syntax.proofs.is_valid.Statement.{statement}
+use Rattle.mitex_syntax.proofs.is_valid.Tie as tie
+
+abbrev start : tie.After-last-token → tie.Start
+start c = c .before .before .before .before
+
+inside :
+    (c : tie.After-last-token)
+    → TokenInText (start c .args .text .now) (c .before .first-token .result) × TokenInText (start c .args .text .now) (c .last-token .result)
+inside c =
+    let pre = start c .pre in
+    let first = c .before .first-token .ensures (pre .forest) (pre .begins) in
+    let last = c .last-token .ensures (pre .forest) (pre .begins) in
+    ((first .some, first .stop), (last .some, last .stop))
+
+first-token-requires : tie.Need-first-token-requires
+first-token-requires c κs = search needs
+
+last-token-requires : tie.Need-last-token-requires
+last-token-requires c κs = search needs
+
+dollar-ends-requires : tie.Need-dollar-ends-requires
+dollar-ends-requires c κs = inside c
+
+returns : tie.Need-returns
+returns c = λ f sp. or-then _ (mathEnds f) (c .before .dollar-ends .ensures f (c .before .before .before .first-token .ensures f sp) (c .before .before .last-token .ensures f sp)) (c .if1 .taken)
+
+math-ends-requires : tie.Need-math-ends-requires
+math-ends-requires c κs = inside (c .before .before)
+
+returns-2 : tie.Need-returns-2
+returns-2 c =
+    λ f sp. or-not _ _ (c .before .before .dollar-ends .ensures f (c .before .before .before .before .first-token .ensures f sp) (c .before .before .before .last-token .ensures f sp)) (c .before .if1 .left)
+    (c .math-ends .ensures f (c .before .before .before .before .first-token .ensures f sp) (c .before .before .before .last-token .ensures f sp))
+
+pub is-valid-spec : {M : Type 1} → statement M
+is-valid-spec =
+    tie.close
+    (tie.spec
+    first-token-requires
+    last-token-requires
+    dollar-ends-requires
+    returns
+    math-ends-requires
+    returns-2)
