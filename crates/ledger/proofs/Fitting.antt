@@ -10,7 +10,7 @@ use lib.ListN.{length, drop}
 use lib.Seq.{drop-drop}
 use lib.Dec.{leb, eqb}
 use Rattle.text.specs.Numbers.{fourAt}
-use Rattle.ledger.specs.Ledger.{rowSize, HasRow, RowFits, rowAt, decodeRow, rowFits, rowsFit, fits}
+use Rattle.ledger.specs.Ledger.{rowSize, HasRow, RowFits, rowAt, decodeRow, rowFits, rowsFit, fits, Movable}
 
 -- ---- from row to row
 
@@ -115,6 +115,16 @@ rowsFit-says (suc n) at kept l e (suc i) h =
       below = rw (later i l) (s .below);
     }
 
+rowsFit-rise : (n at kept : ℕ) (l : List ℕ) → rowsFit n at kept l ≡ true → (i j : ℕ) → i ≤ j → j < n → (rowAt i l) .end ≤ (rowAt j l) .end
+unfolding decodeRow
+rowsFit-rise zero at kept l e i j h k = absurd (omega arith)
+rowsFit-rise (suc n) at kept l e zero zero h k = omega arith
+rowsFit-rise (suc n) at kept l e zero (suc j) h k =
+    rw (later j l) (rowsFit-says n (fourAt 0 l) kept (drop rowSize l) (rest-fits n at kept l e) j (omega arith) .above)
+rowsFit-rise (suc n) at kept l e (suc i) zero h k = absurd (omega arith)
+rowsFit-rise (suc n) at kept l e (suc i) (suc j) h k =
+    rw (later i l, later j l) (rowsFit-rise n (fourAt 0 l) kept (drop rowSize l) (rest-fits n at kept l e) i j (omega arith) (omega arith))
+
 module _ (n kept : ℕ) (l : List ℕ) (e : fits n kept l ≡ true) where
   pub fits-long : rowSize * n ≤ length l
   unfolding fits
@@ -129,3 +139,10 @@ module _ (n kept : ℕ) (l : List ℕ) (e : fits n kept l ≡ true) where
 
   pub fits-end : (i : ℕ) → i < n → (rowAt i l) .end ≤ kept
   fits-end i h = rowsFit-says n 0 kept l rows-fit i h .below
+
+  pub fits-rise : (i j : ℕ) → i ≤ j → j < n → (rowAt i l) .end ≤ (rowAt j l) .end
+  fits-rise i j h k = rowsFit-rise n 0 kept l rows-fit i j h k
+
+  -- rows behind the place `old` can be moved as far as the whole text can
+  pub fits-movable : (old new j : ℕ) → j < n → old ≤ (rowAt j l) .end → new + (kept - old) < 4294967296 → Movable j old new l
+  fits-movable old new j h b s = record { behind = b; small = omega (arith, fits-end j h) }

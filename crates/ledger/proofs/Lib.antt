@@ -3,3 +3,5 @@ pub mod Rows
 pub mod Reading
 pub mod Carrying
 pub mod Fitting
+pub mod Writing
+pub mod Moving

@@ -9,7 +9,7 @@
 use mathlib.Core.Path.{_≡_}
 use mathlib.Core.Bool.{Bool, true, false, _&&_, _||_, Bool·beq}
 use mathlib.Core.List.{List, [], _∷_, _++_}
-use Prim.Native.Nat.{ℕ, zero, suc, _+_, _*_, _-_, _≤_}
+use Prim.Native.Nat.{ℕ, zero, suc, _+_, _*_, _-_, _≤_, _<_}
 use lib.ListN.{length, take, drop, getD, replicate}
 use lib.Dec.{leb, eqb}
 use Rattle.text.specs.Numbers.{four, fourAt}
@@ -119,6 +119,11 @@ fits n kept l = leb (rowSize * n) (length l) && rowsFit n 0 kept l
 -- the first row, its text moved from the place `old` to `new`: only the length changes
 unfoldable pub moveRow : ℕ → ℕ → List ℕ → List ℕ
 moveRow old new l = four (new + (fourAt 0 l - old)) (take (rowSize - 4) (drop 4 l))
+
+-- the row with number i, where its text begins at `old` or behind and its length stays a number of four bytes
+pub record Movable (i old new : ℕ) (l : List ℕ) : Type 0 where
+  pub behind : old ≤ (rowAt i l) .end
+  pub small : new + ((rowAt i l) .end - old) < 4294967296
 
 abbrev pub moveRows : ℕ → ℕ → ℕ → List ℕ → List ℕ
 moveRows zero old new l = []

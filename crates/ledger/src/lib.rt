@@ -1,18 +1,21 @@
 // The ledger: a row of 128 bytes for each block, read and written. specs/Ledger.antt has the layout.
 use mitex_state::Converter;
 use mitex_state::LABEL_MOST;
+use text::put;
 use text::read_u32;
 use text::same;
 use text::wide;
+use text::write_u32;
 ghost use mathlib.Core.Path.{_≡_};
-ghost use mathlib.Core.Bool.{true};
-ghost use Prim.Native.Nat.{_+_, _*_, _≤_, _<_};
+ghost use mathlib.Core.Bool.{true, cond};
+ghost use mathlib.Core.List.{[], _∷_, _++_};
+ghost use Prim.Native.Nat.{ℕ, _+_, _-_, _*_, _≤_, _<_};
 ghost use lib.ListN.{length, take, drop, replicate};
 ghost use lib.Seq.{sets};
 ghost use Rattle.text.specs.Compare.{same};
 ghost use Rattle.mitex_state.specs.Outcome.{labelMost};
 ghost use Rattle.mitex_state.specs.State.{carryOf, Carried};
-ghost use Rattle.ledger.specs.Ledger.{rowSize, isHeld, labelBytes, HasRow, RowFits, rowAt, allZero, marksFit, rowFits, fits, sameLabel, sameCarry};
+ghost use Rattle.ledger.specs.Ledger.{rowSize, mark, isHeld, labelBytes, encodeRow, HasRow, RowFits, rowAt, allZero, marksFit, rowFits, fits, Movable, moveRow, moveRows, sameLabel, sameCarry};
 
 // The bytes of a row.
 pub const ROW_SIZE: usize = 8 + LABEL_MOST;
@@ -175,4 +178,100 @@ pub fn ledger_fits(ledger: &[u8], blocks: usize, kept: usize) -> bool
         i += 1;
     }
     end == kept
+}
+
+// ---- writing
+
+// A mark.
+fn mark_of(b: bool) -> u8
+    ensures { λ r. ⌜ r ≡ mark b ⌝ }
+{
+    if b {
+        return 1;
+    }
+    0
+}
+
+// How many label bytes count: none while no label is held.
+fn held_len(held: bool, len: usize) -> usize
+    ensures { λ r. ⌜ (r ≡ cond held len 0) × (r ≤ len) ⌝ }
+{
+    if held {
+        return len;
+    }
+    0
+}
+
+// All bytes zero.
+pub fn clear(out: &mut [u8])
+    ensures { λ _. ⌜ now (out .exit) ≡ replicate (length (now (out .entry))) 0 ⌝ }
+{
+    let mut i = 0;
+    while i < out.len() {
+        out[i] = 0;
+        i += 1;
+    }
+}
+
+// The label's bytes that count, padded with zeros.
+fn fill_label(out: &mut [u8], converter: Converter, len: usize)
+    requires { ⌜ (length (now out) ≡ labelMost) × (len ≤ labelMost) ⌝ }
+    ensures { λ _. ⌜ now (out .exit) ≡ take len (converter .label) ++ replicate (labelMost - len) 0 ⌝ }
+{
+    let label = converter.label;
+    put(out, 0, &label[..len]);
+    clear(&mut out[len..]);
+}
+
+// Bytes 4 to 7: the two marks, the label's length, zero.
+fn write_marks(row: &mut [u8], flag: bool, held: bool, len: usize)
+    requires { ⌜ (length (now row) ≡ rowSize) × (len ≤ labelMost) ⌝ }
+    ensures { λ _. ⌜ now (row .exit) ≡ sets (now (row .entry)) 4 (mark flag ∷ mark held ∷ len ∷ 0 ∷ []) ⌝ }
+{
+    row[4] = mark_of(flag);
+    row[5] = mark_of(held);
+    row[6] = len as u8;
+    row[7] = 0;
+}
+
+// A whole row: the text's length and the converter's carry.
+fn fill_row(row: &mut [u8], end: usize, converter: Converter)
+    requires { ⌜ (length (now row) ≡ rowSize) × (end < 4294967296) × (converter .«label_len» ≤ labelMost) ⌝ }
+    ensures { λ _. ⌜ now (row .exit) ≡ encodeRow (record { end = end; carry = carryOf converter }) ⌝ }
+{
+    let len = held_len(converter.label_held, converter.label_len);
+    write_u32(row, 0, end);
+    write_marks(row, converter.skip_next_space, converter.label_held, len);
+    fill_label(&mut row[8..], converter, len);
+}
+
+// Row `i`: the text's length after the block, and the converter's carry.
+pub fn write_row(ledger: &mut [u8], i: usize, end: usize, converter: Converter)
+    requires { ⌜ HasRow i (now ledger) × (end < 4294967296) × (converter .«label_len» ≤ labelMost) ⌝ }
+    ensures { λ _. ⌜ now (ledger .exit) ≡ sets (now (ledger .entry)) (rowSize * i) (encodeRow (record { end = end; carry = carryOf converter })) ⌝ }
+{
+    let at = ROW_SIZE * i;
+    let to = at + ROW_SIZE;
+    fill_row(&mut ledger[at..to], end, converter);
+}
+
+// The length of row `i`, its text moved from the place `old` to `new`.
+pub fn move_row(ledger: &mut [u8], i: usize, old: usize, new: usize)
+    requires { ⌜ HasRow i (now ledger) × Movable i old new (now ledger) ⌝ }
+    ensures { λ _. ⌜ now (ledger .exit) ≡ sets (now (ledger .entry)) (rowSize * i) (moveRow old new (drop (rowSize * i) (now (ledger .entry)))) ⌝ }
+{
+    let end = row_end(ledger, i);
+    write_u32(ledger, ROW_SIZE * i, new + (end - old));
+}
+
+// The lengths of the rows from `from` on up to `to`, their text moved from the place `old` to `new`.
+pub fn move_rows(ledger: &mut [u8], from: usize, to: usize, old: usize, new: usize)
+    requires { ⌜ (from ≤ to) × (rowSize * to ≤ length (now ledger)) × ((j : ℕ) → from ≤ j → j < to → Movable j old new (now ledger)) ⌝ }
+    ensures { λ _. ⌜ now (ledger .exit) ≡ sets (now (ledger .entry)) (rowSize * from) (moveRows (to - from) old new (drop (rowSize * from) (now (ledger .entry)))) ⌝ }
+{
+    let mut i = from;
+    while i < to {
+        move_row(ledger, i, old, new);
+        i += 1;
+    }
 }
