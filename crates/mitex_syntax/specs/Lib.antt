@@ -4,3 +4,4 @@ pub mod Rows
 pub mod Views
 pub mod Spells
 pub mod Places
+pub mod Examples

@@ -15,10 +15,14 @@ same-requires : tie.Need-same-requires
 same-requires c κs = search needs
 
 returns : tie.Need-returns
-returns c = λ o m. token-of-same m (c .before .before .before .before .before .before .args .kind) (c .before .before .before .before .before .before .args .s .now) (c .before .before .if1 .taken) (c .same .ensures ∙ ap (λ (l : List ℕ). same l (c .before .before .before .before .before .before .args .s .now)) (c .before .token-text .ensures))
+returns c =
+    let then = c .before .before in
+    let args = then .before .before .before .before .args in
+    λ o m. token-of-same m (args .kind) (args .s .now) (then .if1 .taken)
+    (c .same .ensures ∙ ap (λ (l : List ℕ). same l (args .s .now)) (c .before .token-text .ensures))
 
 returns-2 : tie.Need-returns-2
-returns-2 c = λ o m. token-of-other m (c .before .before .before .before .args .kind) (c .before .before .before .before .args .s .now) (c .if1 .left)
+returns-2 c = let args = c .before .before .before .before .args in λ o m. token-of-other m (args .kind) (args .s .now) (c .if1 .left)
 
 pub is-token-of-spec : {M : Type 1} → statement M
 is-token-of-spec = tie.close (tie.spec token-text-requires same-requires returns returns-2)
