@@ -11,16 +11,22 @@ use lib.Seq.{drop-at, drop-drop, take-add, length-take-le}
 use Rattle.text.specs.Writing.{cap}
 use Rattle.mitex_syntax.specs.Tree.{Tree, Forest}
 use Rattle.mitex_syntax.specs.Views.{firstBy, childrenOf, childrenIn, textIn}
-use Rattle.mitex_syntax.specs.Spells.{Begins, SomeForest}
+use Rattle.mitex_syntax.specs.Spells.{Spells, Begins, SomeForest}
 use Rattle.mitex_syntax.specs.Places.{Stands, Placed, partAt, InText}
 use Rattle.mitex_syntax.specs.Places.Placed.{missing, there}
 use Rattle.mitex_syntax.specs.declared.Place.{Place}
 use Rattle.mitex_syntax.specs.declared.Place.the-variants.{Nowhere, At}
-use Rattle.mitex_syntax.proofs.Trees.{children-begin}
+use Rattle.mitex_syntax.proofs.Trees.{children-begin, children-part}
 
 -- what a view asks of children that are spelt
 pub some-forest : {f : Forest} {rows text : List ℕ} → Begins f rows text → length rows < cap → length text < cap → SomeForest rows text 0 0
 some-forest {f} sp few short = record { few = few; short = short; low = omega arith; begun = omega arith; forest = f; begins = sp }
+
+-- and of the children of an element, from its second row on
+pub some-children :
+    (t : Tree) {rows text : List ℕ} → Spells t rows text → length rows < cap → length text < cap
+    → SomeForest (take (length rows - 8) (drop 8 rows)) text 0 0
+some-children t sp few short = some-forest (children-part t sp) (simp (length-take, length-drop) (omega arith)) short
 
 module _ {p : Tree → Bool} {f : Forest} {rows text : List ℕ} {i : ℕ} where
   -- a place that was found, taken apart

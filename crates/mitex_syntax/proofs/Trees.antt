@@ -7,7 +7,7 @@ use Prim.Native.Nat.{ℕ, _+_, _*_, _-_, _/_, _%_, _≤_, _<_}
 use native.Mathlib.Omega.{arith}
 use lib.Dec.{T, leb}
 use lib.ListN.{length, take, drop, getD, length-append, length-drop}
-use lib.Seq.{take-at, drop-at, drop-drop, getD-drop, getD-take, length-take-le}
+use lib.Seq.{take-at, drop-at, drop-drop, getD-drop, getD-take, length-take-le, take-all}
 use Rattle.text.specs.Writing.{cap}
 use Rattle.utf8.specs.Utf8.{valid}
 use Rattle.mitex_syntax.specs.Syntax.{isToken, isNode}
@@ -16,7 +16,7 @@ use Rattle.mitex_syntax.specs.Tree.Tree.{token, node}
 use Rattle.mitex_syntax.specs.Tree.Forest.{none, more}
 use Rattle.mitex_syntax.specs.Rows.{extentOf, tokenSum, Spans}
 use Rattle.mitex_syntax.specs.Views.{childrenOf}
-use Rattle.mitex_syntax.specs.Spells.{Sound, Spells, SpellsAll, Begins, SomeTree, SomeNode}
+use Rattle.mitex_syntax.specs.Spells.{Sound, Sounds, Spells, SpellsAll, Begins, SomeTree, SomeNode}
 use Rattle.mitex_syntax.proofs.Reading.{tokenSum-nil}
 
 -- ---- the rows of a tree
@@ -119,6 +119,27 @@ pub children-begin : (t : Tree) {rows text : List ℕ} → Spells t rows text �
 unfolding rowsOf textOf Sound
 children-begin (token k s) {rows} {text} sp = record { rows-are = ap (drop 8) (sp .rows-are); rest = text; text-is = refl; sound = tt }
 children-begin (node k f) sp = all-begins (under sp)
+
+-- the same of the part that code takes from the second row on
+past-eight : (rows : List ℕ) → take (length rows - 8) (drop 8 rows) ≡ drop 8 rows
+past-eight rows = take-all (length rows - 8) (drop 8 rows) (simp length-drop (omega arith))
+
+pub under-part : {k : ℕ} {f : Forest} {rows text : List ℕ} → Spells (node k f) rows text → SpellsAll f (take (length rows - 8) (drop 8 rows)) text
+under-part {k} {f} {rows} {text} sp = subst (λ (R : List ℕ). SpellsAll f R text) (sym (past-eight rows)) (under sp)
+
+pub children-part : (t : Tree) {rows text : List ℕ} → Spells t rows text → Begins (childrenOf t) (take (length rows - 8) (drop 8 rows)) text
+children-part t {rows} {text} sp = subst (λ (R : List ℕ). Begins (childrenOf t) R text) (sym (past-eight rows)) (children-begin t sp)
+
+-- ---- soundness goes down
+
+pub sound-children : (t : Tree) → Sound t → Sounds (childrenOf t)
+unfolding Sound
+sound-children (token k s) h = tt
+sound-children (node k f) h = h .1
+
+pub sounds-more : (t : Tree) (f : Forest) → Sounds (more t f) → Sound t × Sounds f
+unfolding Sound
+sounds-more t f h = h
 
 -- ---- the first element of a forest
 

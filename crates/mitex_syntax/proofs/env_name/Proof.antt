@@ -73,11 +73,16 @@ first-token-requires : tie.Need-first-token-requires
 first-token-requires c κs = let pre = start (c .before .before .before) .pre in found-some (here (c .before .before .before)) (pre .few) (pre .short)
 
 token-text-requires : tie.Need-token-text-requires
-token-text-requires c κs = let s = here (c .before .before .before .before) in let is = c .first-token .ensures (childrenOf (s .tree)) (found-children s) in (is .some, is .stop)
+token-text-requires c κs =
+    let s = here (c .before .before .before .before) in
+    let is = c .first-token .ensures (childrenOf (s .tree)) (found-children s) in
+    (is .some, is .stop)
 
 returns : tie.Need-returns
 unfolding firstToken
-returns c = let b = c .before .before .before .begin in λ f sp. ap (λ (o : Option Tree). textIn (firstTokens (childrenIn o))) (sym (nowhere (b .ensures f sp) (c .before .enum-told .given .1)))
+returns c =
+    let told = c .before in
+    λ f sp. ap (λ (o : Option Tree). textIn (firstTokens (childrenIn o))) (sym (nowhere (told .before .before .begin .ensures f sp) (told .enum-told .given .1)))
 
 returns-2 : tie.Need-returns-2
 returns-2 c =

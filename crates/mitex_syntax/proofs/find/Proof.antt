@@ -14,7 +14,9 @@ use Rattle.mitex_syntax.proofs.find.Statement.{statement}
 use Rattle.mitex_syntax.proofs.find.Tie as tie
 
 abbrev Inv-loop : tie.InvT-loop
-Inv-loop rows text wanted i₀ j₀ i j = (i ≤ length rows) × (j ≤ length text) × ((f : Forest) → Begins f (drop i₀ rows) (drop j₀ text) → Seeks (picks wanted) f rows text i₀ i j)
+Inv-loop rows text wanted i₀ j₀ i j =
+    (i ≤ length rows) × (j ≤ length text)
+    × ((f : Forest) → Begins f (drop i₀ rows) (drop j₀ text) → Seeks (picks wanted) f rows text i₀ i j)
 
 abbrev μ-loop : tie.MeasureT-loop
 μ-loop rows text wanted i₀ j₀ i j = length rows - i

@@ -71,8 +71,10 @@ loop-again c =
     let e = c .before in
     let n = e .before .before in
     let l = n .before in
-    let inv = l .before .loop .inv in
-    (let z = inv .0 in simp (length-take, length-drop) (omega arith), λ f sp. first-into (inv .1 f sp) (l .loop-test .taken) (inv .0) (start l .pre .short) _ (n .number .ensures .0) (e .if1 .left) .1)
+    let inv = l .before .loop .inv in (
+      let z = inv .0 in simp (length-take, length-drop) (omega arith),
+      λ f sp. first-into (inv .1 f sp) (l .loop-test .taken) (inv .0) (start l .pre .short) _ (n .number .ensures .0) (e .if1 .left) .1,
+    )
 
 returns-2 : tie.Need-returns-2 Inv-loop μ-loop
 returns-2 c = λ f sp. no-token (first-none (c .before .loop .inv .1 f sp) (c .loop-test .left)) refl refl refl

@@ -24,10 +24,15 @@ part-first-node-kind-end : tie.Need-part-first-node-kind-end
 part-first-node-kind-end c = search needs
 
 first-node-kind-requires : tie.Need-first-node-kind-requires
-first-node-kind-requires c κs = let pre = c .before .before .before .before .pre in record { forest = childrenOf (pre .tree); rows-are = children-rows (pre .tree) _ (pre .rows-are) }
+first-node-kind-requires c κs =
+    let pre = c .before .before .before .before .pre in
+    record { forest = childrenOf (pre .tree); rows-are = children-rows (pre .tree) _ (pre .rows-are) }
 
 returns : tie.Need-returns
-returns c = λ t e. wanted-argument t _ e (c .before .before .before .before .before .args .kind) _ (c .before .before .if1 .taken) (c .first-node-kind .ensures (childrenOf t) (children-rows t _ e))
+returns c =
+    let then = c .before .before in
+    let args = then .before .before .before .args in
+    λ t e. wanted-argument t _ e (args .kind) _ (then .if1 .taken) (c .first-node-kind .ensures (childrenOf t) (children-rows t _ e))
 
 returns-2 : tie.Need-returns-2
 returns-2 c = λ t e. wanted-other t _ e (c .before .before .before .args .kind) (c .if1 .left)

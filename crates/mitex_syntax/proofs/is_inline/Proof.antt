@@ -27,7 +27,11 @@ is-token-of-requires : tie.Need-is-token-of-requires
 is-token-of-requires c κs = inside (c .before)
 
 returns : tie.Need-returns
-returns c = λ f sp. or-then _ (isTokenOf TokenBeginMath (ascii "\\(") (firstTokens f)) (c .before .is-token-of .ensures (firstTokens f) (c .before .before .before .first-token .ensures f sp)) (c .if1 .taken)
+returns c =
+    let test = c .before in
+    let first = test .before .before .first-token in
+    λ f sp. or-then _ (isTokenOf TokenBeginMath (ascii "\\(") (firstTokens f)) (test .is-token-of .ensures (firstTokens f) (first .ensures f sp))
+    (c .if1 .taken)
 
 slice-aggregate-is-token-of-2 : tie.Need-slice-aggregate-is-token-of-2
 slice-aggregate-is-token-of-2 c = search needs
@@ -36,7 +40,12 @@ is-token-of-requires-2 : tie.Need-is-token-of-requires-2
 is-token-of-requires-2 c κs = inside (c .before .before .before .before)
 
 returns-2 : tie.Need-returns-2
-returns-2 c = λ f sp. or-not _ _ (c .before .before .before .is-token-of .ensures (firstTokens f) (c .before .before .before .before .before .first-token .ensures f sp)) (c .before .before .if1 .left) (c .is-token-of2 .ensures (firstTokens f) (c .before .before .before .before .before .first-token .ensures f sp))
+returns-2 c =
+    let else = c .before .before in
+    let test = else .before in
+    let first = test .before .before .first-token in
+    λ f sp. or-not _ _ (test .is-token-of .ensures (firstTokens f) (first .ensures f sp)) (else .if1 .left)
+    (c .is-token-of2 .ensures (firstTokens f) (first .ensures f sp))
 
 pub is-inline-spec : {M : Type 1} → statement M
 is-inline-spec =

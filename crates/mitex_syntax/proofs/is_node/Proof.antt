@@ -19,7 +19,11 @@ returns-3 : tie.Need-returns-3
 returns-3 c = token-not-node (c .before .before .before .before .args .k) (c .before .before .before .if1 .left) _ (c .before .is-token .ensures) (c .if3 .taken)
 
 returns-4 : tie.Need-returns-4
-returns-4 c = other-node (c .before .before .before .before .args .k) (c .before .before .before .if1 .left) _ (c .before .is-token .ensures) (c .if3 .left) (c .before .before .if2 .left)
+returns-4 c =
+    let b = c .before in
+    let c₂ = b .before in
+    let c₁ = c₂ .before in
+    other-node (c₁ .before .args .k) (c₁ .if1 .left) _ (b .is-token .ensures) (c .if3 .left) (c₂ .if2 .left)
 
 pub is-node-spec : {M : Type 1} → statement M
 is-node-spec = tie.close (tie.spec returns returns-2 is-token-requires returns-3 returns-4)

@@ -12,10 +12,16 @@ is-token-of-requires-2 : tie.Need-is-token-of-requires-2
 is-token-of-requires-2 c κs = search needs
 
 returns : tie.Need-returns
-returns c = λ f first last. and-then _ _ (c .before .before .is-token-of .ensures (firstTokens f) first) (c .before .if1 .taken) (c .is-token-of2 .ensures (lastTokens f) last)
+returns c =
+    let then = c .before in
+    λ f first last. and-then _ _ (then .before .is-token-of .ensures (firstTokens f) first) (then .if1 .taken)
+    (c .is-token-of2 .ensures (lastTokens f) last)
 
 returns-2 : tie.Need-returns-2
-returns-2 c = λ f first last. and-not _ (isTokenOf (c .before .before .before .before .before .args .m) (c .before .before .before .before .before .args .e .now) (lastTokens f)) (c .before .is-token-of .ensures (firstTokens f) first) (c .if1 .left)
+returns-2 c =
+    let test = c .before in
+    let args = test .before .before .before .before .args in
+    λ f first last. and-not _ (isTokenOf (args .m) (args .e .now) (lastTokens f)) (test .is-token-of .ensures (firstTokens f) first) (c .if1 .left)
 
 pub is-pair-spec : {M : Type 1} → statement M
 is-pair-spec = tie.close (tie.spec is-token-of-requires is-token-of-requires-2 returns returns-2)

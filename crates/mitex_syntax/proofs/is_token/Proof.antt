@@ -18,7 +18,11 @@ returns-4 : tie.Need-returns-4
 returns-4 c = ap isToken (sym (c .if4 .taken))
 
 returns-5 : tie.Need-returns-5
-returns-5 c = high-token (c .before .before .before .before .args .k) (c .before .before .before .if1 .left) (c .before .before .if2 .left) (c .before .if3 .left) (c .if4 .left)
+returns-5 c =
+    let c₃ = c .before in
+    let c₂ = c₃ .before in
+    let c₁ = c₂ .before in
+    high-token (c₁ .before .args .k) (c₁ .if1 .left) (c₂ .if2 .left) (c₃ .if3 .left) (c .if4 .left)
 
 pub is-token-spec : {M : Type 1} → statement M
 is-token-spec = tie.close (tie.spec returns returns-2 returns-3 returns-4 returns-5)

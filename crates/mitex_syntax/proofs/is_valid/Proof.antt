@@ -28,15 +28,23 @@ dollar-ends-requires : tie.Need-dollar-ends-requires
 dollar-ends-requires c κs = inside c
 
 returns : tie.Need-returns
-returns c = λ f sp. or-then _ (mathEnds f) (c .before .dollar-ends .ensures f (c .before .before .before .first-token .ensures f sp) (c .before .before .last-token .ensures f sp)) (c .if1 .taken)
+returns c =
+    let test = c .before in
+    let last = test .before in
+    λ f sp. or-then _ (mathEnds f) (test .dollar-ends .ensures f (last .before .first-token .ensures f sp) (last .last-token .ensures f sp))
+    (c .if1 .taken)
 
 math-ends-requires : tie.Need-math-ends-requires
 math-ends-requires c κs = inside (c .before .before)
 
 returns-2 : tie.Need-returns-2
 returns-2 c =
-    λ f sp. or-not _ _ (c .before .before .dollar-ends .ensures f (c .before .before .before .before .first-token .ensures f sp) (c .before .before .before .last-token .ensures f sp)) (c .before .if1 .left)
-    (c .math-ends .ensures f (c .before .before .before .before .first-token .ensures f sp) (c .before .before .before .last-token .ensures f sp))
+    let else = c .before in
+    let test = else .before in
+    let last = test .before in
+    λ f sp. let a = last .before .first-token .ensures f sp in
+    let b = last .last-token .ensures f sp in
+    or-not _ _ (test .dollar-ends .ensures f a b) (else .if1 .left) (c .math-ends .ensures f a b)
 
 pub is-valid-spec : {M : Type 1} → statement M
 is-valid-spec =

@@ -67,22 +67,26 @@ number-requires c κs = omega (arith, eight (c .before .before .before .before))
 
 add-t16 : tie.Need-add-t16 Inv-loop μ-loop
 add-t16 c =
-    let l = c .before .before .before .before .before in
+    let then = c .before .before in
+    let alone = then .before .before in
+    let l = alone .before in
     let pre = start l .pre in
     let inv = l .before .loop .inv in
     omega (
       arith,
-      last-found (inv .2 (pre .forest) (pre .begins)) (l .loop-test .taken) (inv .1) (pre .few) (pre .short) (c .before .before .before .before .if1 .taken) _ (c .number .ensures .0)
-          (c .before .before .if2 .taken) .0,
+      last-found (inv .2 (pre .forest) (pre .begins)) (l .loop-test .taken) (inv .1) (pre .few) (pre .short) (alone .if1 .taken) _
+          (c .number .ensures .0) (then .if2 .taken) .0,
     )
 
 returns : tie.Need-returns Inv-loop μ-loop
 returns c =
-    let l = c .before .before .before .before .before in
+    let then = c .before .before in
+    let alone = then .before .before in
+    let l = alone .before in
     let pre = start l .pre in
     let inv = l .before .loop .inv in
-    λ f sp. last-found (inv .2 f sp) (l .loop-test .taken) (inv .1) (pre .few) (pre .short) (c .before .before .before .before .if1 .taken) _ (c .number .ensures .0) (c .before .before .if2 .taken) .1 _ refl refl
-    refl
+    λ f sp. last-found (inv .2 f sp) (l .loop-test .taken) (inv .1) (pre .few) (pre .short) (alone .if1 .taken) _ (c .number .ensures .0)
+    (then .if2 .taken) .1 _ refl refl refl
 
 returns-2 : tie.Need-returns-2 Inv-loop μ-loop
 returns-2 c =

@@ -29,7 +29,9 @@ is-pair-requires-2 : tie.Need-is-pair-requires-2
 is-pair-requires-2 c κs = search needs
 
 returns-2 : tie.Need-returns-2
-returns-2 c = λ f first last. or-not _ _ (c .before .before .before .before .is-pair .ensures f first last) (c .before .before .before .if1 .left) (c .is-pair2 .ensures f first last)
+returns-2 c =
+    let else = c .before .before .before in
+    λ f first last. or-not _ _ (else .before .is-pair .ensures f first last) (else .if1 .left) (c .is-pair2 .ensures f first last)
 
 pub math-ends-spec : {M : Type 1} → statement M
 math-ends-spec =
