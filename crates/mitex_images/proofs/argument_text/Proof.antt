@@ -1,0 +1,38 @@
+-- `argument_text`: the text at the place of the argument (`place-text`), or none.
+use mathlib.Core.Path.{ap, _∙_}
+use borrow.Author.Needs.{needs}
+use Rattle.utf8.specs.Trim.{trim}
+use Rattle.mitex_syntax.specs.Views.{inner, argumentWith}
+use Rattle.mitex_syntax.proofs.Places.{place-text, place-inside}
+use Rattle.mitex_images.proofs.Splitting.{inner-text}
+use Rattle.mitex_images.proofs.argument_text.Statement.{statement}
+use Rattle.mitex_images.proofs.argument_text.Tie as tie
+
+argument-with-requires : tie.Need-argument-with-requires
+argument-with-requires c κs = search needs
+
+text-at-requires : tie.Need-text-at-requires
+text-at-requires c κs =
+    let pre = c .before .before .before .pre in place-inside (c .argument-with .ensures (pre .forest) (pre .begins))
+
+inner-requires : tie.Need-inner-requires
+inner-requires c κs = search needs
+
+trim-requires : tie.Need-trim-requires
+trim-requires c κs = search needs
+
+returns : tie.Need-returns
+returns c =
+    let at = c .before in
+    let found = at .before .before in
+    let kind = found .before .before .before .args .kind in
+    λ f sp.
+    c .trim .ensures
+    ∙ ap trim (at .inner .ensures)
+    ∙ ap (λ s. trim (inner s)) (at .before .text-at .ensures ∙ place-text (found .argument-with .ensures f sp))
+    ∙ inner-text (argumentWith kind f)
+
+pub argument-text-spec : {M : Type 1} → statement M
+argument-text-spec =
+    tie.close
+    (tie.spec argument-with-requires text-at-requires inner-requires trim-requires returns)

@@ -1,0 +1,43 @@
+-- `is_size`: the one key, or else the other.
+use mathlib.Core.Path.{sym, ap, _∙_}
+use mathlib.Core.Bool.{_||_}
+use borrow.Author.Needs.{needs}
+use Rattle.text.specs.Ascii.{ascii}
+use Rattle.text.specs.Compare.{same}
+use Rattle.mitex_images.proofs.is_size.Statement.{statement}
+use Rattle.mitex_images.proofs.is_size.Tie as tie
+
+slice-aggregate-same : tie.Need-slice-aggregate-same
+slice-aggregate-same c = search needs
+
+same-requires : tie.Need-same-requires
+same-requires c κs = search needs
+
+returns : tie.Need-returns
+returns c =
+    let at = c .before in
+    let key = at .before .before .before .args .key .now in ap (λ t. t || same key (ascii "height")) (sym (c .if1 .taken) ∙ at .same .ensures)
+
+slice-aggregate-same-2 : tie.Need-slice-aggregate-same-2
+slice-aggregate-same-2 c = search needs
+
+same-requires-2 : tie.Need-same-requires-2
+same-requires-2 c κs = search needs
+
+returns-2 : tie.Need-returns-2
+returns-2 c =
+    let other = c .before .before in
+    let at = other .before in
+    let key = at .before .before .before .args .key .now in
+    c .same2 .ensures ∙ ap (λ t. t || same key (ascii "height")) (sym (other .if1 .left) ∙ at .same .ensures)
+
+pub is-size-spec : {M : Type 1} → statement M
+is-size-spec =
+    tie.close
+    (tie.spec
+    slice-aggregate-same
+    same-requires
+    returns
+    slice-aggregate-same-2
+    same-requires-2
+    returns-2)
