@@ -1,6 +1,6 @@
 -- What the check leaves in the index are the offsets of the names (`checked-fit`), so that look-ups can be asked
 -- (`checked-ready`).
-use mathlib.Core.Path.{_≡_, refl, sym, ap, _∙_}
+use mathlib.Core.Path.{_≡_, refl, sym, ap, subst, _∙_}
 use mathlib.Core.Bool.{Bool, true, false, true≢false}
 use mathlib.Core.Option.{Option}
 use mathlib.Core.Option.Option.{none, some}
@@ -12,7 +12,7 @@ use lib.Seq.{sets, sets-eq, take-append-seam}
 use Rattle.text.specs.Numbers.{Bytes}
 use Rattle.mitex_spec.specs.Rules.{Rule}
 use Rattle.mitex_spec.specs.RuleFile.{noAlias, startOf, countOf, rulesIn, rising, rulesOf, ruleText, textOfRules, rowsOfRules}
-use Rattle.mitex_spec.specs.Index.{offsetsFrom, startsFrom, accepted, indexed, Ready}
+use Rattle.mitex_spec.specs.Index.{offsetsFrom, startsFrom, accepted, indexed, Checked, Ready, SomeRules}
 use Rattle.mitex_spec.proofs.RuleFile.{ruleRow-reads, Whole, rowsIn, rules-whole, rules-broken, rows-long, file-rules}
 
 pub length-offsets : (rs : List Rule) (at : ℕ) → length (offsetsFrom at rs) ≡ length rs
@@ -33,11 +33,8 @@ starts-offsets (r ∷ rs) at h =
 
 -- ---- what the check answers
 
-abbrev Checked : List ℕ → List ℕ → Bool → List ℕ → Type 0
-Checked file index ok index′ = (ok ≡ accepted (rulesOf file)) × (index′ ≡ indexed (rulesOf file) index)
-
 refused : (file index : List ℕ) → rulesOf file ≡ none → Checked file index false index
-refused file index e = (sym (ap accepted e), sym (ap (λ o. indexed o index) e))
+refused file index e = record { answer = sym (ap accepted e); fills = sym (ap (λ o. indexed o index) e) }
 
 pub checked-broken : (file index : List ℕ) → (Whole file → ⊥) → Checked file index false index
 checked-broken file index h = refused file index (rules-broken file h)
@@ -85,14 +82,16 @@ module _ (file : List ℕ) (w : Whole file) (start : ℕ) (e : start ≡ startOf
       let d = file-rules file (s .0) by (s .1) in
       let start = d .start in
       let sum = w .sum in
-      let most = w .most in (
-        sym (ap accepted (s .1)),
-        fill (countOf file) rows-many
+      let most = w .most in
+      record {
+        answer = sym (ap accepted (s .1));
+        fills =
+            fill (countOf file) rows-many
             ∙ ap (λ l. sets index 0 (startsFrom 0 (countOf file) l)) (rows-are ∙ d .rows-are)
             ∙ ap (λ n. sets index 0 (startsFrom 0 n (rowsOfRules (s .0)))) (d .count)
             ∙ ap (sets index 0) (starts-offsets (s .0) 0 (omega arith))
-            ∙ sym (ap (λ o. indexed o index) (s .1)),
-      )
+            ∙ sym (ap (λ o. indexed o index) (s .1));
+      }
 
 -- ---- what look-ups ask
 
@@ -116,3 +115,26 @@ checked-ready file index index′ rs e h q =
           ∙ ap (λ k. take k (offsetsFrom 0 rs ++ drop (0 + length (offsetsFrom 0 rs)) index)) (sym l)
           ∙ take-append-seam (offsetsFrom 0 rs) (drop (0 + length (offsetsFrom 0 rs)) index);
     }
+
+-- the check accepted: there are rules, and look-ups can be asked for them
+pub checked-rules :
+    {file index : List ℕ} {ok : Bool} {index′ : List ℕ} → Bytes file → 8191 ≤ length index → Checked file index ok index′ → ok ≡ true
+    → SomeRules file index′
+checked-rules {file} {index} {ok} {index′} by room c t =
+    let s = accepted-some (rulesOf file) (sym (c .answer) ∙ t) in
+    let few = rules-few file (s .0) by (s .1) in
+    record { rules = s .0; ready = checked-ready file index index′ (s .0) (s .1) (omega arith) (c .fills) }
+
+-- the check refused: there are none, and the index is as it was
+pub checked-none :
+    {file index : List ℕ} {ok : Bool} {index′ : List ℕ} → Checked file index ok index′ → ok ≡ false
+    → (rulesOf file ≡ none) × (index′ ≡ index)
+checked-none {file} {index} {ok} {index′} c f =
+    let e = accepted-none (rulesOf file) (sym (c .answer) ∙ f) in (e, c .fills ∙ ap (λ o. indexed o index) e)
+
+-- a file has one list of rules
+pub rules-one : (file : List ℕ) {rs ss : List Rule} → rulesOf file ≡ some rs → rulesOf file ≡ some ss → rs ≡ ss
+rules-one file p q = cc
+
+pub ready-for : {file index : List ℕ} (s : SomeRules file index) (rs : List Rule) → rulesOf file ≡ some rs → Ready file index rs
+ready-for {file} {index} s rs e = subst (Ready file index) (rules-one file (s .ready .decodes) e) (s .ready)

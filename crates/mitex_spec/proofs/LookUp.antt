@@ -2,7 +2,7 @@
 -- name itself (`get-rank`). Where a rule's row and texts stand in the file follows from `file-rules`: the file is what the
 -- rules before, the rule and the rules after it are written as (`located`).
 use mathlib.Core.Path.{_≡_, refl, sym, ap, subst, _∙_}
-use mathlib.Core.Bool.{Bool, true, false, _&&_, cond, true≢false, false≢true}
+use mathlib.Core.Bool.{Bool, true, false, _&&_, not, cond, true≢false}
 use mathlib.Core.Option.{Option}
 use mathlib.Core.Option.Option.{none, some}
 use mathlib.Core.List.{List, [], _∷_, _++_, append-assoc}
@@ -16,14 +16,14 @@ use Rattle.text.specs.Numbers.{Bytes, four, twoAt}
 use Rattle.text.specs.Compare.{same, precedes}
 use Rattle.text.proofs.Numbers.{twoAt-drop}
 use Rattle.text.proofs.Compare.{by-test, same-differ, precedes-trans, precedes-not-same}
-use Rattle.mitex_spec.specs.Rules.{Rule, rule, get, asCmd, asEnv, aliasOr, writtenName}
+use Rattle.mitex_spec.specs.Rules.{Rule, rule, get, cmdMost, asCmd, asEnv, aliasOr, writtenName}
 use Rattle.mitex_spec.specs.RuleFile.{fileMost, noAlias, risesFrom, rises, startOf, rulesOf, aliasNumber, aliasText, ruleText, ruleRow, textOfRules, rowsOfRules, fileOfRules}
 use Rattle.mitex_spec.specs.Index.{offsetsFrom, ruleNo, rankOf, SomeRule}
-use Rattle.mitex_spec.specs.LookUp.{aliasOf, ruleOf, foundCmd, foundEnv, endOf, Finds}
+use Rattle.mitex_spec.specs.LookUp.{aliasOf, ruleOf, endOf, isCmd, Finds}
 use Rattle.mitex_spec.specs.declared.Found.{Found}
 use Rattle.mitex_spec.specs.declared.Found.the-variants.{Absent, Plain, Aliased}
 use Rattle.mitex_spec.proofs.RuleFile.{and-split, ruleRow-reads, length-rows, file-rules}
-use Rattle.mitex_spec.proofs.Index.{length-offsets}
+use Rattle.mitex_spec.proofs.Index.{length-offsets, rules-one}
 
 -- ---- names that rise
 
@@ -199,7 +199,7 @@ pub record Located (file index : List ℕ) (k : ℕ) (r : Rule) : Type 0 where
 
 module _ {file index : List ℕ} {k : ℕ} (s : SomeRule file index k) (by : Bytes file) (rs : List Rule) (e : rulesOf file ≡ some rs) where
   rules-are : s .rules ≡ rs
-  rules-are = let q = s .ready .decodes in cc
+  rules-are = rules-one file (s .ready .decodes) e
 
   pub few : k < length rs
   few = subst (λ l. k < length l) rules-are (s .few)
@@ -358,43 +358,45 @@ finds-as {file} {m} {name} {o} {answer} {found} e q f =
 
 -- what is left of an answer in one kind: the rule or nothing, by its class
 module _ (file name : List ℕ) where
-  kept-if : (b : Bool) (f : Found) → (ruleOf file name (cond b f Absent) ≡ cond b (ruleOf file name f) none) × (endOf (cond b f Absent) ≤ endOf f)
-  kept-if true f = (refl, omega arith)
-  kept-if false f = (refl, omega arith)
+  kept-rule : (b : Bool) (f : Found) → ruleOf file name (cond b f Absent) ≡ cond b (ruleOf file name f) none
+  kept-rule true f = refl
+  kept-rule false f = refl
 
-  kept-unless : (b : Bool) (f : Found) → (ruleOf file name (cond b Absent f) ≡ cond b none (ruleOf file name f)) × (endOf (cond b Absent f) ≤ endOf f)
-  kept-unless true f = (refl, omega arith)
-  kept-unless false f = (refl, omega arith)
-
-  cmd-kept : (f : Found) → (ruleOf file name (foundCmd f) ≡ asCmd (ruleOf file name f)) × (endOf (foundCmd f) ≤ endOf f)
-  cmd-kept Absent = (refl, omega arith)
-  cmd-kept (Plain class) = kept-if (leb class 2) (Plain class)
-  cmd-kept (Aliased class at size) = kept-if (leb class 2) (Aliased class at size)
-
-  env-kept : (f : Found) → (ruleOf file name (foundEnv f) ≡ asEnv (ruleOf file name f)) × (endOf (foundEnv f) ≤ endOf f)
-  env-kept Absent = (refl, omega arith)
-  env-kept (Plain class) = kept-unless (leb class 2) (Plain class)
-  env-kept (Aliased class at size) = kept-unless (leb class 2) (Aliased class at size)
+  kept-end : (b : Bool) (f : Found) → endOf (cond b f Absent) ≤ endOf f
+  kept-end true f = omega arith
+  kept-end false f = omega arith
 
   kept :
-      (kind : Option Rule → Option Rule) (found : Found → Found) → ((f : Found) → (ruleOf file name (found f) ≡ kind (ruleOf file name f)) × (endOf (found f) ≤ endOf f))
-      → (answer : Option Rule) (f r : Found) → Finds file name answer f → r ≡ found f → Finds file name (kind answer) r
-  kept kind found law answer f r finds e =
-      let k = law f in
-      let q = k .1 in
+      (ok : Bool) (answer kind : Option Rule) (f r : Found) → kind ≡ cond ok answer none → Finds file name answer f → r ≡ cond ok f Absent
+      → Finds file name kind r
+  kept ok answer kind f r q finds e =
       let i = finds .inside in
-      subst (Finds file name (kind answer)) (sym e) (record { rule = k .0 ∙ ap kind (finds .rule); inside = omega arith })
+      let j = kept-end ok f in
+      subst (Finds file name kind) (sym e)
+      (record { rule = kept-rule ok f ∙ ap (λ o. cond ok o none) (finds .rule) ∙ sym q; inside = omega arith })
 
-  pub finds-cmd : (answer : Option Rule) (f r : Found) → Finds file name answer f → r ≡ foundCmd f → Finds file name (asCmd answer) r
-  finds-cmd = kept asCmd foundCmd cmd-kept
+  cmd-kept : (f : Found) → asCmd (ruleOf file name f) ≡ cond (isCmd f) (ruleOf file name f) none
+  cmd-kept Absent = refl
+  cmd-kept (Plain class) = refl
+  cmd-kept (Aliased class at size) = refl
 
-  pub finds-env : (answer : Option Rule) (f r : Found) → Finds file name answer f → r ≡ foundEnv f → Finds file name (asEnv answer) r
-  finds-env = kept asEnv foundEnv env-kept
+  cond-not : (b : Bool) (o : Option Rule) → cond b none o ≡ cond (not b) o none
+  cond-not true o = refl
+  cond-not false o = refl
 
--- an arm of a match, and the definition by cases
-pub pick : (b : Bool) (x y z : Found) → z ≡ cond b x y → (b ≡ true → x ≡ z) × (b ≡ false → y ≡ z)
-pick true x y z e = (λ t. sym e, λ t. absurd (true≢false t))
-pick false x y z e = (λ t. absurd (false≢true t), λ t. sym e)
+  env-kept : (f : Found) → asEnv (ruleOf file name f) ≡ cond (not (isCmd f)) (ruleOf file name f) none
+  env-kept Absent = refl
+  env-kept (Plain class) = cond-not (leb class cmdMost) (ruleOf file name (Plain class))
+  env-kept (Aliased class at size) = cond-not (leb class cmdMost) (ruleOf file name (Aliased class at size))
+
+  module _ (answer : Option Rule) (f r : Found) (finds : Finds file name answer f) where
+    pub finds-cmd : r ≡ cond (isCmd f) f Absent → Finds file name (asCmd answer) r
+    finds-cmd =
+        kept (isCmd f) answer (asCmd answer) f r (subst (λ o. asCmd o ≡ cond (isCmd f) o none) (finds .rule) (cmd-kept f)) finds
+
+    pub finds-env : r ≡ cond (not (isCmd f)) f Absent → Finds file name (asEnv answer) r
+    finds-env =
+        kept (not (isCmd f)) answer (asEnv answer) f r (subst (λ o. asEnv o ≡ cond (not (isCmd f)) o none) (finds .rule) (env-kept f)) finds
 
 -- ---- the written name
 

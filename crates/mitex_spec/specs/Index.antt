@@ -31,6 +31,11 @@ abbrev pub indexed : Option (List Rule) → List ℕ → List ℕ
 indexed none index = index
 indexed (some rs) index = sets index 0 (offsetsFrom 0 rs)
 
+-- what the check promises: its answer, and the index after it
+pub record Checked (file index : List ℕ) (ok : Bool) (index′ : List ℕ) : Type 0 where
+  pub answer : ok ≡ accepted (rulesOf file)
+  pub fills : index′ ≡ indexed (rulesOf file) index
+
 -- the rule of a number, and how many of the first names come before a name
 abbrev pub ruleNo : List Rule → ℕ → Rule
 ruleNo rs k = getD rs k (rule [] none 0)
@@ -39,7 +44,7 @@ unfoldable pub rankOf : List Rule → List ℕ → ℕ
 rankOf [] name = 0
 rankOf (r ∷ rs) name = cond (precedes (r .name) name) (1 + rankOf rs name) 0
 
--- what a look-up asks, and the check establishes (`checked-ready`, proofs/Index.antt): the file has these rules, and the index
+-- what a look-up asks, and the check establishes (`checked-rules`, proofs/Index.antt): the file has these rules, and the index
 -- begins with their offsets
 pub record Ready (file index : List ℕ) (rules : List Rule) : Type 0 where
   pub decodes : rulesOf file ≡ some rules

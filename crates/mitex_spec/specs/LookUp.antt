@@ -1,13 +1,13 @@
 -- What a look-up answers: a rule by numbers, its alias by where it stands in the rule file.
 use mathlib.Core.Path.{_≡_}
-use mathlib.Core.Bool.{cond}
+use mathlib.Core.Bool.{Bool, false}
 use mathlib.Core.Option.{Option}
 use mathlib.Core.Option.Option.{none, some}
 use mathlib.Core.List.{List}
 use Prim.Native.Nat.{ℕ, _+_, _≤_}
 use lib.Dec.{leb}
 use lib.ListN.{length, take, drop}
-use Rattle.mitex_spec.specs.Rules.{Rule, rule}
+use Rattle.mitex_spec.specs.Rules.{Rule, rule, cmdMost}
 use Rattle.mitex_spec.specs.RuleFile.{rulesOf}
 use Rattle.mitex_spec.specs.declared.Found.{Found}
 use Rattle.mitex_spec.specs.declared.Found.the-variants.{Absent, Plain, Aliased}
@@ -30,16 +30,11 @@ endOf Absent = 0
 endOf (Plain class) = 0
 endOf (Aliased class at size) = at + size
 
--- what was found, in the kind of a command and of an environment
-abbrev pub foundCmd : Found → Found
-foundCmd Absent = Absent
-foundCmd (Plain class) = cond (leb class 2) (Plain class) Absent
-foundCmd (Aliased class at size) = cond (leb class 2) (Aliased class at size) Absent
-
-abbrev pub foundEnv : Found → Found
-foundEnv Absent = Absent
-foundEnv (Plain class) = cond (leb class 2) Absent (Plain class)
-foundEnv (Aliased class at size) = cond (leb class 2) Absent (Aliased class at size)
+-- whether it is a command
+abbrev pub isCmd : Found → Bool
+isCmd Absent = false
+isCmd (Plain class) = leb class cmdMost
+isCmd (Aliased class at size) = leb class cmdMost
 
 -- this was found: it is the rule that was to be found, and its alias lies in the file
 pub record Finds (file name : List ℕ) (answer : Option Rule) (found : Found) : Type 0 where

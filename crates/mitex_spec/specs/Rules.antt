@@ -22,14 +22,17 @@ unfoldable pub get : List Rule → List ℕ → Option Rule
 get [] name = none
 get (r ∷ rs) name = cond (same (r .name) name) (some r) (get rs name)
 
--- a rule in the kind of a command, and in the kind of an environment
+-- a rule in the kind of a command, which has at most class 2, and in the kind of an environment
+abbrev pub cmdMost : ℕ
+cmdMost = 2
+
 abbrev pub asCmd : Option Rule → Option Rule
 asCmd none = none
-asCmd (some r) = cond (leb (r .class) 2) (some r) none
+asCmd (some r) = cond (leb (r .class) cmdMost) (some r) none
 
 abbrev pub asEnv : Option Rule → Option Rule
 asEnv none = none
-asEnv (some r) = cond (leb (r .class) 2) none (some r)
+asEnv (some r) = cond (leb (r .class) cmdMost) none (some r)
 
 abbrev pub getCmd : List Rule → List ℕ → Option Rule
 getCmd rs name = asCmd (get rs name)

@@ -1,6 +1,6 @@
 // The rules of a conversion, in a sorted file: its check, and what `get_cmd` and `get_env` answer.
 ghost use mathlib.Core.Path.{_≡_};
-ghost use mathlib.Core.Bool.{_||_};
+ghost use mathlib.Core.Bool.{_||_, cond};
 ghost use mathlib.Core.Option.Option.{some};
 ghost use mathlib.Core.List.{List};
 ghost use Prim.Native.Nat.{ℕ, _+_, _*_, _≤_, _<_};
@@ -9,8 +9,9 @@ ghost use lib.Seq.{sets};
 ghost use Rattle.text.specs.Compare.{precedes};
 ghost use Rattle.mitex_spec.specs.Rules.{Rule, get, getCmd, getEnv, aliasOr};
 ghost use Rattle.mitex_spec.specs.RuleFile.{rulesOf, rulesIn, rising, padded, rowFits, aliasLength, taken, fileMost, startOf, countOf};
-ghost use Rattle.mitex_spec.specs.Index.{startsFrom, accepted, indexed, ruleNo, rankOf, SomeRules, SomeRule};
-ghost use Rattle.mitex_spec.specs.LookUp.{aliasOf, endOf, foundCmd, foundEnv, Finds, Answers};
+ghost use Rattle.mitex_spec.specs.Index.{startsFrom, accepted, Checked, ruleNo, rankOf, SomeRules, SomeRule};
+ghost use Rattle.mitex_spec.specs.LookUp.{aliasOf, endOf, isCmd, Finds, Answers};
+ghost use Rattle.mitex_spec.specs.declared.Found.the-variants.{Absent};
 
 // What a look-up finds: the class of a rule, and where its alias stands in the rule file, if it has one.
 pub enum Found {
@@ -164,7 +165,7 @@ fn count_of(file: &[u8]) -> usize
 
 // Whether a rule file keeps its layout; if so, where each name begins goes into the index.
 pub fn check_rules(file: &[u8], index: &mut [u32]) -> bool
-    ensures { λ r. ⌜ (r ≡ accepted (rulesOf (now (file .entry)))) × (now (index .exit) ≡ indexed (rulesOf (now (file .entry))) (now (index .entry))) ⌝ }
+    ensures { λ r. ⌜ Checked (now (file .entry)) (now (index .entry)) r (now (index .exit)) ⌝ }
 {
     if file.len() < 8 {
         return false;
@@ -251,46 +252,29 @@ pub fn get(file: &[u8], index: &[u32], name: &[u8]) -> Found
     Found::Absent
 }
 
-// What was found, if it is a command.
-fn as_cmd(found: Found) -> Found
-    ensures { λ r. ⌜ r ≡ foundCmd found ⌝ }
+// Whether a command was found.
+fn is_cmd(found: Found) -> bool
+    ensures { λ r. ⌜ r ≡ isCmd found ⌝ }
 {
     match found {
-        Found::Absent => Found::Absent,
-        Found::Plain { class } => {
-            if class <= CMD_MOST {
-                return Found::Plain { class };
-            }
-            Found::Absent
-        }
-        Found::Aliased { class, at, size } => {
-            if class <= CMD_MOST {
-                return Found::Aliased { class, at, size };
-            }
-            Found::Absent
-        }
+        Found::Absent => false,
+        Found::Plain { class } => class <= CMD_MOST,
+        Found::Aliased {
+            class,
+            at: _,
+            size: _,
+        } => class <= CMD_MOST,
     }
 }
 
-// What was found, if it is an environment.
-fn as_env(found: Found) -> Found
-    ensures { λ r. ⌜ r ≡ foundEnv found ⌝ }
+// What was found, or nothing.
+fn kept(ok: bool, found: Found) -> Found
+    ensures { λ r. ⌜ r ≡ cond ok found Absent ⌝ }
 {
-    match found {
-        Found::Absent => Found::Absent,
-        Found::Plain { class } => {
-            if class <= CMD_MOST {
-                return Found::Absent;
-            }
-            Found::Plain { class }
-        }
-        Found::Aliased { class, at, size } => {
-            if class <= CMD_MOST {
-                return Found::Absent;
-            }
-            Found::Aliased { class, at, size }
-        }
+    if ok {
+        return found;
     }
+    Found::Absent
 }
 
 // The rule of a name in the kind of a command.
@@ -298,7 +282,8 @@ pub fn get_cmd(file: &[u8], index: &[u32], name: &[u8]) -> Found
     requires { ⌜ SomeRules (now file) (now index) ⌝ }
     ensures { λ r. ⌜ Answers (now (file .entry)) (now (name .entry)) (λ rs. getCmd rs (now (name .entry))) r ⌝ }
 {
-    as_cmd(get(file, index, name))
+    let found = get(file, index, name);
+    kept(is_cmd(found), found)
 }
 
 // The rule of a name in the kind of an environment.
@@ -306,7 +291,8 @@ pub fn get_env(file: &[u8], index: &[u32], name: &[u8]) -> Found
     requires { ⌜ SomeRules (now file) (now index) ⌝ }
     ensures { λ r. ⌜ Answers (now (file .entry)) (now (name .entry)) (λ rs. getEnv rs (now (name .entry))) r ⌝ }
 {
-    as_env(get(file, index, name))
+    let found = get(file, index, name);
+    kept(!is_cmd(found), found)
 }
 
 // The written name: the alias, a part of the rule file, or the name itself where there is none.

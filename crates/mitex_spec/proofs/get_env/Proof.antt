@@ -1,4 +1,7 @@
 -- The rule of the name, in its kind (`finds-env`).
+use mathlib.Core.Path.{ap, _∙_}
+use mathlib.Core.Bool.{not, cond}
+use Rattle.mitex_spec.specs.declared.Found.the-variants.{Absent}
 use Rattle.mitex_spec.proofs.LookUp.{finds-env}
 use borrow.Author.Needs.{needs}
 use Rattle.mitex_spec.proofs.get_env.Statement.{statement}
@@ -7,14 +10,18 @@ use Rattle.mitex_spec.proofs.get_env.Tie as tie
 get-requires : tie.Need-get-requires
 get-requires c κs = search needs
 
-as-env-requires : tie.Need-as-env-requires
-as-env-requires c κs = search needs
+is-cmd-requires : tie.Need-is-cmd-requires
+is-cmd-requires c κs = search needs
+
+kept-requires : tie.Need-kept-requires
+kept-requires c κs = search needs
 
 returns : tie.Need-returns
 returns c =
     let c₁ = c .before in
-    let c₂ = c₁ .before .before .before .before in
-    λ rs e. finds-env (c₂ .args .file .now) (c₂ .args .name .now) _ (c₁ .get .result) _ (c₁ .get .ensures rs e) (c .as-env .ensures)
+    let c₂ = c₁ .before in
+    let c₃ = c₂ .before .before .before .before in
+    λ rs e. finds-env (c₃ .args .file .now) (c₃ .args .name .now) _ (c₂ .get .result) _ (c₂ .get .ensures rs e) (c .kept .ensures ∙ ap (λ b. cond (not b) (c₂ .get .result) Absent) (c₁ .is-cmd .ensures))
 
 pub get-env-spec : {M : Type 1} → statement M
-get-env-spec = tie.close (tie.spec get-requires as-env-requires returns)
+get-env-spec = tie.close (tie.spec get-requires is-cmd-requires kept-requires returns)
