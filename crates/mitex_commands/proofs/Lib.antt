@@ -1,0 +1,5 @@
+pub mod Picking
+pub mod Putting
+pub mod Elements
+pub mod Items
+pub mod Naming

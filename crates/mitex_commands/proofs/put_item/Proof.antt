@@ -1,0 +1,58 @@
+-- `mitex_commands::put_item` meets its contract: the four texts one after the other.
+use mathlib.Core.Path.{ap}
+use Rattle.text.specs.Writing.{spaces}
+use Rattle.text.proofs.Writing.{wrote-as, wrote-then}
+use Rattle.mitex_commands.proofs.Putting.{wrote-three, wrote-room}
+use borrow.Author.Needs.{needs}
+use Rattle.mitex_commands.proofs.put_item.Statement.{statement}
+use Rattle.mitex_commands.proofs.put_item.Tie as tie
+
+item-indent-requires : tie.Need-item-indent-requires
+item-indent-requires c κs = search needs
+
+slice-aggregate-put : tie.Need-slice-aggregate-put
+slice-aggregate-put c = search needs
+
+put-requires : tie.Need-put-requires
+put-requires c κs = search needs
+
+put-spaces-requires : tie.Need-put-spaces-requires
+put-spaces-requires c κs = search needs
+
+put-byte-requires : tie.Need-put-byte-requires
+put-byte-requires c κs = search needs
+
+slice-aggregate-put-2 : tie.Need-slice-aggregate-put-2
+slice-aggregate-put-2 c = search needs
+
+put-requires-2 : tie.Need-put-requires-2
+put-requires-2 c κs = search needs
+
+same-length : tie.Need-same-length
+same-length c = search needs
+
+returns : tie.Need-returns
+returns c =
+    let c₁ = c .before .before in
+    let c₂ = c₁ .before .before .before .before .before in
+    let c₃ = c₂ .before .before .before .before in
+    let c₄ = c₃ .before .before .before .before in
+    let c₅ = c₄ .before .before .before in
+    let c₆ = c₅ .before .before in
+    let indented = wrote-as (ap spaces (c₅ .item-indent .ensures)) (c₃ .put-spaces .ensures) in
+    let room = wrote-room indented (wrote-room (c₄ .put .ensures) (c₆ .pre .1)) in
+    wrote-three (c₆ .pre .1) (c₄ .put .ensures) indented (wrote-then room (c₂ .put-byte .ensures) (c₁ .put2 .ensures))
+
+pub put-item-spec : {M : Type 1} → statement M
+put-item-spec =
+    tie.close
+    (tie.spec
+    item-indent-requires
+    slice-aggregate-put
+    put-requires
+    put-spaces-requires
+    put-byte-requires
+    slice-aggregate-put-2
+    put-requires-2
+    same-length
+    returns)

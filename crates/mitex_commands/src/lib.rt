@@ -1,0 +1,325 @@
+// Commands, by their name without the backslash: which arm an element and a command have, `\item` and `\label`, and the name that a
+// command is written by. Nothing here recurses.
+ghost use mathlib.Core.Path.{_≡_};
+ghost use mathlib.Core.List.{List, _∷_, _++_};
+ghost use Prim.Native.Nat.{ℕ, _-_, _≤_};
+ghost use lib.ListN.{length};
+ghost use Rattle.text.specs.Ascii.{ascii};
+ghost use Rattle.text.specs.Compare.{same};
+ghost use Rattle.text.specs.Writing.{cap, Wrote};
+ghost use Rattle.mitex_syntax.specs.Syntax.{ClauseArgument};
+ghost use Rattle.mitex_syntax.specs.Tree.{Forest};
+ghost use Rattle.mitex_syntax.specs.Views.{firstOf, textIn};
+ghost use Rattle.mitex_syntax.specs.Spells.{Begins, SpellsAll, SomeForest};
+ghost use Rattle.mitex_state.specs.Outcome.{labelMost};
+ghost use Rattle.mitex_state.specs.State.{carryOf};
+ghost use Rattle.mitex_state.specs.Contract.{placeOf, Agrees};
+ghost use Rattle.mitex_state.specs.Texts.{substackName};
+ghost use Rattle.mitex_state.specs.Commands.{commandOf, itemText, itemIn, labelNow, labelHeld, labelIn, labelText, typstName, otherArguments, argumentsOf};
+ghost use Rattle.mitex_state.specs.Conversion.{elementOf};
+ghost use Rattle.mitex_commands.specs.Leaves.{colorOf, markOf, writesNow, stackedIn};
+use mitex_state::Arguments;
+use mitex_state::Command;
+use mitex_state::Converter;
+use mitex_state::Element;
+use mitex_state::LaTeXEnv;
+use mitex_state::LaTeXMode;
+use mitex_state::Walked;
+use mitex_syntax::CLAUSE_ARGUMENT;
+use mitex_syntax::CLAUSE_LR;
+use mitex_syntax::ITEM_ATTACH_COMPONENT;
+use mitex_syntax::ITEM_BEGIN;
+use mitex_syntax::ITEM_BLOCK_COMMENT;
+use mitex_syntax::ITEM_BRACKET;
+use mitex_syntax::ITEM_CMD;
+use mitex_syntax::ITEM_CURLY;
+use mitex_syntax::ITEM_END;
+use mitex_syntax::ITEM_ENV;
+use mitex_syntax::ITEM_FORMULA;
+use mitex_syntax::ITEM_LR;
+use mitex_syntax::ITEM_PAREN;
+use mitex_syntax::ITEM_TEXT;
+use mitex_syntax::ITEM_TYPST_CODE;
+use mitex_syntax::SCOPE_ROOT;
+use mitex_syntax::TOKEN_ERROR;
+
+// `\item` stands where the environment is no list.
+const NO_LIST: u8 = 11;
+
+// A label is too long to be held.
+const LONG_LABEL: u8 = 14;
+
+// The classes of a command with no arguments and of one with a Greedy argument.
+const CLASS_NONE: u8 = 0;
+
+const CLASS_GREEDY: u8 = 1;
+
+// ---- arms
+
+// The arm of the main match, by the kind of an element.
+pub fn element_of(kind: u8) -> Element
+    ensures { λ r. ⌜ r ≡ elementOf kind ⌝ }
+{
+    match kind {
+        TOKEN_ERROR => Element::Unexpected,
+        ITEM_LR => Element::Children,
+        CLAUSE_ARGUMENT => Element::Children,
+        SCOPE_ROOT => Element::Children,
+        ITEM_TEXT => Element::Children,
+        ITEM_BRACKET => Element::Children,
+        ITEM_PAREN => Element::Children,
+        ITEM_FORMULA => Element::Formula,
+        ITEM_CURLY => Element::CurlyGroup,
+        CLAUSE_LR => Element::ClauseLr,
+        ITEM_ATTACH_COMPONENT => Element::AttachComponent,
+        ITEM_BEGIN => Element::Unexpected,
+        ITEM_END => Element::Unexpected,
+        ITEM_BLOCK_COMMENT => Element::Silent,
+        ITEM_CMD => Element::Command,
+        ITEM_ENV => Element::Environment,
+        ITEM_TYPST_CODE => Element::TypstCode,
+        _ => Element::Token,
+    }
+}
+
+// Which colour a command is, if any.
+fn color_of(name: &[u8]) -> Command
+    ensures { λ r. ⌜ r ≡ colorOf (now (name .entry)) ⌝ }
+{
+    if text::same(name, b"color") {
+        return Command::Color;
+    }
+    if text::same(name, b"textcolor") {
+        return Command::ColorArguments;
+    }
+    if text::same(name, b"colorbox") {
+        return Command::ColorArguments;
+    }
+    Command::Normal
+}
+
+// The arm of a command, by its name.
+pub fn command_of(name: &[u8]) -> Command
+    ensures { λ r. ⌜ r ≡ commandOf (now (name .entry)) ⌝ }
+{
+    if text::same(name, b"item") {
+        return Command::Item;
+    }
+    if text::same(name, b"label") {
+        return Command::Label;
+    }
+    if text::same(name, b"includegraphics") {
+        return Command::IncludeGraphics;
+    }
+    if text::same(name, b"array") {
+        return Command::Array;
+    }
+    color_of(name)
+}
+
+// ---- `\item`
+
+// What marks an item of a list; 0 where the environment is none.
+fn mark_of(env: LaTeXEnv) -> u8
+    ensures { λ r. ⌜ r ≡ markOf env ⌝ }
+{
+    match env {
+        LaTeXEnv::None => 0,
+        LaTeXEnv::Figure => 0,
+        LaTeXEnv::Table => 0,
+        LaTeXEnv::Itemize => b'-',
+        LaTeXEnv::Enumerate => b'+',
+        LaTeXEnv::Math => 0,
+        LaTeXEnv::Matrix => 0,
+        LaTeXEnv::Cases => 0,
+        LaTeXEnv::SubStack => 0,
+        LaTeXEnv::MathCurlyGroup => 0,
+    }
+}
+
+// How far an item is indented: two less than what stands in it.
+fn item_indent(indent: usize) -> usize
+    ensures { λ r. ⌜ r ≡ indent - 2 ⌝ }
+{
+    if indent < 2 {
+        return 0;
+    }
+    indent - 2
+}
+
+// A line feed, the indent and the mark.
+fn put_item(out: &mut [u8], at: usize, indent: usize, mark: u8) -> usize
+    requires { ⌜ (at ≤ cap) × (length (now out) ≤ cap) ⌝ }
+    ensures { λ r. ⌜ Wrote at (now (out .entry)) (itemText indent (mark ∷ ascii " ")) r (now (out .exit)) ⌝ }
+{
+    let n = item_indent(indent);
+    let a = text::put(out, at, b"\n");
+    let b = text::put_spaces(out, a, n);
+    let d = text::put_byte(out, b, mark);
+    text::put(out, d, b" ")
+}
+
+// `\item`
+pub fn convert_command_item(out: &mut [u8], at: usize, row: usize, c: Converter) -> Walked
+    requires { ⌜ (at ≤ cap) × (length (now out) ≤ cap) ⌝ }
+    requires { ⌜ c .«label_len» ≤ labelMost ⌝ }
+    ensures { λ r. ⌜ Agrees r (placeOf c) row at (now (out .entry)) (now (out .exit)) (itemIn (c .env) (c .indent) (carryOf c)) ⌝ }
+{
+    let env = c.env;
+    let mark = mark_of(env);
+    if mark == 0 {
+        return mitex_state::refuse(c, NO_LIST, row);
+    }
+    let indent = c.indent;
+    let p = put_item(out, at, indent, mark);
+    mitex_state::went(c, p)
+}
+
+// ---- `\label`
+
+// Whether a label in the environment is written at once.
+fn writes_now(env: LaTeXEnv) -> bool
+    ensures { λ r. ⌜ r ≡ writesNow env ⌝ }
+{
+    match env {
+        LaTeXEnv::None => true,
+        LaTeXEnv::Figure => false,
+        LaTeXEnv::Table => false,
+        LaTeXEnv::Itemize => true,
+        LaTeXEnv::Enumerate => true,
+        LaTeXEnv::Math => false,
+        LaTeXEnv::Matrix => false,
+        LaTeXEnv::Cases => false,
+        LaTeXEnv::SubStack => false,
+        LaTeXEnv::MathCurlyGroup => false,
+    }
+}
+
+// A label as Typst has it.
+pub fn put_label(out: &mut [u8], at: usize, s: &[u8]) -> usize
+    requires { ⌜ (at ≤ cap) × (length (now out) ≤ cap) ⌝ }
+    ensures { λ r. ⌜ Wrote at (now (out .entry)) (ascii "<" ++ (now (s .entry) ++ ascii ">")) r (now (out .exit)) ⌝ }
+{
+    let a = text::put(out, at, b"<");
+    let b = text::put(out, a, s);
+    text::put(out, b, b">")
+}
+
+// A label that is written at once, in Text; in Math it is none.
+fn write_label(out: &mut [u8], at: usize, s: &[u8], c: Converter) -> Walked
+    requires { ⌜ (at ≤ cap) × (length (now out) ≤ cap) ⌝ }
+    requires { ⌜ c .«label_len» ≤ labelMost ⌝ }
+    ensures { λ r. ⌜ ((row : ℕ) → Agrees r (placeOf c) row at (now (out .entry)) (now (out .exit)) (labelNow (c .mode) (now (s .entry)) (carryOf c))) ⌝ }
+{
+    let mode = c.mode;
+    match mode {
+        LaTeXMode::Text => {
+            let p = put_label(out, at, s);
+            mitex_state::went(c, p)
+        }
+        LaTeXMode::Math => mitex_state::went(c, at),
+    }
+}
+
+// A label that is held; nothing is written.
+fn hold_label(s: &[u8], at: usize, row: usize, c: Converter) -> Walked
+    requires { ⌜ at ≤ cap ⌝ }
+    requires { ⌜ c .«label_len» ≤ labelMost ⌝ }
+    ensures { λ r. ⌜ ((out : List ℕ) → Agrees r (placeOf c) row at out out (labelHeld (now (s .entry)) (carryOf c))) ⌝ }
+{
+    if s.len() <= mitex_state::LABEL_MOST {
+        return mitex_state::went(c.with_label(s), at);
+    }
+    mitex_state::refuse(c, LONG_LABEL, row)
+}
+
+// The text of the first argument; none where there is none.
+pub fn argument_text<'a>(rows: &[u8], text: &'a [u8]) -> &'a [u8]
+    requires { ⌜ SomeForest (now rows) (now text) 0 0 ⌝ }
+    ensures { λ r. ⌜ ((f : Forest) → Begins f (now (rows .entry)) (now (text .entry)) → now r ≡ textIn (firstOf ClauseArgument f)) ⌝ }
+{
+    mitex_syntax::text_at(text, mitex_syntax::find_kind(rows, text, CLAUSE_ARGUMENT))
+}
+
+// ---- all others
+
+// Typst's name of a command: in Text `textbf` and `textit` have others.
+pub fn put_typst_name(
+    out: &mut [u8],
+    at: usize,
+    mode: LaTeXMode,
+    name: &[u8],
+    written: &[u8],
+) -> usize
+    requires { ⌜ (at ≤ cap) × (length (now out) ≤ cap) ⌝ }
+    ensures { λ r. ⌜ Wrote at (now (out .entry)) (typstName mode (now (name .entry)) (now (written .entry))) r (now (out .exit)) ⌝ }
+{
+    match mode {
+        LaTeXMode::Text => {
+            if text::same(name, b"textbf") {
+                return text::put(out, at, b"#strong");
+            }
+            if text::same(name, b"textit") {
+                return text::put(out, at, b"#emph");
+            }
+            text::put(out, at, written)
+        }
+        LaTeXMode::Math => text::put(out, at, written),
+    }
+}
+
+// Whether that name is `substack`.
+pub fn is_stack(mode: LaTeXMode, name: &[u8], written: &[u8]) -> bool
+    ensures { λ r. ⌜ r ≡ same (typstName mode (now (name .entry)) (now (written .entry))) substackName ⌝ }
+{
+    match mode {
+        LaTeXMode::Text => {
+            if text::same(name, b"textbf") {
+                return false;
+            }
+            if text::same(name, b"textit") {
+                return false;
+            }
+            text::same(written, b"substack")
+        }
+        LaTeXMode::Math => text::same(written, b"substack"),
+    }
+}
+
+// How a command that is neither without arguments nor Greedy takes its arguments.
+fn other_arguments(mode: LaTeXMode, written: &[u8]) -> Arguments
+    ensures { λ r. ⌜ r ≡ otherArguments mode (now (written .entry)) ⌝ }
+{
+    match mode {
+        LaTeXMode::Text => Arguments::TextArguments,
+        LaTeXMode::Math => {
+            if text::starts_with(written, b"#") {
+                return Arguments::TextArguments;
+            }
+            Arguments::MathArguments
+        }
+    }
+}
+
+// How a command takes its arguments; the two names that differ in Text do not matter.
+pub fn arguments_of(class: u8, mode: LaTeXMode, name: &[u8], written: &[u8]) -> Arguments
+    ensures { λ r. ⌜ r ≡ argumentsOf class mode (typstName mode (now (name .entry)) (now (written .entry))) ⌝ }
+{
+    if class == CLASS_NONE {
+        return Arguments::NoArguments;
+    }
+    if class == CLASS_GREEDY {
+        return Arguments::GreedyArgument;
+    }
+    other_arguments(mode, written)
+}
+
+// The converter in a stack, or as it is.
+pub fn stacked(c: Converter, stack: bool) -> Converter
+    ensures { λ r. ⌜ r ≡ stackedIn stack c ⌝ }
+{
+    if stack {
+        return c.entered_env(LaTeXEnv::SubStack);
+    }
+    c
+}
