@@ -39,7 +39,7 @@ module _ (e : LaTeXEnv) (n : ℕ) (c : Carry) {m : ℕ} (is : m ≡ markOf e) wh
       ∙ ap (λ (k : ℕ). done c (itemText n (k ∷ ascii " "))) (sym is)
 
 module _ (m : LaTeXMode) (s : List ℕ) (c : Carry) where
-  pub label-by : (e : LaTeXEnv) → labelIn e m s c ≡ cond (writesNow e) (labelNow m s c) (labelHeld s c)
+  label-by : (e : LaTeXEnv) → labelIn e m s c ≡ cond (writesNow e) (labelNow m s c) (labelHeld s c)
   label-by None = refl
   label-by Figure = refl
   label-by Table = refl
@@ -50,3 +50,10 @@ module _ (m : LaTeXMode) (s : List ℕ) (c : Carry) where
   label-by Cases = refl
   label-by SubStack = refl
   label-by MathCurlyGroup = refl
+
+  module _ (e : LaTeXEnv) {b : Bool} (is : b ≡ writesNow e) where
+    pub label-now : b ≡ true → labelIn e m s c ≡ labelNow m s c
+    label-now z = label-by e ∙ ap (λ (x : Bool). cond x (labelNow m s c) (labelHeld s c)) (sym is ∙ z)
+
+    pub label-held : b ≡ false → labelIn e m s c ≡ labelHeld s c
+    label-held z = label-by e ∙ ap (λ (x : Bool). cond x (labelNow m s c) (labelHeld s c)) (sym is ∙ z)

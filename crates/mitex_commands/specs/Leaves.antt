@@ -3,6 +3,8 @@ use mathlib.Core.Bool.{Bool, true, false, cond}
 use mathlib.Core.List.{List}
 use Prim.Native.Nat.{ℕ}
 use Rattle.text.specs.Compare.{same}
+use Rattle.mitex_spec.specs.declared.Found.{Found}
+use Rattle.mitex_spec.specs.declared.Found.the-variants.{Absent, Plain, Aliased}
 use Rattle.mitex_state.specs.Texts.{colorName, textcolorName, colorboxName}
 use Rattle.mitex_state.specs.State.{enteredEnv}
 use Rattle.mitex_state.specs.declared.Converter.{Converter}
@@ -44,6 +46,17 @@ writesNow Matrix = false
 writesNow Cases = false
 writesNow SubStack = false
 writesNow MathCurlyGroup = false
+
+-- what a look-up found: no rule, and the class of a rule
+abbrev pub isAbsent : Found → Bool
+isAbsent Absent = true
+isAbsent (Plain class) = false
+isAbsent (Aliased class at size) = false
+
+abbrev pub classOf : Found → ℕ
+classOf Absent = 0
+classOf (Plain class) = class
+classOf (Aliased class at size) = class
 
 -- the converter in a stack, or as it is
 abbrev pub stackedIn : Bool → Converter → Converter

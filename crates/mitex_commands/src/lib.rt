@@ -17,7 +17,8 @@ ghost use Rattle.mitex_state.specs.Contract.{placeOf, Agrees};
 ghost use Rattle.mitex_state.specs.Texts.{substackName};
 ghost use Rattle.mitex_state.specs.Commands.{commandOf, itemText, itemIn, labelNow, labelHeld, labelIn, labelText, typstName, otherArguments, argumentsOf};
 ghost use Rattle.mitex_state.specs.Conversion.{elementOf};
-ghost use Rattle.mitex_commands.specs.Leaves.{colorOf, markOf, writesNow, stackedIn};
+ghost use Rattle.mitex_commands.specs.Leaves.{colorOf, markOf, writesNow, isAbsent, classOf, stackedIn};
+use mitex_spec::Found;
 use mitex_state::Arguments;
 use mitex_state::Command;
 use mitex_state::Converter;
@@ -241,7 +242,67 @@ pub fn argument_text<'a>(rows: &[u8], text: &'a [u8]) -> &'a [u8]
     mitex_syntax::text_at(text, mitex_syntax::find_kind(rows, text, CLAUSE_ARGUMENT))
 }
 
+// The text of a label: the first argument without its ends, trimmed.
+pub fn label_text<'a>(rows: &[u8], text: &'a [u8]) -> &'a [u8]
+    requires { ⌜ SomeForest (now rows) (now text) 0 0 ⌝ }
+    ensures { λ r. ⌜ ((f : Forest) → Begins f (now (rows .entry)) (now (text .entry)) → now r ≡ labelText f) ⌝ }
+{
+    mitex_syntax::trimmed_inner(argument_text(rows, text))
+}
+
+// `\label`
+pub fn convert_command_label(
+    out: &mut [u8],
+    at: usize,
+    rows: &[u8],
+    text: &[u8],
+    row: usize,
+    c: Converter,
+) -> Walked
+    requires { ⌜ (at ≤ cap) × (length (now out) ≤ cap) ⌝ }
+    requires { ⌜ SomeForest (now rows) (now text) 0 0 ⌝ }
+    requires { ⌜ c .«label_len» ≤ labelMost ⌝ }
+    ensures { λ r. ⌜ ((f : Forest) → SpellsAll f (now (rows .entry)) (now (text .entry)) → Agrees r (placeOf c) row at (now (out .entry)) (now (out .exit)) (labelIn (c .env) (c .mode) (labelText f) (carryOf c))) ⌝ }
+{
+    let s = label_text(rows, text);
+    let env = c.env;
+    if writes_now(env) {
+        return write_label(out, at, s, c);
+    }
+    hold_label(s, at, row, c)
+}
+
 // ---- all others
+
+// Whether a look-up found no rule.
+pub fn is_absent(found: Found) -> bool
+    ensures { λ r. ⌜ r ≡ isAbsent found ⌝ }
+{
+    match found {
+        Found::Absent => true,
+        Found::Plain { class: _ } => false,
+        Found::Aliased {
+            class: _,
+            at: _,
+            size: _,
+        } => false,
+    }
+}
+
+// The class of the rule that was found.
+pub fn class_of(found: Found) -> u8
+    ensures { λ r. ⌜ r ≡ classOf found ⌝ }
+{
+    match found {
+        Found::Absent => 0,
+        Found::Plain { class } => class,
+        Found::Aliased {
+            class,
+            at: _,
+            size: _,
+        } => class,
+    }
+}
 
 // Typst's name of a command: in Text `textbf` and `textit` have others.
 pub fn put_typst_name(
