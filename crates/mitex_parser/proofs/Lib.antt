@@ -7,3 +7,5 @@ pub mod Roots
 pub mod Shapes
 pub mod Answers
 pub mod Rules
+pub mod Shaped
+pub mod Bridge

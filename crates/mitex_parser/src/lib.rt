@@ -240,12 +240,12 @@ fn lands(rows: &[u8], n: usize) -> bool
         if left <= m {
             return false;
         }
-        let end = 8 + 8 * m;
-        if rest.len() < end {
+        let past = 8 + 8 * m;
+        if rest.len() < past {
             return false;
         }
         left = left - m - 1;
-        rest = &rest[end..];
+        rest = &rest[past..];
     }
     true
 }

@@ -34,11 +34,11 @@ under-requires c κs = omega arith
 returns-2 : tie.Need-returns-2 Inv-loop μ-loop
 returns-2 c = λ ls f e h g. hop-over (here (c .before) ls f e h g) (c .before .before .before .loop-test .taken) (c .if2 .taken)
 
-mul-end : tie.Need-mul-end Inv-loop μ-loop
-mul-end c = omega arith
+mul-past : tie.Need-mul-past Inv-loop μ-loop
+mul-past c = omega arith
 
-add-end : tie.Need-add-end Inv-loop μ-loop
-add-end c = omega arith
+add-past : tie.Need-add-past Inv-loop μ-loop
+add-past c = omega arith
 
 returns-3 : tie.Need-returns-3 Inv-loop μ-loop
 returns-3 c = λ ls f e h g. absurd (hop-never (here (c .before .before) ls f e h g) (c .if3 .taken))
@@ -77,8 +77,8 @@ lands-spec =
     returns
     under-requires
     returns-2
-    mul-end
-    add-end
+    mul-past
+    add-past
     returns-3
     sub-left
     sub-left-2
