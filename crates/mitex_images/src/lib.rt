@@ -9,7 +9,7 @@ ghost use Rattle.text.specs.Ascii.{ascii};
 ghost use Rattle.text.specs.Compare.{same};
 ghost use Rattle.text.specs.Writing.{cap, Wrote};
 ghost use Rattle.mitex_syntax.specs.Tree.{Forest};
-ghost use Rattle.mitex_syntax.specs.Views.{inner, argumentWith};
+ghost use Rattle.mitex_syntax.specs.Views.{argumentWith};
 ghost use Rattle.mitex_syntax.specs.Spells.{Begins, SomeForest};
 ghost use Rattle.mitex_state.specs.Images.{split, withoutEnd, equals, comma, ofPage, lengthText, valueOf, keyText, optionText, optionsText, innerText, image};
 
@@ -135,24 +135,13 @@ fn put_options(out: &mut [u8], at: usize, s: &[u8]) -> usize
 
 // ---- the command
 
-// A text without its first and its last byte.
-fn inner(s: &[u8]) -> &[u8]
-    ensures { λ r. ⌜ now r ≡ inner (now (s .entry)) ⌝ }
-{
-    let n = s.len();
-    if n < 2 {
-        return &s[..0];
-    }
-    &s[1..n - 1]
-}
-
 // The text of the first argument whose first node is of a kind, without its ends and trimmed; none where there is no such argument.
 fn argument_text<'a>(rows: &[u8], text: &'a [u8], kind: u8) -> &'a [u8]
     requires { ⌜ SomeForest (now rows) (now text) 0 0 ⌝ }
     ensures { λ r. ⌜ ((f : Forest) → Begins f (now (rows .entry)) (now (text .entry)) → now r ≡ innerText (argumentWith kind f)) ⌝ }
 {
     let place = mitex_syntax::argument_with(rows, text, kind);
-    utf8::trim(inner(mitex_syntax::text_at(text, place)))
+    mitex_syntax::trimmed_inner(mitex_syntax::text_at(text, place))
 }
 
 // The command over these children: its options in brackets, its path in braces.

@@ -15,24 +15,20 @@ text-at-requires : tie.Need-text-at-requires
 text-at-requires c κs =
     let pre = c .before .before .before .pre in place-inside (c .argument-with .ensures (pre .forest) (pre .begins))
 
-inner-requires : tie.Need-inner-requires
-inner-requires c κs = search needs
-
-trim-requires : tie.Need-trim-requires
-trim-requires c κs = search needs
+trimmed-inner-requires : tie.Need-trimmed-inner-requires
+trimmed-inner-requires c κs = search needs
 
 returns : tie.Need-returns
 returns c =
     let at = c .before in
-    let found = at .before .before in
+    let found = at .before in
     let kind = found .before .before .before .args .kind in
     λ f sp.
-    c .trim .ensures
-    ∙ ap trim (at .inner .ensures)
-    ∙ ap (λ s. trim (inner s)) (at .before .text-at .ensures ∙ place-text (found .argument-with .ensures f sp))
+    c .trimmed-inner .ensures
+    ∙ ap (λ s. trim (inner s)) (at .text-at .ensures ∙ place-text (found .argument-with .ensures f sp))
     ∙ inner-text (argumentWith kind f)
 
 pub argument-text-spec : {M : Type 1} → statement M
 argument-text-spec =
     tie.close
-    (tie.spec argument-with-requires text-at-requires inner-requires trim-requires returns)
+    (tie.spec argument-with-requires text-at-requires trimmed-inner-requires returns)
