@@ -2,21 +2,24 @@
 use mathlib.Core.Path.{_≡_, refl, sym, ap, _∙_}
 use mathlib.Core.Bool.{Bool, true, false, cond}
 use mathlib.Core.List.{List, [], _∷_}
-use Prim.Native.Nat.{ℕ, _+_}
+use Prim.Native.Nat.{ℕ, _+_, _≤_}
 use borrow.Author.Tests.{ne-eqb}
 use native.Mathlib.Omega.{arith}
+use lib.Dec.{eqb}
 use lib.ListN.{length, drop, getD, length-drop}
-use Rattle.mitex_syntax.specs.Syntax.{ItemCmd, TokenWhiteSpace, TokenLineBreak, TokenAmpersand, ItemNewLine}
+use Rattle.mitex_syntax.specs.Syntax.{ClauseArgument, ItemCmd, TokenWhiteSpace, TokenLineBreak, TokenAmpersand, ItemNewLine}
 use Rattle.mitex_syntax.specs.Tree.{Tree, kindOf, textOf}
 use Rattle.mitex_syntax.specs.Views.{childrenOf}
 use Rattle.mitex_syntax.specs.Spells.{Spells, SomeForest}
 use Rattle.mitex_syntax.proofs.Trees.{kind-spelt, children-begin}
-use Rattle.mitex_state.specs.Children.{isSplit, attachAct, cellAct, nextAttach}
+use Rattle.mitex_state.specs.Children.{isSplit, attachAct, cellAct, nextAttach, nextLoop}
 use Rattle.mitex_state.specs.declared.Attach.{Attach}
 use Rattle.mitex_state.specs.declared.Attach.the-variants.{Bare, Based, Split}
+use Rattle.mitex_state.specs.declared.Act.{Act}
 use Rattle.mitex_state.specs.declared.Act.the-variants.{Convert, Open}
-use Rattle.mitex_state.specs.declared.Loop.the-variants.{Named}
-use Rattle.mitex_loops.specs.Given.{ChildGiven}
+use Rattle.mitex_state.specs.declared.Loop.{Loop}
+use Rattle.mitex_state.specs.declared.Loop.the-variants.{Plain, Curly, Spaced, Attached, Greedy, Separated, Bracketed, Dollars, Arguments, Named, Inside, Figure, Table}
+use Rattle.mitex_loops.specs.Given.{ChildGiven, numberOf}
 
 -- ---- the bytes of a child, and the tree
 
@@ -87,3 +90,23 @@ module _ (k : ℕ) (name : List ℕ) (no-end : k ≡ TokenAmpersand → ⊥) (no
 pub named-next : (b : Bool) (n : ℕ) → Named (cond b (n + 1) n) ≡ cond b (Named (n + 1)) (Named n)
 named-next true n = refl
 named-next false n = refl
+
+number-by : (b : Bool) (n : ℕ) → numberOf (cond b (Named (n + 1)) (Named n)) ≤ n + 1
+number-by true n = omega arith
+number-by false n = omega arith
+
+-- the number of the next argument grows by at most one with each child
+pub number-next : (l : Loop) (k : ℕ) (a : Act) → numberOf (nextLoop l k a) ≤ numberOf l + 1
+number-next Plain k a = omega arith
+number-next (Curly blank) k a = omega arith
+number-next Spaced k a = omega arith
+number-next (Attached s) k a = omega arith
+number-next Greedy k a = omega arith
+number-next Separated k a = omega arith
+number-next Bracketed k a = omega arith
+number-next Dollars k a = omega arith
+number-next (Arguments dollars) k a = omega arith
+number-next (Named n) k a = number-by (eqb k ClauseArgument) n
+number-next Inside k a = omega arith
+number-next Figure k a = omega arith
+number-next (Table exterior) k a = omega arith
