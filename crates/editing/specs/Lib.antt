@@ -1,3 +1,4 @@
 pub mod Walk
 pub mod Edit
 pub mod Run
+pub mod Examples

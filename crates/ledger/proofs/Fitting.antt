@@ -1,6 +1,6 @@
 -- A ledger that fits. The code goes from row to row: what the rows from i on say decides the whole (`fits-next`). Of a ledger
 -- that fits, each row fits, and the lengths rise to the kept one (`fits-row`, `fits-rise`, `fits-end`).
-use mathlib.Core.Path.{_≡_, refl, sym, ap, ap₂, subst, _∙_}
+use mathlib.Core.Path.{_≡_, sym, ap, _∙_}
 use mathlib.Core.Bool.{Bool, true, false, _&&_, not, and-eq-true-iff}
 use mathlib.Core.List.{List}
 use Prim.Native.Nat.{ℕ, zero, suc, _+_, _*_, _-_, _/_, _≤_, _<_}
@@ -10,7 +10,7 @@ use lib.ListN.{length, drop}
 use lib.Seq.{drop-drop}
 use lib.Dec.{leb, eqb}
 use Rattle.text.specs.Numbers.{fourAt}
-use Rattle.ledger.specs.Ledger.{rowSize, HasRow, RowFits, rowAt, decodeRow, rowFits, rowsFit, fits, Movable}
+use Rattle.ledger.specs.Ledger.{rowSize, RowFits, rowAt, decodeRow, rowFits, rowsFit, fits, Movable}
 
 -- ---- from row to row
 

@@ -1,13 +1,12 @@
 -- Rows moved one after the other: those that are moved stand before the rest, which is as it was (`Moved`).
 use mathlib.Core.Path.{_≡_, refl, sym, ap, ap₂, subst, _∙_}
-use mathlib.Core.List.{List, [], _∷_, _++_, append-assoc, append-nil}
-use Prim.Native.Nat.{ℕ, zero, suc, _+_, _*_, _-_, _≤_, _<_}
+use mathlib.Core.List.{List, _++_, append-assoc, append-nil}
+use Prim.Native.Nat.{ℕ, zero, suc, _+_, _*_, _-_, _≤_}
 use native.Mathlib.Omega.{arith}
 use lib.ListN.{length, take, drop, length-append, length-drop}
 use lib.Seq.{sets, length-sets, length-take-le, drop-drop}
-use Rattle.text.specs.Numbers.{four}
 use Rattle.text.proofs.Writing.{sets-append}
-use Rattle.ledger.specs.Ledger.{Row, rowSize, rowAt, decodeRow, Movable, moveRow, moveRows}
+use Rattle.ledger.specs.Ledger.{rowSize, rowAt, decodeRow, Movable, moveRow, moveRows}
 use Rattle.ledger.proofs.Writing.{sets-drop}
 
 moveRow-length : (old new : ℕ) (l : List ℕ) → rowSize ≤ length l → length (moveRow old new l) ≡ rowSize

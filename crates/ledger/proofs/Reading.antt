@@ -2,7 +2,7 @@
 -- `labelMost` times its mark is short enough, and empty while unheld.
 use mathlib.Core.Path.{_≡_, refl, sym, ap, _∙_}
 use mathlib.Core.Bool.{Bool, true, false, _&&_, _||_, and-eq-true-iff, and-false}
-use mathlib.Core.List.{List, [], _∷_}
+use mathlib.Core.List.{List}
 use Prim.Native.Nat.{ℕ, zero, suc, _+_, _*_, _-_, _≤_, _<_}
 use native.Mathlib.Nat.{add-zero}
 use native.Mathlib.Numerals.{add-one}
@@ -13,8 +13,7 @@ use lib.Seq.{getD-drop, drop-drop, drop-cons}
 use lib.Dec.{leb, eqb}
 use Rattle.text.specs.Numbers.{fourAt}
 use Rattle.text.proofs.Numbers.{fourAt-drop}
-use Rattle.mitex_state.specs.Outcome.{Label, labelMost}
-use Rattle.mitex_state.specs.Outcome.Label.{unheld, held}
+use Rattle.mitex_state.specs.Outcome.{labelMost}
 use Rattle.mitex_state.specs.State.{labelOf}
 use Rattle.ledger.specs.Ledger.{rowSize, isHeld, labelBytes, Short, decodeRow, rowAt, allZero, marksFit, rowFits}
 

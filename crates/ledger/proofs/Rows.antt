@@ -3,11 +3,11 @@
 use mathlib.Core.Path.{_≡_, refl, sym, ap, ap₂, _∙_, subst}
 use mathlib.Core.Bool.{Bool, true, false, _||_}
 use mathlib.Core.List.{List, [], _∷_, _++_, append-assoc}
-use Prim.Native.Nat.{ℕ, zero, suc, _+_, _*_, _-_, _≤_, _<_}
+use Prim.Native.Nat.{ℕ, zero, suc, _+_, _*_, _-_, _<_}
 use native.Mathlib.Nat.{add-assoc, add-zero, zero-add}
 use native.Mathlib.Omega.{arith}
 use borrow.Author.Tests.{le-leb, eq-eqb}
-use lib.ListN.{length, take, drop, getD, replicate, length-append, length-replicate}
+use lib.ListN.{length, take, drop, replicate, length-append, length-replicate}
 use lib.Seq.{take-append-seam, drop-append-seam, take-at, drop-at}
 use lib.Dec.{leb, eqb}
 use Rattle.text.specs.Numbers.{four, fourAt}
@@ -15,7 +15,7 @@ use Rattle.text.proofs.Numbers.{fourAt-four}
 use Rattle.mitex_state.specs.Outcome.{Label, Carry, labelMost}
 use Rattle.mitex_state.specs.Outcome.Label.{unheld, held}
 use Rattle.mitex_state.specs.State.{labelOf}
-use Rattle.ledger.specs.Ledger.{Row, rowSize, mark, isHeld, labelBytes, Short, encodeCarry, encodeRow, encodeRows, decodeRow, decodeRows, allZero, padding, marksFit, rowFits, rowsFit, fits, moveRow, moveRows, Piece, written, rowsFrom}
+use Rattle.ledger.specs.Ledger.{Row, rowSize, mark, isHeld, labelBytes, Short, encodeCarry, encodeRow, encodeRows, decodeRow, decodeRows, allZero, marksFit, rowFits, rowsFit, fits, moveRow, moveRows, Piece, written, rowsFrom}
 
 -- rows that can be written
 pub record Encodable (r : Row) : Type 0 where

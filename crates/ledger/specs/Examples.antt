@@ -1,12 +1,11 @@
 -- Worked rows.
 use mathlib.Core.Path.{_≡_, refl}
-use mathlib.Core.Bool.{Bool, true, false}
+use mathlib.Core.Bool.{true, false}
 use mathlib.Core.List.{List, [], _∷_, _++_}
 use Prim.Native.Nat.{ℕ}
 use lib.ListN.{replicate}
-use Rattle.mitex_state.specs.Outcome.{Label, Carry}
 use Rattle.mitex_state.specs.Outcome.Label.{unheld, held}
-use Rattle.ledger.specs.Ledger.{Row, encodeCarry, encodeRow, decodeRow, allZero, marksFit, rowFits, fits, moveRow, sameCarry, Piece, rowsFrom, encodeRows}
+use Rattle.ledger.specs.Ledger.{Row, encodeCarry, encodeRow, decodeRow, allZero, marksFit, rowFits, fits, moveRow, sameCarry, rowsFrom, encodeRows}
 
 abbrev labelled : Row
 labelled = record { end = 258; carry = record { flag = true; label = held (101 ∷ []) } }

@@ -1,6 +1,6 @@
 -- The parts one after the other are the whole row (`row-filled`).
 use mathlib.Core.Path.{_≡_, sym, _∙_}
-use lib.ListN.{length, length-map, length-take, length-drop}
+use lib.ListN.{length, length-map}
 use Rattle.mitex_state.specs.Outcome.{labelMost}
 use Rattle.ledger.proofs.Writing.{row-filled}
 use borrow.Author.Needs.{needs}
