@@ -1,0 +1,83 @@
+-- The end of an environment that hands its walk on as it is: a refusal, a list, or one that ends in Math.
+use mathlib.Core.Path.{_≡_, refl, sym, ap, subst, _∙_}
+use mathlib.Core.Bool.{Bool, true, false}
+use mathlib.Core.List.{List, []}
+use Prim.Native.Nat.{ℕ, _≤_}
+use Rattle.text.specs.Writing.{cap, Wrote}
+use Rattle.text.proofs.Writing.{wrote-nil}
+use Rattle.mitex_state.specs.Outcome.{Carry, Label, labelMost, labelled}
+use Rattle.mitex_state.specs.Outcome.Label.{unheld}
+use Rattle.mitex_state.specs.State.{carryOf, Carried}
+use Rattle.mitex_state.specs.Contract.{placeOf, Went, Takes}
+use Rattle.mitex_state.specs.Environments.{taken, dropped, heldText}
+use Rattle.mitex_state.specs.declared.LaTeXMode.{LaTeXMode}
+use Rattle.mitex_state.specs.declared.LaTeXMode.the-variants.{Text, Math}
+use Rattle.mitex_state.specs.declared.Converter.{Converter}
+use Rattle.mitex_state.specs.declared.Walked.{Walked}
+
+taken-math : (list : Bool) (l : Label) → taken list Math l ≡ []
+taken-math true l = refl
+taken-math false l = refl
+
+dropped-math : (list : Bool) (c : Carry) → dropped list Math c ≡ c
+dropped-math true c = refl
+dropped-math false c = refl
+
+module _ {a : Walked} {out : List ℕ} where
+  pub takes-refused : (list : Bool) (m : LaTeXMode) → (a .refusal ≡ 0 → ⊥) → Takes a list m out a out
+  takes-refused list m z =
+      record {
+        refused-on = λ h. (refl, refl);
+        accepted = λ h. h;
+        placed-so = λ h. refl;
+        carry = λ h. absurd (z h);
+        short = λ h. absurd (z h);
+        written = λ h. absurd (z h);
+      }
+
+  -- nothing is taken
+  takes-none :
+      (list : Bool) (m : LaTeXMode) → (a .refusal ≡ 0 → (a .at ≤ cap) × (a .converter .«label_len» ≤ labelMost))
+      → ((l : Label) → taken list m l ≡ []) → ((c : Carry) → dropped list m c ≡ c) → Takes a list m out a out
+  takes-none list m h t d =
+      record {
+        refused-on = λ z. (refl, refl);
+        accepted = λ z. z;
+        placed-so = λ z. refl;
+        carry = λ z. sym (d (carryOf (a .converter)));
+        short = λ z. h z .1;
+        written = λ z. subst (λ (w : List ℕ). Wrote (a .at) out w (a .at) out) (sym (t (carryOf (a .converter) .label))) (wrote-nil (a .at) out (h z .0));
+      }
+
+  pub takes-list :
+      {list : Bool} (m : LaTeXMode) → (a .refusal ≡ 0 → (a .at ≤ cap) × (a .converter .«label_len» ≤ labelMost)) → list ≡ true → Takes a list m out a out
+  takes-list {list} m h e =
+      takes-none list m h (λ l. ap (λ (b : Bool). taken b m l) e) (λ c. ap (λ (b : Bool). dropped b m c) e)
+
+  pub takes-math :
+      (list : Bool) {m : LaTeXMode} → (a .refusal ≡ 0 → (a .at ≤ cap) × (a .converter .«label_len» ≤ labelMost)) → m ≡ Math → Takes a list m out a out
+  takes-math list {m} h e =
+      takes-none list m h (λ l. ap (λ (x : LaTeXMode). taken list x l) e ∙ taken-math list l)
+      (λ c. ap (λ (x : LaTeXMode). dropped list x c) e ∙ dropped-math list c)
+
+-- in Text, where it is no list
+pub takes-as :
+    {a r : Walked} {list : Bool} {m : LaTeXMode} {out out′ : List ℕ} → list ≡ false → m ≡ Text → Takes a false Text out r out′ → Takes a list m out r out′
+takes-as {a} {r} {list} {m} {out} {out′} e q t =
+    subst (λ (b : Bool). Takes a b m out r out′) (sym e) (subst (λ (x : LaTeXMode). Takes a false x out r out′) (sym q) t)
+
+-- the held label is written and dropped
+pub takes-dropped :
+    {a r : Walked} {d : Converter} {p : ℕ} {out out′ : List ℕ} → a .refusal ≡ 0 → a .converter .«label_len» ≤ labelMost
+    → Carried (a .converter) (labelled unheld (carryOf (a .converter))) d → Went d p r
+    → Wrote (a .at) out (heldText (carryOf (a .converter) .label)) p out′ → Takes a false Text out r out′
+takes-dropped {a} {r} {d} {p} {out} {out′} z l m g w =
+    let same : placeOf d ≡ placeOf (a .converter) = λ i. record { mode = m .mode i; env = m .env i; indent = m .indent i } in
+    record {
+      refused-on = λ h. absurd (h z);
+      accepted = λ h. g .well;
+      placed-so = λ h. ap placeOf (g .gives) ∙ same;
+      carry = λ h. ap carryOf (g .gives) ∙ m .carry;
+      short = λ h. subst (λ (c : Converter). c .«label_len» ≤ labelMost) (sym (g .gives)) (m .short l);
+      written = λ h. subst (λ (q : ℕ). Wrote (a .at) out (heldText (carryOf (a .converter) .label)) q out′) (sym (g .next)) w;
+    }
