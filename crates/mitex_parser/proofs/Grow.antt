@@ -151,10 +151,6 @@ grow-sound (nod k n ∷ ls) f e =
     ∙ ap (λ m. nod k m ∷ linesOfs g ++ linesOfs h) (sym (s .so-many))
     ∙ ap linesOfs (sym (w .1 .1 .1 .2))
 
-before-before : (f g : Forest) (o : Option Forest) → before f (before g o) ≡ before (join f g) o
-before-before f g nothing = refl
-before-before f g (some h) = ap some (sym (join-assoc f g h))
-
 before-over : (t : Tree) (f : Forest) (o : Option Forest) → over t (before f o) ≡ before (more t f) o
 unfolding join
 before-over t f nothing = refl
@@ -164,12 +160,7 @@ closed-before : (k : ℕ) (f : Forest) (o : Option Forest) → closed k (splits 
 closed-before k f nothing = refl
 closed-before k f (some g) = ap (closed k) (split-join f g)
 
-over-before : (t : Tree) (o : Option Forest) → over t o ≡ before (more t none) o
-unfolding join
-over-before t nothing = refl
-over-before t (some g) = refl
-
-none-before : (o : Option Forest) → o ≡ before none o
+pub none-before : (o : Option Forest) → o ≡ before none o
 unfolding join
 none-before nothing = refl
 none-before (some f) = refl

@@ -24,7 +24,7 @@ use Rattle.mitex_parser.specs.Shape.{isSome}
 use Rattle.mitex_parser.specs.Parts.{bytesOf, Fits, underOf, Nested}
 use Rattle.mitex_parser.specs.declared.Nest.{Nest}
 use Rattle.mitex_parser.specs.declared.Nest.the-variants.{Deep, Fine}
-use Rattle.mitex_parser.proofs.Grow.{join, no-some, linesOf, linesOfs, before, pair, grow-cut, grow-sound, length-liness, split-sound, sizes-join, join-assoc, join-none}
+use Rattle.mitex_parser.proofs.Grow.{join, no-some, none-before, linesOf, linesOfs, before, pair, grow-cut, grow-sound, length-liness, split-sound, sizes-join, join-assoc, join-none}
 use Rattle.mitex_parser.proofs.Rows.{fits-drop}
 
 -- how many rows lie under a row
@@ -143,11 +143,6 @@ pub record Turn (ls : List Line) (left : ℕ) (rest : List ℕ) : Type 0 where
   pub fit : Fits ms
   pub same : grow ls ≡ before done (grow ms)
   pub low : depths done ≤ left
-
-none-before : (o : Option Forest) → o ≡ before none o
-unfolding join
-none-before nothing = refl
-none-before (some f) = refl
 
 pub turn-start : (ls : List Line) (left : ℕ) (rows : List ℕ) → rows ≡ bytesOf ls → Fits ls → Turn ls left rows
 unfolding depth
@@ -502,28 +497,3 @@ rest-end {ls} {rest} w h =
     let go : (ms : List Line) → rest ≡ bytesOf ms → isSome (grow ms) ≡ true = λ ms. elim ms
     [ [] ↦ λ p. refl | _∷_ l ns ↦ λ p. absurd (omega (arith, ap length p, length-bytes (l ∷ ns))) ] in
     sym (w .same ∙ go (w .ms) (w .spelt))
-
--- what is left is shorter, in the shapes that the code's needs have
-pub falls-by : (l rows : List ℕ) (n t : ℕ) → 8 + 8 * n ≤ length l → length l ≤ length rows → length rows ≡ t → length (take (8 + 8 * n - 8) (drop 8 l)) < t
-falls-by l rows n t h k e = omega (arith, child-length l n h)
-
-pub less-by : (l : List ℕ) (n : ℕ) → 8 ≤ length l → length (take (length l - (8 + 8 * n)) (drop (8 + 8 * n) l)) < length l
-less-by l n h = omega (arith, past-length l (8 + 8 * n))
-
-pub past-low : (l : List ℕ) (e k : ℕ) → length l ≤ k → length (take (length l - e) (drop e l)) ≤ k
-past-low l e k h = omega (arith, past-length l e)
-
-pub past-at : (l : List ℕ) (n at k : ℕ) → at + length l ≤ k → 8 + 8 * n ≤ length l → at + 1 + n + length (take (length l - (8 + 8 * n)) (drop (8 + 8 * n) l)) ≤ k
-past-at l n at k h g = omega (arith, past-length l (8 + 8 * n))
-
-pub past-used : (t : List ℕ) (m used k : ℕ) → used + length t ≡ k → m ≤ length t → used + m + length (take (length t - m) (drop m t)) ≡ k
-past-used t m used k h g = omega (arith, past-length t m)
-
-pub few-by : (l : List ℕ) (n : ℕ) → 8 + 8 * n ≤ length l → length l ≤ 65536 → length (take (8 + 8 * n - 8) (drop 8 l)) ≤ 65536
-few-by l n h k = omega (arith, child-length l n h)
-
-pub child-at : (l : List ℕ) (n at k : ℕ) → at + length l ≤ k → 8 + 8 * n ≤ length l → k ≤ 131072 → at + 1 + length (take (8 + 8 * n - 8) (drop 8 l)) ≤ 131072
-child-at l n at k h g j = omega (arith, child-length l n g)
-
-pub room-by : {m n k : ℕ} → m ≡ n → n ≤ k → m ≤ k
-room-by e h = omega arith

@@ -1,23 +1,17 @@
 -- Rules on commands and environments, from the places that the views find.
-use mathlib.Core.Path.{_≡_, sym, ap, subst, _∙_}
+use mathlib.Core.Path.{_≡_, sym, ap, _∙_}
 use mathlib.Core.Bool.{Bool, true, false, _&&_}
 use mathlib.Core.Option.Option.{none as nothing, some}
 use mathlib.Core.List.{List}
-use Prim.Native.Nat.{ℕ, _+_, _-_, _≤_, _<_}
+use Prim.Native.Nat.{ℕ}
 use native.Mathlib.Omega.{arith}
 use lib.Dec.{eqb}
-use lib.ListN.{length, take, drop, length-take, length-drop}
-use lib.Seq.{take-add, drop-drop, drop-at, length-take-le}
-use Rattle.text.specs.Writing.{cap}
 use Rattle.mitex_syntax.specs.Syntax.{ItemBegin, TokenCommandSym}
 use Rattle.mitex_syntax.specs.Tree.{Tree, Forest}
 use Rattle.mitex_syntax.specs.Views.{firstBy, isOf, childrenOf, childrenIn, firstTokens, kindIn, cmdName}
-use Rattle.mitex_syntax.specs.Spells.{Begins, SomeForest}
-use Rattle.mitex_syntax.specs.Places.{Stands, Placed, partAt}
+use Rattle.mitex_syntax.specs.Places.{Placed, partAt}
 use Rattle.mitex_syntax.specs.Places.Placed.{missing, there}
 use Rattle.mitex_syntax.specs.declared.Place.{Place}
-use Rattle.mitex_syntax.proofs.Trees.{children-begin}
-use Rattle.mitex_syntax.proofs.Places.{some-forest}
 use Rattle.mitex_parser.specs.Shape.{isSome, slashed, goodEnds, endsIn, argumentsFit, cmdFits, envFits}
 use Rattle.mitex_parser.specs.Parts.{isThere}
 
@@ -50,29 +44,6 @@ cmd-unnamed f name n b e h =
     sym (ap (λ x. x && argumentsFit (cmdName f) f) y)
 
 -- ---- an environment by its first ItemBegin
-
--- the rows under an element's own
-under-part : (rows : List ℕ) (a b : ℕ) → a + 8 ≤ b → b ≤ length rows → drop 8 (take (b - a) (drop a rows)) ≡ take (b - (a + 8)) (drop (a + 8) rows)
-under-part rows a b h k =
-    let l = drop a rows in
-    let long : 8 ≤ length l = omega (arith, length-drop a rows) in
-    let m : b - a ≡ 8 + (b - (a + 8)) = omega arith in
-    ap (λ n. drop 8 (take n l)) m
-    ∙ ap (drop 8) (take-add 8 (b - (a + 8)) l)
-    ∙ drop-at (take 8 l) (take (b - (a + 8)) (drop 8 l)) 8 (length-take-le 8 l long)
-    ∙ ap (take (b - (a + 8))) (drop-drop 8 a rows)
-
-module _ {p : Tree → Bool} {f : Forest} {rows text : List ℕ} {i a b c d : ℕ} (s : Stands p f rows text i a b c d) where
-  -- the children of what was found
-  pub stands-under : Begins (childrenOf (s .tree)) (take (b - (a + 8)) (drop (a + 8) rows)) (take (d - c) (drop c text))
-  stands-under =
-      subst (λ r. Begins (childrenOf (s .tree)) r (take (d - c) (drop c text))) (under-part rows a b (s .some-rows) (s .end)) (children-begin (s .tree) (s .spells))
-
-  pub stands-forest : length rows < cap → length text < cap → SomeForest (take (b - (a + 8)) (drop (a + 8) rows)) (take (d - c) (drop c text)) 0 0
-  stands-forest few short =
-      some-forest stands-under
-      (omega (arith, length-take (b - (a + 8)) (drop (a + 8) rows), length-drop (a + 8) rows))
-      (omega (arith, length-take (d - c) (drop c text), length-drop c text))
 
 pub env-none : (f : Forest) → firstBy (isOf ItemBegin) f ≡ nothing → false ≡ envFits f
 unfolding firstTokens

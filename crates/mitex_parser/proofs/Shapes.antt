@@ -19,11 +19,11 @@ use Rattle.mitex_syntax.specs.Rows.{extentOf, tokenSum, Spans}
 use Rattle.mitex_syntax.specs.Views.{childrenOf}
 use Rattle.mitex_syntax.specs.Spells.{tokenFits, Sound, Spells, SpellsAll, Begins, SomeForest}
 use Rattle.mitex_syntax.proofs.Trees.{length-rows, size-some, Element, element, all-begins, no-left, rows-e, past-exact, spans, part, part-spells, Child, child, kind-spelt, token-spelt, node-spelt, under}
+use Rattle.mitex_syntax.proofs.Places.{some-children}
 use Rattle.mitex_parser.specs.Shape.{slashed, backslash, symFits, lrFits, nodeFits, unless, orElse, lowest, lowests}
 use Rattle.mitex_parser.specs.Parts.{shapeOf, Checkable}
 use Rattle.mitex_parser.specs.declared.Shape.{Shape}
 use Rattle.mitex_parser.specs.declared.Shape.the-variants.{Right, Breaks}
-use Rattle.mitex_parser.proofs.Nesting.{part-past, past-length}
 
 -- what the walk's answer says
 pub shape-breaks : (o : Option ℕ) (r : ℕ) → shapeOf o ≡ Breaks r → o ≡ some r
@@ -153,18 +153,11 @@ pub record Stands (rows text : List ℕ) (up row k i j at : ℕ) : Type 0 where
   pub walk : (t : Tree) → Spells t rows text → Walk t up row k rows text i j at
 
 -- the children of the element that is given
-pub asked-forest : {rows text : List ℕ} {row : ℕ} → Checkable rows text row → (getD rows 1 0 ≡ 1 → ⊥)
-    → SomeForest (take (length rows - 8) (drop 8 rows)) text 0 0
-asked-forest {rows} {text} a mark =
-    let sp = node-under (a .given .spells) mark in
-    record {
-      few = let q = a .few in omega (arith, past-length rows 8);
-      short = let q = a .short in omega arith;
-      low = omega arith;
-      begun = omega arith;
-      forest = childrenOf (a .given .tree);
-      begins = subst (λ r. Begins (childrenOf (a .given .tree)) r text) (sym (part-past rows 8)) (all-begins sp);
-    }
+pub asked-forest : {rows text : List ℕ} {row : ℕ} → Checkable rows text row → SomeForest (take (length rows - 8) (drop 8 rows)) text 0 0
+asked-forest a =
+    let few = a .few in
+    let short = a .short in
+    some-children (a .given .tree) (a .given .spells) (omega arith) (omega arith)
 
 module _ {rows text : List ℕ} {up row k i j at : ℕ} (s : Stands rows text up row k i j at) (h : i < length rows) where
   -- the child at which the loop stands, of any tree that is spelt, and of the one that is given

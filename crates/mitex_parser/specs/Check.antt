@@ -14,17 +14,28 @@ use Rattle.mitex_parser.specs.Shape.{lowest}
 use Rattle.mitex_parser.specs.declared.Checked.{Checked}
 use Rattle.mitex_parser.specs.declared.Checked.the-variants.{Whole, Refused}
 
+-- the refusals, in checking order
+abbrev pub badLayout : ℕ
+badLayout = 3
+
+abbrev pub tooDeep : ℕ
+tooDeep = 4
+
+abbrev pub badShape : ℕ
+badShape = 5
+
+-- refused, with number and row, or accepted as a tree
 pub data Verdict : Type 0 where
   refused : ℕ → ℕ → Verdict
   accepted : Tree → Verdict
 
 abbrev pub byShape : Tree → Option ℕ → Verdict
-byShape t (some row) = refused 5 row
+byShape t (some row) = refused badShape row
 byShape t nothing = accepted t
 
 abbrev pub byDepth : Option Tree → Verdict
-byDepth nothing = refused 3 0
-byDepth (some t) = cond (leb (depth t) depthMost) (byShape t (lowest 0 0 t)) (refused 4 0)
+byDepth nothing = refused badLayout 0
+byDepth (some t) = cond (leb (depth t) depthMost) (byShape t (lowest 0 0 t)) (refused tooDeep 0)
 
 -- all of 3 is decided for the whole file before 4, and 4 before 5
 unfoldable pub checkTree : List ℕ → Verdict

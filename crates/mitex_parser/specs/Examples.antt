@@ -2,6 +2,7 @@
 use mathlib.Core.Path.{_≡_, refl}
 use Prim.Native.Nat.{ℕ, zero, suc}
 use mathlib.Core.List.{List, [], _∷_, _++_, map}
+use lib.ListN.{replicate}
 use Rattle.text.specs.Ascii.{ascii}
 use Rattle.text.specs.Compare.{same}
 use Rattle.text.specs.Numbers.{four}
@@ -149,12 +150,23 @@ file text rows start count = text ++ (rows ++ four start (four count []))
 abbrev over : ℕ → List ℕ → ℕ → List ℕ
 over n rows count = file (ascii "a") (row ScopeRoot 0 n ++ rows) 1 count
 
-files :
+files-fit :
     map (λ b. answerOf (checkTree b)) (
     over 1 (row TokenWord 1 1) 2
-    ∷ []
-    ∷ file [] [] 0 0
     ∷ file [] (row ScopeRoot 0 0) 0 1
+    ∷ over 3 (row ItemCurly 0 2 ++ (row ItemCurly 0 0 ++ row TokenWord 1 1)) 4
+    ∷ []
+    )
+    ≡ (Whole 1 2 1 ∷ Whole 0 1 0 ∷ Whole 1 4 1 ∷ [])
+unfolding checkTree decode rowsOf textOf size lines rowAt grow split valid run count depth lowest
+files-fit = refl
+
+-- no trailer or no rows; a root that is none, or not over all rows; text left over; a wrong count; kinds, marks and zero bytes; a
+-- token without text; a child that ends after its parent; no UTF-8
+files-break :
+    map (λ b. answerOf (checkTree b)) (
+    []
+    ∷ file [] [] 0 0
     ∷ file [] (row ItemCurly 0 0) 0 1
     ∷ file [] (row ScopeRoot 0 0 ++ row ItemCurly 0 0) 0 2
     ∷ file (ascii "a") (row ScopeRoot 0 0) 1 1
@@ -170,38 +182,13 @@ files :
     ∷ over 1 (15 ∷ 1 ∷ 1 ∷ 0 ∷ four 1 []) 2
     ∷ over 1 (15 ∷ 1 ∷ 0 ∷ 1 ∷ four 1 []) 2
     ∷ over 2 (row TokenWord 1 1 ++ row TokenWord 1 0) 3
-    ∷ over 3 (row ItemCurly 0 2 ++ (row ItemCurly 0 0 ++ row TokenWord 1 1)) 4
     ∷ over 3 (row ItemCurly 0 1 ++ (row ItemCurly 0 1 ++ row TokenWord 1 1)) 4
     ∷ file (130 ∷ []) (row ScopeRoot 0 1 ++ row TokenWord 1 1) 1 2
     ∷ []
     )
-    ≡ (
-    Whole 1 2 1
-    ∷ Refused 3 0
-    ∷ Refused 3 0
-    ∷ Whole 0 1 0
-    ∷ Refused 3 0
-    ∷ Refused 3 0
-    ∷ Refused 3 0
-    ∷ Refused 3 0
-    ∷ Refused 3 0
-    ∷ Refused 3 0
-    ∷ Refused 3 0
-    ∷ Refused 3 0
-    ∷ Refused 3 0
-    ∷ Refused 3 0
-    ∷ Refused 3 0
-    ∷ Refused 3 0
-    ∷ Refused 3 0
-    ∷ Refused 3 0
-    ∷ Refused 3 0
-    ∷ Whole 1 4 1
-    ∷ Refused 3 0
-    ∷ Refused 3 0
-    ∷ []
-    )
+    ≡ replicate 19 (Refused 3 0)
 unfolding checkTree decode rowsOf textOf size lines rowAt grow split valid run count depth lowest
-files = refl
+files-break = refl
 
 -- ---- limits
 

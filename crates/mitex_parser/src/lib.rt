@@ -6,7 +6,6 @@ ghost use Prim.Native.Nat.{ℕ, _*_, _≤_, _<_};
 ghost use lib.ListN.{length};
 ghost use Rattle.text.specs.Writing.{cap};
 ghost use Rattle.mitex_syntax.specs.Tree.{Tree, Forest, rowsOfs, count};
-ghost use Rattle.mitex_syntax.specs.Tree.Tree.{node};
 ghost use Rattle.mitex_syntax.specs.Syntax.{ItemCurly, ItemBracket};
 ghost use Rattle.mitex_syntax.specs.Views.{textIn, argumentWith};
 ghost use Rattle.mitex_syntax.specs.Spells.{tokenFits, Spells, SpellsAll, Begins, SomeForest};
@@ -39,6 +38,13 @@ use mitex_syntax::text_at;
 use text::read_u32;
 use text::same;
 use utf8::valid;
+
+// The refusals of a tree file, in checking order.
+const BAD_LAYOUT: u8 = 3;
+
+const TOO_DEEP: u8 = 4;
+
+const BAD_SHAPE: u8 = 5;
 
 // A file is at most so many bytes.
 const FILE_MOST: usize = 65536;
@@ -532,11 +538,20 @@ fn check_deep(rows: &[u8]) -> Checked
     ensures { λ r. ⌜ ((ls : List Line) → now (rows .entry) ≡ bytesOf ls → Fits ls → Nested (grow ls) depthMost Deep → r ≡ answerTo (grow ls)) ⌝ }
 {
     if !whole(rows) {
-        return Checked::Refused { number: 3, row: 0 };
+        return Checked::Refused {
+            number: BAD_LAYOUT,
+            row: 0,
+        };
     }
     match root_blocks(rows) {
-        Blocks::Amiss => Checked::Refused { number: 3, row: 0 },
-        Blocks::Are(_) => Checked::Refused { number: 4, row: 0 },
+        Blocks::Amiss => Checked::Refused {
+            number: BAD_LAYOUT,
+            row: 0,
+        },
+        Blocks::Are(_) => Checked::Refused {
+            number: TOO_DEEP,
+            row: 0,
+        },
     }
 }
 
@@ -546,9 +561,15 @@ fn check_root(rows: &[u8], text: &[u8]) -> Checked
     ensures { λ r. ⌜ ((f : Forest) → SpellsAll f (now (rows .entry)) (now (text .entry)) → depths f ≤ depthMost → r ≡ answerTo (some f)) ⌝ }
 {
     match root_blocks(rows) {
-        Blocks::Amiss => Checked::Refused { number: 3, row: 0 },
+        Blocks::Amiss => Checked::Refused {
+            number: BAD_LAYOUT,
+            row: 0,
+        },
         Blocks::Are(blocks) => match check_shape(rows, text, 0, 0) {
-            Shape::Breaks(row) => Checked::Refused { number: 5, row },
+            Shape::Breaks(row) => Checked::Refused {
+                number: BAD_SHAPE,
+                row,
+            },
             Shape::Right => Checked::Whole {
                 start: text.len(),
                 rows: rows.len() / 8,
@@ -564,10 +585,16 @@ fn check_areas(rows: &[u8], text: &[u8]) -> Checked
     ensures { λ r. ⌜ ((n : ℕ) → length (now (rows .entry)) ≡ 8 * n → r ≡ answerTo (grows (lines n (now (rows .entry)) (now (text .entry))))) ⌝ }
 {
     if !lines_fit(rows, text) {
-        return Checked::Refused { number: 3, row: 0 };
+        return Checked::Refused {
+            number: BAD_LAYOUT,
+            row: 0,
+        };
     }
     match check_rows(rows, DEPTH_MOST) {
-        Nest::Broken => Checked::Refused { number: 3, row: 0 },
+        Nest::Broken => Checked::Refused {
+            number: BAD_LAYOUT,
+            row: 0,
+        },
         Nest::Deep => check_deep(rows),
         Nest::Fine => check_root(rows, text),
     }
@@ -579,16 +606,25 @@ pub fn check_tree(file: &[u8]) -> Checked
 {
     let len = file.len();
     if len < 8 {
-        return Checked::Refused { number: 3, row: 0 };
+        return Checked::Refused {
+            number: BAD_LAYOUT,
+            row: 0,
+        };
     }
     if FILE_MOST < len {
-        return Checked::Refused { number: 3, row: 0 };
+        return Checked::Refused {
+            number: BAD_LAYOUT,
+            row: 0,
+        };
     }
     let end = len - 8;
     let start = read_u32(file, end);
     let count = read_u32(file, end + 4);
     if start + 8 * count + 8 != len {
-        return Checked::Refused { number: 3, row: 0 };
+        return Checked::Refused {
+            number: BAD_LAYOUT,
+            row: 0,
+        };
     }
     check_areas(&file[start..end], &file[..start])
 }

@@ -3,16 +3,15 @@
 use native.Mathlib.Omega.{arith}
 use borrow.Author.Needs.{needs}
 use borrow.Author.Tests.{not-true, not-false}
-use mathlib.Core.Path.{_≡_, subst, sym}
+use mathlib.Core.Path.{_≡_}
 use mathlib.Core.List.{List}
 use lib.ListN.{length, getD}
 use Rattle.mitex_syntax.specs.Tree.{Tree}
-use Rattle.mitex_syntax.specs.Spells.{Spells, Begins}
+use Rattle.mitex_syntax.specs.Spells.{Spells}
 use Rattle.mitex_syntax.specs.Views.{childrenOf}
-use Rattle.mitex_syntax.proofs.Trees.{Child, rows-some, all-begins}
+use Rattle.mitex_syntax.proofs.Trees.{Child, rows-some, children-part}
 use Rattle.mitex_parser.specs.Shape.{nodeFits}
-use Rattle.mitex_parser.proofs.Nesting.{part-past}
-use Rattle.mitex_parser.proofs.Shapes.{shape-token, node-under, node-breaks, walk-start, walk-end, asked-forest, Stands, stands-spans, stands-child, stands-asks, stands-breaks, stands-next}
+use Rattle.mitex_parser.proofs.Shapes.{shape-token, node-breaks, walk-start, walk-end, asked-forest, Stands, stands-spans, stands-child, stands-asks, stands-breaks, stands-next}
 use Prim.Native.Nat.{ℕ, _-_, _<_}
 use borrow.Fn.Kinds.{In}
 use borrow.Fn.PlainCycle.{Measures, is, falls, and}
@@ -75,8 +74,7 @@ nodeOf t c = c .before .before
 -- the node may be so, or not
 node-fits : (t : ℕ) (c : AtNode t) (u : Tree) → Spells u (rowsAt t c) (textAt t c) → c .node-fits .result ≡ nodeFits (getD (rowsAt t c) 0 0) (childrenOf u)
 node-fits t c u sp =
-    c .node-fits .ensures (childrenOf u)
-    (subst (λ r. Begins (childrenOf u) r (textAt t c)) (sym (part-past (rowsAt t c) 8)) (all-begins (node-under sp (c .before .before .if1 .left))))
+    c .node-fits .ensures (childrenOf u) (children-part u sp)
 
 -- the child's part
 part-here : (t : ℕ) (c : AtChild t) → let node = nodeOf t (turn t c) in let at = turn t c .loop in let s = c .span-at .result in
@@ -114,7 +112,7 @@ check-shape-part-node-fits-end : (t : ℕ) → check-shape-lts.Need-part-node-fi
 check-shape-part-node-fits-end t c = omega arith
 
 check-shape-node-fits-requires : (t : ℕ) → check-shape-lts.Need-node-fits-requires (check-shape-calls t) (check-shape-at t) check-shape.Post check-shape-Inv-loop check-shape-μ-loop
-check-shape-node-fits-requires t c κs = let other = c .before in asked-forest (other .before .before .before .before .before .pre .1) (other .if1 .left)
+check-shape-node-fits-requires t c κs = let other = c .before in asked-forest (other .before .before .before .before .before .pre .1)
 
 check-shape-returns-2 : (t : ℕ) → check-shape-lts.Need-returns-2 (check-shape-calls t) (check-shape-at t) check-shape.Post check-shape-Inv-loop check-shape-μ-loop
 check-shape-returns-2 t c =

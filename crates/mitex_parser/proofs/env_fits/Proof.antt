@@ -6,8 +6,8 @@ use Rattle.mitex_syntax.specs.Tree.{Forest}
 use Rattle.mitex_syntax.specs.Views.{isOf}
 use Rattle.mitex_syntax.specs.Spells.{Begins}
 use Rattle.mitex_syntax.specs.Places.{Stands}
-use Rattle.mitex_syntax.proofs.Places.{stands, nowhere}
-use Rattle.mitex_parser.proofs.Rules.{stands-under, stands-forest, env-none, env-some}
+use Rattle.mitex_syntax.proofs.Places.{stands, nowhere, found-children, found-some}
+use Rattle.mitex_parser.proofs.Rules.{env-none, env-some}
 use Rattle.mitex_parser.proofs.env_fits.Statement.{statement}
 use Rattle.mitex_parser.proofs.env_fits.Tie as tie
 
@@ -56,7 +56,7 @@ part-first-token-end-2 : tie.Need-part-first-token-end-2
 part-first-token-end-2 c = some-begun (c .before .before) .stop
 
 first-token-requires : tie.Need-first-token-requires
-first-token-requires c κs = let at = c .before .before .before in let p = entry at .pre in stands-forest (some-begun at) (p .few) (p .short)
+first-token-requires c κs = let at = c .before .before .before in let p = entry at .pre in found-some (some-begun at) (p .few) (p .short)
 
 returns : tie.Need-returns
 returns c = λ f sp. env-none f (nowhere (c .before .before .find-kind .ensures f sp) (c .enum-told .given .1))
@@ -67,7 +67,7 @@ returns-2 c =
     let at = called .before .before .before .before in
     λ f sp.
     let s = begun at f sp in
-    env-some f (s .tree) (s .is) (called .first-token .result .kind) (called .first-token .ensures _ (stands-under s) .kind)
+    env-some f (s .tree) (s .is) (called .first-token .result .kind) (called .first-token .ensures _ (found-children s) .kind)
 
 pub env-fits-spec : {M : Type 1} → statement M
 env-fits-spec =
