@@ -3,25 +3,29 @@
 ghost use mathlib.Core.Path.{_≡_};
 ghost use mathlib.Core.Bool.{false};
 ghost use mathlib.Core.List.{_++_};
-ghost use Prim.Native.Nat.{_≤_};
+ghost use Prim.Native.Nat.{ℕ, _+_, _*_, _≤_};
 ghost use lib.ListN.{length};
 ghost use Rattle.text.specs.Ascii.{ascii};
 ghost use Rattle.text.specs.Writing.{cap, Wrote};
 ghost use Rattle.mitex_syntax.specs.Syntax.{ClauseArgument};
-ghost use Rattle.mitex_syntax.specs.Tree.{Forest};
-ghost use Rattle.mitex_syntax.specs.Views.{firstOf, textIn, beginOf};
-ghost use Rattle.mitex_syntax.specs.Spells.{SpellsAll, SomeForest};
+ghost use Rattle.mitex_syntax.specs.Tree.{Tree, Forest, size};
+ghost use Rattle.mitex_syntax.specs.Views.{firstOf, textIn, beginOf, childrenOf};
+ghost use Rattle.mitex_syntax.specs.Spells.{Spells, SpellsAll, SomeForest};
 ghost use Rattle.mitex_state.specs.Outcome.{labelMost};
 ghost use Rattle.mitex_state.specs.State.{labelOf};
 ghost use Rattle.mitex_state.specs.Contract.{Place, Closed, Takes};
-ghost use Rattle.mitex_state.specs.Environments.{envOf, isList, envBegin, envEnd, heldText};
-ghost use Rattle.mitex_state.specs.Parts.{BeginFound};
+ghost use Rattle.mitex_state.specs.Environments.{envOf, isList, envBegin, envEnd, heldText, isCaption, captionAt};
+ghost use Rattle.mitex_state.specs.Parts.{between, BeginFound, CaptionFound};
 ghost use Rattle.mitex_environments.specs.Plain.{isPlain};
+ghost use Rattle.mitex_environments.specs.Captions.{ChildAt, captionIn, Shows, laterPart};
+use mitex_state::CaptionPart;
 use mitex_state::Converter;
 use mitex_state::LaTeXEnv;
 use mitex_state::LaTeXMode;
 use mitex_state::Part;
 use mitex_state::Walked;
+use mitex_syntax::CLAUSE_ARGUMENT;
+use mitex_syntax::ITEM_CMD;
 use mitex_syntax::Place;
 
 // The classes of environments, in the order of `ContextFeature`; from 3 on, and any other is None.
@@ -219,4 +223,81 @@ pub fn table_argument<'a>(rows: &[u8], text: &'a [u8]) -> &'a [u8]
             mitex_commands::argument_text(&rows[row + 8..end], &text[from..to])
         }
     }
+}
+
+// ---- captions
+
+// Whether the child in rows i to e and text j to u is a caption.
+fn is_caption(rows: &[u8], text: &[u8], i: usize, e: usize, j: usize, u: usize) -> bool
+    requires { ⌜ ChildAt (now rows) (now text) i e j u ⌝ }
+    ensures { λ r. ⌜ ((t : Tree) → Spells t (between i e (now (rows .entry))) (between j u (now (text .entry))) → r ≡ isCaption t) ⌝ }
+{
+    if rows[i] != ITEM_CMD {
+        return false;
+    }
+    text::same(
+        mitex_syntax::name_tok(&rows[i + 8..e], &text[j..u]),
+        b"\\caption",
+    )
+}
+
+// The first argument of this child, a caption.
+fn argument_at(rows: &[u8], text: &[u8], i: usize, e: usize, j: usize, u: usize) -> CaptionPart
+    requires { ⌜ ChildAt (now rows) (now text) i e j u ⌝ }
+    ensures { λ r. ⌜ ((t : Tree) (o : ℕ) → i ≡ 8 * o → Spells t (between i e (now (rows .entry))) (between j u (now (text .entry))) → Shows (captionAt (1 + o) t (firstOf ClauseArgument (childrenOf t))) (size t) (now (rows .entry)) (now (text .entry)) r) ⌝ }
+{
+    match mitex_syntax::find_kind(&rows[i + 8..e], &text[j..u], CLAUSE_ARGUMENT) {
+        Place::Nowhere => CaptionPart::BareCaption(i / 8),
+        Place::At { row, end, from, to } => CaptionPart::CaptionAt(Part {
+            i: i + 8 + row,
+            e: i + 8 + end,
+            j: j + from,
+            u: j + to,
+        }),
+    }
+}
+
+// The caption that this child is, if any.
+fn caption_at(rows: &[u8], text: &[u8], i: usize, e: usize, j: usize, u: usize) -> CaptionPart
+    requires { ⌜ ChildAt (now rows) (now text) i e j u ⌝ }
+    ensures { λ r. ⌜ ((t : Tree) (o : ℕ) → i ≡ 8 * o → Spells t (between i e (now (rows .entry))) (between j u (now (text .entry))) → Shows (captionIn (1 + o) t) (size t) (now (rows .entry)) (now (text .entry)) r) ⌝ }
+{
+    if is_caption(rows, text, i, e, j, u) {
+        return argument_at(rows, text, i, e, j, u);
+    }
+    CaptionPart::NoCaption
+}
+
+// Of two captions the later wins, but one without an argument is refused first.
+fn or_later(a: CaptionPart, b: CaptionPart) -> CaptionPart
+    ensures { λ r. ⌜ r ≡ laterPart a b ⌝ }
+{
+    match a {
+        CaptionPart::NoCaption => b,
+        CaptionPart::BareCaption(n) => CaptionPart::BareCaption(n),
+        CaptionPart::CaptionAt(p) => match b {
+            CaptionPart::NoCaption => CaptionPart::CaptionAt(p),
+            CaptionPart::BareCaption(n) => CaptionPart::BareCaption(n),
+            CaptionPart::CaptionAt(q) => CaptionPart::CaptionAt(q),
+        },
+    }
+}
+
+// The last caption among the children of a figure.
+pub fn last_caption(rows: &[u8], text: &[u8]) -> CaptionPart
+    requires { ⌜ SomeForest (now rows) (now text) 0 0 ⌝ }
+    ensures { λ r. ⌜ ((f : Forest) → SpellsAll f (now (rows .entry)) (now (text .entry)) → CaptionFound f (now (rows .entry)) (now (text .entry)) r) ⌝ }
+{
+    let mut found = CaptionPart::NoCaption;
+    let mut i = 0;
+    let mut j = 0;
+    while i < rows.len() {
+        let s = mitex_syntax::span_at(rows, i);
+        let e = i + s.rows;
+        let u = j + s.text;
+        found = or_later(found, caption_at(rows, text, i, e, j, u));
+        i = e;
+        j = u;
+    }
+    found
 }

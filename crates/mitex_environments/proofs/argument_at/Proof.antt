@@ -1,0 +1,154 @@
+-- `mitex_environments::argument_at` meets its contract: where the argument stands among the caption's children, counted from the
+-- figure's.
+use Prim.Native.Nat.{_+_}
+use native.Mathlib.Omega.{arith}
+use Rattle.mitex_syntax.specs.Syntax.{ClauseArgument}
+use Rattle.mitex_syntax.specs.Views.{isOf, childrenOf}
+use Rattle.mitex_syntax.specs.Places.{Stands}
+use Rattle.mitex_syntax.proofs.Places.{stands, nowhere}
+use Rattle.mitex_state.specs.Parts.{between}
+use Rattle.mitex_environments.proofs.Captioning.{children-in, children-some, argument-high, argument-stop, argument-shows, bare-shows}
+use borrow.Author.Needs.{needs}
+use Rattle.mitex_environments.proofs.argument_at.Statement.{statement}
+use Rattle.mitex_environments.proofs.argument_at.Tie as tie
+
+abbrev start : tie.After-row → tie.Start
+start c = let found = c .before .before in found .before .before .before .before .before
+
+-- where the argument stands
+abbrev here :
+    (c : tie.After-row)
+    → let a = start c .args in
+    let g = c .row .given .0 in
+    Stands (isOf ClauseArgument) (childrenOf (start c .pre .child .tree)) (between (a .i + 8) (a .e) (a .rows .now)) (between (a .j) (a .u) (a .text .now)) 0
+    (g .0) (g .1 .0) (g .1 .1 .0) (g .1 .1 .1 .0)
+here c =
+    let a = start c .args in
+    let pre = start c .pre in
+    stands
+    (c .before .before .find-kind .ensures (childrenOf (pre .child .tree))
+    (children-in (a .rows .now) (a .i) (a .e) (pre .child .spells) (pre .some-rows) (pre .end)))
+    (c .row .given .1)
+
+add-find-kind : tie.Need-add-find-kind
+add-find-kind c = search needs
+
+sub-find-kind : tie.Need-sub-find-kind
+sub-find-kind c = search needs
+
+part-find-kind-start : tie.Need-part-find-kind-start
+part-find-kind-start c = search needs
+
+part-find-kind-end : tie.Need-part-find-kind-end
+part-find-kind-end c = search needs
+
+sub-find-kind-2 : tie.Need-sub-find-kind-2
+sub-find-kind-2 c = search needs
+
+part-find-kind-start-2 : tie.Need-part-find-kind-start-2
+part-find-kind-start-2 c = search needs
+
+part-find-kind-end-2 : tie.Need-part-find-kind-end-2
+part-find-kind-end-2 c = search needs
+
+find-kind-requires : tie.Need-find-kind-requires
+find-kind-requires c κs = children-some (c .before .before .before .before .pre)
+
+enum-told : tie.Need-enum-told
+enum-told c = search needs
+
+enum-known-row : tie.Need-enum-known-row
+enum-known-row c = search needs
+
+add-t23 : tie.Need-add-t23
+add-t23 c = search needs
+
+add-t24 : tie.Need-add-t24
+add-t24 c =
+    let c₁ = c .before in
+    let c₂ = c₁ .before .before .before .before .before in
+    let c₃ = c₂ .before .before in
+    let s = here (c₁) in
+    let low = s .some-rows in
+    let high = argument-high (c₃ .pre) s in
+    let few = c₃ .pre .few in
+    omega arith
+
+add-t25 : tie.Need-add-t25
+add-t25 c = search needs
+
+add-t26 : tie.Need-add-t26
+add-t26 c =
+    let c₁ = c .before in
+    let c₂ = c₁ .before .before .before .before .before in
+    let c₃ = c₂ .before .before in
+    let s = here (c₁) in
+    let high = argument-high (c₃ .pre) s in
+    let few = c₃ .pre .few in
+    omega arith
+
+add-t27 : tie.Need-add-t27
+add-t27 c =
+    let c₁ = c .before in
+    let c₂ = c₁ .before .before .before .before .before in
+    let c₃ = c₂ .before .before in
+    let s = here (c₁) in
+    let low = s .some-text in
+    let stop = argument-stop (c₃ .pre) s in
+    let short = c₃ .pre .short in
+    omega arith
+
+add-t28 : tie.Need-add-t28
+add-t28 c =
+    let c₁ = c .before in
+    let c₂ = c₁ .before .before .before .before .before in
+    let c₃ = c₂ .before .before in
+    let s = here (c₁) in
+    let stop = argument-stop (c₃ .pre) s in
+    let short = c₃ .pre .short in
+    omega arith
+
+returns : tie.Need-returns
+returns c =
+    let c₁ = c .before .before in
+    let c₂ = c₁ .before .before .before .before .before in
+    let a = c₂ .args in
+    let pre = c₂ .pre in
+    λ t o q sp.
+    let kids = children-in (a .rows .now) (a .i) (a .e) sp (pre .some-rows) (pre .end) in
+    bare-shows t (a .i) o q (nowhere (c₁ .find-kind .ensures (childrenOf t) kids) (c .enum-told .given .1))
+
+returns-2 : tie.Need-returns-2
+returns-2 c =
+    let c₁ = c .before in
+    let c₂ = c₁ .before .before in
+    let c₃ = c₂ .before .before .before .before .before in
+    let a = c₃ .args in
+    let pre = c₃ .pre in
+    λ t o q sp.
+    let kids = children-in (a .rows .now) (a .i) (a .e) sp (pre .some-rows) (pre .end) in
+    argument-shows t (a .i) (a .e) (a .j) (a .u) o q (pre .some-rows) (pre .end) (pre .some-text) (pre .stop)
+    (stands (c₂ .find-kind .ensures (childrenOf t) kids) (c₁ .row .given .1))
+
+pub argument-at-spec : {M : Type 1} → statement M
+argument-at-spec =
+    tie.close
+    (tie.spec
+    add-find-kind
+    sub-find-kind
+    part-find-kind-start
+    part-find-kind-end
+    sub-find-kind-2
+    part-find-kind-start-2
+    part-find-kind-end-2
+    find-kind-requires
+    enum-told
+    enum-known-row
+    add-t23
+    add-t24
+    add-t25
+    add-t26
+    add-t27
+    add-t28
+    returns
+    returns-2)
