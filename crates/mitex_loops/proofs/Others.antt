@@ -1,6 +1,6 @@
 -- The elements that follow a child, by their rows: each is hopped over by its extent, and what is asked of all of them is asked of
 -- those that are left (`Hopped`).
-use mathlib.Core.Path.{_≡_, refl, sym, ap, subst, _∙_}
+use mathlib.Core.Path.{_≡_, refl, sym, ap, _∙_}
 use mathlib.Core.Bool.{Bool, true, false, _||_, not}
 use mathlib.Core.List.{List, _++_}
 use Prim.Native.Nat.{ℕ, _+_, _*_, _≤_, _<_}

@@ -4,7 +4,7 @@ ghost use mathlib.Core.Bool.{true, false, _&&_, cond};
 ghost use mathlib.Core.List.{List, [], _++_};
 ghost use Prim.Native.Nat.{ℕ, _+_, _≤_, _<_};
 ghost use lib.ListN.{length, drop};
-ghost use lib.Dec.{eqb, leb};
+ghost use lib.Dec.{eqb};
 ghost use Rattle.text.specs.Ascii.{ascii};
 ghost use Rattle.text.specs.Writing.{cap, Wrote, decimal};
 ghost use Rattle.mitex_syntax.specs.Syntax.{ClauseArgument, ClauseCommandName, ItemCurly};
@@ -15,7 +15,7 @@ ghost use Rattle.mitex_state.specs.Children.{isBlank, isDot, isSplit, isEnds, f
 ghost use Rattle.mitex_state.specs.Texts.{formulaBegin, formulaEnd, dollarBegin, dollarEnd};
 ghost use Rattle.mitex_state.specs.Groups.{groupEnv, lrBegin, lrEnd, attachLoop};
 ghost use Rattle.mitex_state.specs.Colors.{bodyEnd, bodyLoop, argumentsLoop};
-ghost use Rattle.mitex_state.specs.Contract.{Place, placeOf, Closed};
+ghost use Rattle.mitex_state.specs.Contract.{placeOf, Closed};
 ghost use Rattle.mitex_state.specs.declared.Act.the-variants.{Skip, Convert, Space, ThenSpace, ThenComma, InDollars};
 ghost use Rattle.mitex_loops.specs.Given.{ChildGiven, OthersGiven, Decides, numberOf};
 use mitex_state::Act;
