@@ -1,0 +1,114 @@
+-- From an element to its children: what the rows of a node spell, and what its arm comes to.
+use mathlib.Core.Path.{_≡_, refl, sym, ap, subst, _∙_}
+use mathlib.Core.Bool.{Bool, true, false}
+use mathlib.Core.List.{List}
+use Prim.Native.Nat.{ℕ, zero, suc, _+_, _-_, _≤_, _<_}
+use native.Mathlib.Omega.{arith}
+use lib.ListN.{length, take, drop, getD, length-drop}
+use Rattle.text.specs.Writing.{cap}
+use Rattle.mitex_syntax.specs.Tree.{Tree, Forest, size, sizes}
+use Rattle.mitex_syntax.specs.Tree.Tree.{token, node}
+use Rattle.mitex_syntax.specs.Spells.{Spells, SpellsAll, SomeTree}
+use Rattle.mitex_syntax.proofs.Trees.{rows-some, under, size-node, size-some}
+use Rattle.mitex_state.specs.Outcome.{Context, Carry, Outcome, flagged, labelMost}
+use Rattle.mitex_state.specs.Outcome.Outcome.{refused}
+use Rattle.mitex_state.specs.State.{carryOf, Carried}
+use Rattle.mitex_state.specs.Contract.{Place, placeOf, Agrees}
+use Rattle.mitex_state.specs.Tokens.{tokenOut}
+use Rattle.mitex_state.specs.Conversion.{elementOf, armBy, step, convert}
+use Rattle.mitex_state.specs.declared.Element.{Element}
+use Rattle.mitex_state.specs.declared.Element.the-variants.{Unexpected, Token}
+use Rattle.mitex_state.specs.declared.Converter.{Converter}
+use Rattle.mitex_state.specs.declared.Walked.{Walked}
+use Rattle.mitex.specs.Walks.{Room, Siblings}
+use Rattle.mitex_commands.proofs.Elements.{ofNode, element-node, element-token, element-unexpected}
+use Rattle.mitex.proofs.Walking.{rest-rows, room-part}
+
+-- the rows behind an element's first
+abbrev pub below : List ℕ → List ℕ
+below rows = take (length rows - 8) (drop 8 rows)
+
+pub below-length : (rows : List ℕ) → length (below rows) ≡ length rows - 8
+below-length rows = ap length (rest-rows rows 8) ∙ length-drop 8 rows
+
+-- a level that is high enough is one above another
+pub record Level (d : ℕ) : Type 0 where
+  pub lower : ℕ
+  pub is : d ≡ suc lower
+
+level : (d : ℕ) → 1 ≤ d → Level d
+level zero h = absurd (omega arith)
+level (suc d) h = record { lower = d; is = refl }
+
+-- an element whose arm is that of a node: its children, and what the arm comes to
+pub record AtNode (d : ℕ) (x : Context) (t : Tree) (c : Carry) (rows text : List ℕ) (e : Element) : Type 0 where
+  pub forest : Forest
+  pub spells : SpellsAll forest (below rows) text
+  pub lower : ℕ
+  pub fits : sizes forest ≤ lower
+  pub is : convert d x t c ≡ armBy e (convert lower) x forest (flagged false c)
+
+module _ (x : Context) (t : Tree) (c : Carry) {rows text : List ℕ} (sp : Spells t rows text) where
+  pub at-node :
+      (d : ℕ) → size t ≤ d → (e : Element) → elementOf (getD rows 0 0) ≡ e → ofNode e ≡ true → AtNode d x t c rows text e
+  unfolding convert step
+  at-node d h e q z =
+      let n = element-node t sp e q z in
+      let f = n .0 in
+      let l = level d (omega (arith, size-some t)) in
+      let sp′ : Spells (node (getD rows 0 0) f) rows text = subst (λ (u : Tree). Spells u rows text) (n .1) sp in
+      record {
+        forest = f;
+        spells = subst (λ (r : List ℕ). SpellsAll f r text) (sym (rest-rows rows 8)) (under sp′);
+        lower = l .lower;
+        fits = omega (arith, ap size (n .1), size-node (getD rows 0 0) f, l .is);
+        is = ap (λ (m : ℕ). convert m x t c) (l .is)
+            ∙ ap (λ (u : Tree). step (convert (l .lower)) x u c) (n .1)
+            ∙ ap (λ (y : Element). armBy y (convert (l .lower)) x f (flagged false c)) q;
+      }
+
+  pub at-token : (d : ℕ) → size t ≤ d → elementOf (getD rows 0 0) ≡ Token → convert d x t c ≡ tokenOut x (getD rows 0 0) text c
+  unfolding convert step
+  at-token d h q =
+      let l = level d (omega (arith, size-some t)) in
+      ap (λ (m : ℕ). convert m x t c) (l .is) ∙ ap (λ (u : Tree). step (convert (l .lower)) x u c) (element-token t sp q)
+
+  pub at-unexpected : (d : ℕ) → size t ≤ d → elementOf (getD rows 0 0) ≡ Unexpected → convert d x t c ≡ refused 7 0
+  unfolding convert
+  at-unexpected d h q =
+      let l = level d (omega (arith, size-some t)) in
+      ap (λ (m : ℕ). convert m x t c) (l .is) ∙ element-unexpected (convert (l .lower)) x c t sp q
+
+-- the children of a node that is given
+pub given-below :
+    {rows text : List ℕ} → SomeTree rows text → (e : Element) → elementOf (getD rows 0 0) ≡ e → ofNode e ≡ true → Siblings (below rows) text
+given-below {rows} {text} g e q z =
+    let n = element-node (g .tree) (g .spells) e q z in
+    let sp′ : Spells (node (getD rows 0 0) (n .0)) rows text = subst (λ (u : Tree). Spells u rows text) (n .1) (g .spells) in
+    record { forest = n .0; spells = subst (λ (r : List ℕ). SpellsAll (n .0) r text) (sym (rest-rows rows 8)) (under sp′) }
+
+-- a walk over them
+pub room-below :
+    {at row : ℕ} {rows text out : List ℕ} {c d : Converter} {q : Carry} → Room 0 rows text out at row c → 8 ≤ length rows → Carried c q d
+    → Room 8 (below rows) text out at row d
+room-below {row = row} {rows = rows} {d = d} r h m =
+    let n = below-length rows in
+    let i = m .indent in
+    room-part r 8 row d (omega arith) (omega arith) (omega arith) (omega arith) (m .short (r .label)) refl (r .place)
+
+pub room-children :
+    {at row : ℕ} {rows text out : List ℕ} {c d : Converter} {q : Carry} → Room 0 rows text out at row c → 8 ≤ length rows → Carried c q d
+    → Room 0 (below rows) text out at (row + 1) d
+room-children {row = row} {rows = rows} {d = d} r h m =
+    let n = below-length rows in
+    let i = m .indent in
+    room-part r 0 (row + 1) d (omega arith) (omega arith) (omega arith) (omega arith) (m .short (r .label)) refl (r .place)
+
+-- what is promised of a converter with another carry, said of the converter before
+pub carried-as :
+    {c d : Converter} {e : Carry} → Carried c e d → (o : Place → Carry → Outcome) {a : Walked} {row at : ℕ} {out out′ : List ℕ}
+    → Agrees a (placeOf d) row at out out′ (o (placeOf d) (carryOf d)) → Agrees a (placeOf c) row at out out′ (o (placeOf c) e)
+carried-as {c} {d} {e} m o {a} {row} {at} {out} {out′} p =
+    let same : placeOf d ≡ placeOf c = λ i. record { mode = m .mode i; env = m .env i; indent = m .indent i } in
+    subst (λ (y : Place). Agrees a y row at out out′ (o y e)) same
+    (subst (λ (z : Carry). Agrees a (placeOf d) row at out out′ (o (placeOf d) z)) (m .carry) p)

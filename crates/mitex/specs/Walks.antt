@@ -1,0 +1,103 @@
+-- What the functions of the walk ask, and what they promise: that their answers agree with the meaning of what they were given.
+use mathlib.Core.Path.{_≡_}
+use Prim.Native.Nat.{ℕ, _+_, _≤_, _<_}
+use mathlib.Core.List.{List}
+use lib.ListN.{length}
+use Rattle.text.specs.Writing.{cap}
+use Rattle.mitex_spec.specs.Rules.{Rule, getCmd}
+use Rattle.mitex_spec.specs.Index.{Ready, SomeRules}
+use Rattle.mitex_syntax.specs.Tree.{Tree, Forest, size, sizes}
+use Rattle.mitex_syntax.specs.Spells.{Spells, SpellsAll, SomeTree}
+use Rattle.mitex_state.specs.Outcome.{Context, Carry, Outcome, Arm, labelMost}
+use Rattle.mitex_state.specs.State.{contextOf, carryOf}
+use Rattle.mitex_state.specs.Contract.{Place, placeOf, Agrees}
+use Rattle.mitex_state.specs.Children.{turn, each}
+use Rattle.mitex_state.specs.Colors.{Model, colored, withModel, colorAlias}
+use Rattle.mitex_state.specs.Environments.{lastCaption, captioned}
+use Rattle.mitex_state.specs.Conversion.{convert}
+use Rattle.mitex_state.specs.Parts.{ModelFound, CaptionFound}
+use Rattle.mitex_loops.specs.Given.{numberOf}
+use Rattle.mitex_state.specs.declared.ModelPart.{ModelPart}
+use Rattle.mitex_state.specs.declared.CaptionPart.{CaptionPart}
+use Rattle.mitex_state.specs.declared.Loop.{Loop}
+use Rattle.mitex_state.specs.declared.Act.{Act}
+use Rattle.mitex_state.specs.declared.Converter.{Converter}
+use Rattle.mitex_state.specs.declared.Walked.{Walked}
+
+-- ---- what is asked
+
+-- plain bounds: lengths, the place, the row, the indent, the held label, where `slack` bytes of rows stand above these. A list is two
+-- further in and its children have a row of 8 bytes less, so the indent and the rows together stay bounded.
+pub record Room (slack : ℕ) (rows text out : List ℕ) (at row : ℕ) (c : Converter) : Type 0 where
+  pub few : length rows < cap
+  pub short : length text < cap
+  pub room : length out ≤ cap
+  pub place : at ≤ cap
+  pub low : row + slack + length rows ≤ cap
+  pub deep : c .indent + slack + length rows ≤ cap
+  pub label : c .«label_len» ≤ labelMost
+
+-- some elements side by side are spelt
+pub record Siblings (rows text : List ℕ) : Type 0 where
+  pub forest : Forest
+  pub spells : SpellsAll forest rows text
+
+-- a colour's model was found in them, and the loop over its body counts nothing
+pub record ColorGiven (rows text : List ℕ) (p : ModelPart) (l : Loop) : Type 0 where
+  pub model : Model
+  pub forest : Forest
+  pub spells : SpellsAll forest rows text
+  pub found : ModelFound model forest rows text p
+  pub counts : numberOf l ≡ 0
+
+-- a figure's captions were looked for in them
+pub record CaptionGiven (rows text : List ℕ) (p : CaptionPart) : Type 0 where
+  pub forest : Forest
+  pub spells : SpellsAll forest rows text
+  pub found : CaptionFound forest rows text p
+
+-- ---- what is promised: for whatever rules the file has, whatever tree is spelt, at every level that is high enough
+
+module _ (rules index rows text : List ℕ) (row : ℕ) (c : Converter) (at : ℕ) (out : List ℕ) (a : Walked) (out′ : List ℕ) where
+  -- of an element
+  abbrev pub Converts : Type 0
+  Converts =
+      (rs : List Rule) → Ready rules index rs → (t : Tree) → Spells t rows text → (d : ℕ) → size t ≤ d
+      → Agrees a (placeOf c) row at out out′ (convert d (contextOf rs c) t (carryOf c))
+
+  -- of the children of a node, by the arm that it follows
+  abbrev pub Walks : Arm → Type 0
+  Walks arm =
+      (rs : List Rule) → Ready rules index rs → (f : Forest) → SpellsAll f rows text → (d : ℕ) → sizes f ≤ d
+      → Agrees a (placeOf c) row at out out′ (arm (convert d) (contextOf rs c) f (carryOf c))
+
+  -- of elements side by side, the first of them at the row
+  abbrev pub Loops : Loop → Type 0
+  Loops l =
+      (rs : List Rule) → Ready rules index rs → (f : Forest) → SpellsAll f rows text → (d : ℕ) → sizes f ≤ d
+      → Agrees a (placeOf c) row at out out′ (each (convert d (contextOf rs c)) 0 l f (carryOf c))
+
+  -- of one child in a loop
+  abbrev pub Turns : Act → Type 0
+  Turns act =
+      (rs : List Rule) → Ready rules index rs → (t : Tree) → Spells t rows text → (d : ℕ) → size t ≤ d
+      → Agrees a (placeOf c) row at out out′ (turn (convert d (contextOf rs c)) act t (carryOf c))
+
+  -- of a colour command, by its model and the loop over its body
+  abbrev pub Colors : List ℕ → ModelPart → Loop → Type 0
+  Colors name p l =
+      (rs : List Rule) → Ready rules index rs → (m : Model) (f : Forest) → SpellsAll f rows text → ModelFound m f rows text p → (d : ℕ)
+      → sizes f ≤ d
+      → Agrees a (placeOf c) row at out out′ (withModel (convert d) (contextOf rs c) (colorAlias (getCmd rs name)) l m (carryOf c))
+
+  -- of the colour and the body, the first of them at the row
+  abbrev pub Colored : Loop → Type 0
+  Colored l =
+      (rs : List Rule) → Ready rules index rs → (f : Forest) → SpellsAll f rows text → (d : ℕ) → sizes f ≤ d
+      → Agrees a (placeOf c) row at out out′ (colored (convert d) (contextOf rs c) l 0 f (carryOf c))
+
+  -- of a figure's caption and children
+  abbrev pub Captions : CaptionPart → Type 0
+  Captions p =
+      (rs : List Rule) → Ready rules index rs → (f : Forest) → SpellsAll f rows text → CaptionFound f rows text p → (d : ℕ) → sizes f ≤ d
+      → Agrees a (placeOf c) row at out out′ (captioned (lastCaption 1 f) (convert d) (contextOf rs c) f (carryOf c))
