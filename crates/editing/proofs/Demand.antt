@@ -20,7 +20,7 @@ use Rattle.editing.specs.Walk.Walk.{stopped, pieces}
 use Rattle.editing.specs.Edit.{Result, unchanged, textMost, roomForText, room, put, settle, conversion, convertDocument, editFits, carryBefore, rowCarries, write, writeOr, again, edit}
 use Rattle.editing.specs.Edit.Answer.{refused, converted, edited}
 use Rattle.editing.specs.Run.{Edit, Kept, leaves, callEdit, run, lacks, piecesOf, editAnswer, documentAfter, demanded, documentNext, reference, OnlyAt, Permitted, Allowed, Holds, tailMoved, TailsMoved, Demand3}
-use Rattle.editing.proofs.Walks.{carryAfter, ontoAll, finish, Walked, walk-walked, walked-length, walkUntil-until, walk-edited, Until, until-within, until-count}
+use Rattle.editing.proofs.Walks.{carryAfter, ontoAll, ontoAll-pieces, ontoAll-stopped, finish, Walked, walk-walked, walked-length, walkUntil-until, walk-edited, Until, until-within, until-count}
 use Rattle.editing.proofs.Splice.{carryBefore-rows, write-spliced, tail, tail-length, text-behind}
 use Rattle.editing.proofs.Holding.{holding, walked-encodable, rows-length, Stands, stands-conversion, stands-encodable, stands-holds, Found, held-found}
 
@@ -34,14 +34,6 @@ carries-drop : (k : ℕ) (ps : List Piece) → drop k (carries ps) ≡ carries (
 carries-drop zero ps = refl
 carries-drop (suc k) [] = refl
 carries-drop (suc k) (p ∷ ps) = carries-drop k ps
-
-ontoAll-pieces : (ps qs : List Piece) → ontoAll ps (pieces qs) ≡ pieces (ps ++ qs)
-ontoAll-pieces [] qs = refl
-ontoAll-pieces (p ∷ ps) qs = rw (ontoAll-pieces ps qs)
-
-ontoAll-stopped : (ps : List Piece) (n i : ℕ) → ontoAll ps (stopped n i) ≡ stopped n i
-ontoAll-stopped [] n i = refl
-ontoAll-stopped (p ∷ ps) n i = rw (ontoAll-stopped ps n i)
 
 module _ (𝓒 : Converter) (keeps-short : KeepsShort 𝓒) where
   open Converter 𝓒 using (Block, rows as rowsOf, check)

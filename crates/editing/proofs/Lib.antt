@@ -4,3 +4,6 @@ pub mod Holding
 pub mod Demand
 pub mod Count
 pub mod Six
+pub mod Calls
+pub mod Bytes
+pub mod Loops

@@ -26,6 +26,14 @@ abbrev pub ontoAll : List Piece → Walk → Walk
 ontoAll [] w = w
 ontoAll (p ∷ ps) w = onto p (ontoAll ps w)
 
+pub ontoAll-pieces : (ps qs : List Piece) → ontoAll ps (pieces qs) ≡ pieces (ps ++ qs)
+ontoAll-pieces [] qs = refl
+ontoAll-pieces (p ∷ ps) qs = rw (ontoAll-pieces ps qs)
+
+pub ontoAll-stopped : (ps : List Piece) (n i : ℕ) → ontoAll ps (stopped n i) ≡ stopped n i
+ontoAll-stopped [] n i = refl
+ontoAll-stopped (p ∷ ps) n i = rw (ontoAll-stopped ps n i)
+
 -- the pieces behind those that were converted again are the old ones
 abbrev pub finish : Walk → List Piece → Walk
 finish (stopped n i) ps = stopped n i

@@ -1,4 +1,5 @@
 pub mod Walk
 pub mod Edit
 pub mod Run
+pub mod Calls
 pub mod Examples

@@ -77,8 +77,8 @@ pub record Row-says (at kept i : ℕ) (l : List ℕ) : Type 0 where
   pub above : at ≤ (rowAt i l) .end
   pub below : (rowAt i l) .end ≤ kept
 
-later : (i : ℕ) (l : List ℕ) → drop (rowSize * suc i) l ≡ drop (rowSize * i) (drop rowSize l)
-later i l =
+pub row-later : (i : ℕ) (l : List ℕ) → drop (rowSize * suc i) l ≡ drop (rowSize * i) (drop rowSize l)
+row-later i l =
     let e : rowSize + rowSize * i ≡ rowSize * suc i = omega arith in sym (drop-drop (rowSize * i) rowSize l ∙ ap (λ n. drop n l) e)
 
 module _ (n at kept : ℕ) (l : List ℕ) (e : rowsFit (suc n) at kept l ≡ true) where
@@ -110,9 +110,9 @@ rowsFit-says (suc n) at kept l e (suc i) h =
     = rowsFit-says n (fourAt 0 l) kept (drop rowSize l) (rest-fits n at kept l e) i (omega arith) in
     let up = first-above n at kept l e in
     record {
-      fit = ap rowFits (later i l) ∙ s .fit;
-      above = rw (later i l) (omega (arith, s .above));
-      below = rw (later i l) (s .below);
+      fit = ap rowFits (row-later i l) ∙ s .fit;
+      above = rw (row-later i l) (omega (arith, s .above));
+      below = rw (row-later i l) (s .below);
     }
 
 rowsFit-rise : (n at kept : ℕ) (l : List ℕ) → rowsFit n at kept l ≡ true → (i j : ℕ) → i ≤ j → j < n → (rowAt i l) .end ≤ (rowAt j l) .end
@@ -120,10 +120,10 @@ unfolding decodeRow
 rowsFit-rise zero at kept l e i j h k = absurd (omega arith)
 rowsFit-rise (suc n) at kept l e zero zero h k = omega arith
 rowsFit-rise (suc n) at kept l e zero (suc j) h k =
-    rw (later j l) (rowsFit-says n (fourAt 0 l) kept (drop rowSize l) (rest-fits n at kept l e) j (omega arith) .above)
+    rw (row-later j l) (rowsFit-says n (fourAt 0 l) kept (drop rowSize l) (rest-fits n at kept l e) j (omega arith) .above)
 rowsFit-rise (suc n) at kept l e (suc i) zero h k = absurd (omega arith)
 rowsFit-rise (suc n) at kept l e (suc i) (suc j) h k =
-    rw (later i l, later j l) (rowsFit-rise n (fourAt 0 l) kept (drop rowSize l) (rest-fits n at kept l e) i j (omega arith) (omega arith))
+    rw (row-later i l, row-later j l) (rowsFit-rise n (fourAt 0 l) kept (drop rowSize l) (rest-fits n at kept l e) i j (omega arith) (omega arith))
 
 module _ (n kept : ℕ) (l : List ℕ) (e : fits n kept l ≡ true) where
   pub fits-long : rowSize * n ≤ length l

@@ -31,7 +31,7 @@ zeros-all out i n l lo hi e = let q : i ≡ n = omega arith in sym (take-all i o
 
 -- ---- bytes stored from a place on
 
-sets-front : (l vs : List ℕ) → length vs ≤ length l → sets l 0 vs ≡ vs ++ drop (length vs) l
+pub sets-front : (l vs : List ℕ) → length vs ≤ length l → sets l 0 vs ≡ vs ++ drop (length vs) l
 sets-front l vs h = sets-eq vs l 0 (omega arith) ∙ ap (λ n. vs ++ drop n l) (zero-add (length vs))
 
 pub sets-drop : (vs l : List ℕ) (i : ℕ) → i + length vs ≤ length l → drop (i + length vs) (sets l i vs) ≡ drop (i + length vs) l
