@@ -212,6 +212,10 @@ module _ {rows text : List ℕ} (few : length rows < cap) (short : length text <
   pub spelt-one : (t u : Tree) → Spells t rows text → Spells u rows text → t ≡ u
   spelt-one t u p q = let e = spelt-once (more t none) (more u none) (spells-alone p) (spells-alone q) in cc
 
+-- a file is that of one tree only
+pub laid-once : (b : List ℕ) (t u : Tree) → Laid t b → Laid u b → t ≡ u
+laid-once b t u p q = let e : some t ≡ some u = sym (decode-complete b t p) ∙ decode-complete b u q in cc
+
 -- two elements are the same exactly where their rows and their texts are
 pub same-tree : (t u : Tree) → Sound t → Sound u → length (rowsOf t) < cap → length (textOf t) < cap → rowsOf t ≡ rowsOf u → textOf t ≡ textOf u → t ≡ u
 same-tree t u st su few short r x =

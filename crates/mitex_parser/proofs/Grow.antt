@@ -128,12 +128,21 @@ pub over-some : (t : Tree) (o : Option Forest) (f : Forest) → over t o ≡ som
 over-some t nothing f e = absurd (no-some e)
 over-some t (some g) f e = (g, (cc, cc))
 
-pub closed-some : (k n : ℕ) (o : Option Forest) (f : Forest) → closed k (splits n o) ≡ some f → (u : Forest) × ((g : Forest) × ((h : Forest) × ((o ≡ some u) × (split n u ≡ some (cut g h)) × (f ≡ more (node k g) h))))
+-- a node closed over the first trees of those that come
+record Closed (k n : ℕ) (o : Option Forest) (f : Forest) : Type 0 where
+  whole : Forest
+  under : Forest
+  others : Forest
+  grown : o ≡ some whole
+  cuts : split n whole ≡ some (cut under others)
+  is : f ≡ more (node k under) others
+
+closed-some : (k n : ℕ) (o : Option Forest) (f : Forest) → closed k (splits n o) ≡ some f → Closed k n o f
 closed-some k n nothing f e = absurd (no-some e)
 closed-some k n (some u) f e =
-    let go : (c : Option Cut) → split n u ≡ c → closed k c ≡ some f → (u′ : Forest) × ((g : Forest) × ((h : Forest) × ((some u ≡ some u′) × (split n u′ ≡ some (cut g h)) × (f ≡ more (node k g) h)))) = λ c. elim c [
+    let go : (c : Option Cut) → split n u ≡ c → closed k c ≡ some f → Closed k n (some u) f = λ c. elim c [
       | nothing ↦ λ p q. absurd (no-some q)
-      | some x ↦ elim x [ cut g h ↦ λ p q. (u, (g, (h, (refl, p, cc)))) ]
+      | some x ↦ elim x [ cut g h ↦ λ p q. record { whole = u; under = g; others = h; grown = refl; cuts = p; is = cc } ]
     ] in
     go (split n u) refl e
 
@@ -145,11 +154,12 @@ grow-sound (tok k s ∷ ls) f e =
     ap (λ l. tok k s ∷ l) (grow-sound ls (w .0) (w .1 .0)) ∙ ap linesOfs (sym (w .1 .1))
 grow-sound (nod k n ∷ ls) f e =
     let w = closed-some k n (grow ls) f e in
-    let u = w .0 in let g = w .1 .0 in let h = w .1 .1 .0 in
-    let s = split-sound u n g h (w .1 .1 .1 .1) in
-    ap (λ l. nod k n ∷ l) (grow-sound ls u (w .1 .1 .1 .0) ∙ ap linesOfs (s .whole) ∙ linesOfs-join g h)
+    let g = w .under in
+    let h = w .others in
+    let s = split-sound (w .whole) n g h (w .cuts) in
+    ap (λ l. nod k n ∷ l) (grow-sound ls (w .whole) (w .grown) ∙ ap linesOfs (s .whole) ∙ linesOfs-join g h)
     ∙ ap (λ m. nod k m ∷ linesOfs g ++ linesOfs h) (sym (s .so-many))
-    ∙ ap linesOfs (sym (w .1 .1 .1 .2))
+    ∙ ap linesOfs (sym (w .is))
 
 before-over : (t : Tree) (f : Forest) (o : Option Forest) → over t (before f o) ≡ before (more t f) o
 unfolding join

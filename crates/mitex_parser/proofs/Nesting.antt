@@ -226,7 +226,8 @@ unfolding depth
 depth-child (tok k s) g left h p = h
 depth-child (nod k n) g left h p = omega arith
 
-pub at-next : {ls : List Line} {left : ℕ} {rest : List ℕ} {n : ℕ} → (a : At ls left rest n) → 8 + 8 * n ≤ length rest → 1 ≤ left → Nested (grow (take n (a .ns))) (left - 1) Fine → Turn ls left (take (length rest - (8 + 8 * n)) (drop (8 + 8 * n) rest))
+pub at-next : {ls : List Line} {left : ℕ} {rest : List ℕ} {n : ℕ} → (a : At ls left rest n) → 8 + 8 * n ≤ length rest → 1 ≤ left → Nested (grow (take n (a .ns))) (left - 1) Fine
+    → Turn ls left (take (length rest - (8 + 8 * n)) (drop (8 + 8 * n) rest))
 unfolding depth
 at-next {ls} {left} {rest} {n} a h one w =
     let g = w .0 in
@@ -468,28 +469,41 @@ row-falls (nod k n) ns b h e =
     go (grow ns) h
 
 abbrev Landing : List ℕ → ℕ → Bool → Type 0
-Landing rest n b = (ms : List Line) (f : Forest) → take (length rest - 8) (drop 8 rest) ≡ bytesOf ms → Fits ms → grow ms ≡ some f → b ≡ isSome (split n f)
+Landing rest n b =
+    (ms : List Line) (f : Forest) → take (length rest - 8) (drop 8 rest) ≡ bytesOf ms → Fits ms → grow ms ≡ some f → b ≡ isSome (split n f)
+
+-- the row at which the walk stands, and whether its rows are whole trees
+record RestAt (ls : List Line) (rest : List ℕ) (b : Bool) : Type 0 where
+  line : Line
+  ns : List Line
+  spelt : take (length rest - 8) (drop 8 rest) ≡ bytesOf ns
+  fit : Fits ns
+  same : isSome (grow ls) ≡ isSome (grow (line ∷ ns))
+  landing : (f : Forest) → grow ns ≡ some f → b ≡ isSome (split (below line) f)
 
 rest-at : {ls : List Line} {rest : List ℕ} → Rest ls rest → 8 ≤ length rest → (n : ℕ) → n ≡ underOf rest → (b : Bool) → Landing rest n b
-    → (l : Line) × ((ns : List Line) × ((take (length rest - 8) (drop 8 rest) ≡ bytesOf ns) × Fits ns × (isSome (grow ls) ≡ isSome (grow (l ∷ ns))) × ((f : Forest) → grow ns ≡ some f → b ≡ isSome (split (below l) f))))
+    → RestAt ls rest b
 unfolding bytesOf
 rest-at {ls} {rest} w h n e b k =
-    let go : (ms : List Line) → rest ≡ bytesOf ms → Fits ms → isSome (grow ls) ≡ isSome (grow ms) → (l : Line) × ((ns : List Line) × ((take (length rest - 8) (drop 8 rest) ≡ bytesOf ns) × Fits ns × (isSome (grow ls) ≡ isSome (grow (l ∷ ns))) × ((f : Forest) → grow ns ≡ some f → b ≡ isSome (split (below l) f)))) = λ ms. elim ms [
+    let go : (ms : List Line) → rest ≡ bytesOf ms → Fits ms → isSome (grow ls) ≡ isSome (grow ms) → RestAt ls rest b = λ ms. elim ms [
       | [] ↦ λ p q r. absurd (omega (arith, ap length p))
       | _∷_ l ns ↦ λ p q r.
           let d : take (length rest - 8) (drop 8 rest) ≡ bytesOf ns = part-past rest 8 ∙ ap (drop 8) p ∙ bytes-one l ns in
           let m : n ≡ below l = e ∙ ap underOf p ∙ under-is l ns q in
-          (l, (ns, (d, fits-drop l ns q, r, λ f g. k ns f d (fits-drop l ns q) g ∙ ap (λ x. isSome (split x f)) m)))
+          let fit = fits-drop l ns q in
+          record { line = l; ns = ns; spelt = d; fit = fit; same = r; landing = λ f g. k ns f d fit g ∙ ap (λ x. isSome (split x f)) m }
     ] in
     go (w .ms) (w .spelt) (w .fit) (w .same)
 
-pub rest-falls : {ls : List Line} {rest : List ℕ} → Rest ls rest → 8 ≤ length rest → (n : ℕ) → n ≡ underOf rest → (b : Bool) → Landing rest n b → b ≡ false → false ≡ isSome (grow ls)
-rest-falls w h n e b k z = let a = rest-at w h n e b k in sym (a .1 .1 .2 ∙ row-falls (a .0) (a .1 .0) b (a .1 .1 .3) z)
+pub rest-falls : {ls : List Line} {rest : List ℕ} → Rest ls rest → 8 ≤ length rest → (n : ℕ) → n ≡ underOf rest → (b : Bool) → Landing rest n b
+    → b ≡ false → false ≡ isSome (grow ls)
+rest-falls w h n e b k z = let a = rest-at w h n e b k in sym (a .same ∙ row-falls (a .line) (a .ns) b (a .landing) z)
 
-pub rest-next : {ls : List Line} {rest : List ℕ} → Rest ls rest → 8 ≤ length rest → (n : ℕ) → n ≡ underOf rest → (b : Bool) → Landing rest n b → b ≡ true → Rest ls (take (length rest - 8) (drop 8 rest))
+pub rest-next : {ls : List Line} {rest : List ℕ} → Rest ls rest → 8 ≤ length rest → (n : ℕ) → n ≡ underOf rest → (b : Bool) → Landing rest n b
+    → b ≡ true → Rest ls (take (length rest - 8) (drop 8 rest))
 rest-next w h n e b k z =
     let a = rest-at w h n e b k in
-    record { ms = a .1 .0; spelt = a .1 .1 .0; fit = a .1 .1 .1; same = a .1 .1 .2 ∙ row-lands (a .0) (a .1 .0) b (a .1 .1 .3) z }
+    record { ms = a .ns; spelt = a .spelt; fit = a .fit; same = a .same ∙ row-lands (a .line) (a .ns) b (a .landing) z }
 
 pub rest-end : {ls : List Line} {rest : List ℕ} → Rest ls rest → length rest < 8 → true ≡ isSome (grow ls)
 unfolding grow

@@ -49,7 +49,8 @@ left-bad {n} {rows} {text} {l} {t} w h b =
     ] in
     sym (w .same ∙ go (w .rest) (w .so-many))
 
-pub left-next : {n : ℕ} {rows text l t : List ℕ} → Left n rows text l t → 8 ≤ length l → (r : Row) → r ≡ rowAt l t → isBad r ≡ false → (x : ℕ) → x ≡ taken r → Left n rows text (take (length l - 8) (drop 8 l)) (take (length t - x) (drop x t))
+pub left-next : {n : ℕ} {rows text l t : List ℕ} → Left n rows text l t → 8 ≤ length l → (r : Row) → r ≡ rowAt l t → isBad r ≡ false
+    → (x : ℕ) → x ≡ taken r → Left n rows text (take (length l - 8) (drop 8 l)) (take (length t - x) (drop x t))
 unfolding lines
 left-next {n} {rows} {text} {l} {t} w h r e b x ex =
     let go : (m : ℕ) → length l ≡ 8 * m → isSome (lines n rows text) ≡ isSome (lines m l t) → Left n rows text (drop 8 l) (drop (taken r) t) = λ m. elim m [

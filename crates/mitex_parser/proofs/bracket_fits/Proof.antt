@@ -20,7 +20,11 @@ good-ends-requires : tie.Need-good-ends-requires
 good-ends-requires c κs = search needs
 
 returns : tie.Need-returns
-returns c = λ f sp. c .good-ends .ensures ∙ ap goodEnds (c .before .text-at .ensures) ∙ place-ends (c .before .before .before .before .argument-with .ensures f sp) (sym (c .before .before .before .is-there .ensures) ∙ c .before .before .if1 .taken)
+returns c =
+    let there = c .before .before .before in
+    λ f sp.
+    c .good-ends .ensures ∙ ap goodEnds (c .before .text-at .ensures)
+    ∙ place-ends (there .before .argument-with .ensures f sp) (sym (there .is-there .ensures) ∙ c .before .before .if1 .taken)
 
 returns-2 : tie.Need-returns-2
 returns-2 c = λ f sp. place-free (c .before .before .argument-with .ensures f sp) (sym (c .before .is-there .ensures) ∙ c .if1 .left)

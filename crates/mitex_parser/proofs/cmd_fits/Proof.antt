@@ -14,10 +14,16 @@ arguments-fit-requires : tie.Need-arguments-fit-requires
 arguments-fit-requires c κs = search needs
 
 returns : tie.Need-returns
-returns c = λ f sp. cmd-named f _ (c .before .before .before .name-tok .ensures f sp) (c .before .before .begins-slashed .result) (c .before .before .begins-slashed .ensures) (c .before .if1 .taken) (c .arguments-fit .result) (c .arguments-fit .ensures f sp)
+returns c =
+    let slash = c .before .before in
+    λ f sp.
+    cmd-named f _ (slash .before .name-tok .ensures f sp) (slash .begins-slashed .result) (slash .begins-slashed .ensures) (c .before .if1 .taken)
+    (c .arguments-fit .result) (c .arguments-fit .ensures f sp)
 
 returns-2 : tie.Need-returns-2
-returns-2 c = λ f sp. cmd-unnamed f _ (c .before .before .name-tok .ensures f sp) (c .before .begins-slashed .result) (c .before .begins-slashed .ensures) (c .if1 .left)
+returns-2 c =
+    let slash = c .before in
+    λ f sp. cmd-unnamed f _ (slash .before .name-tok .ensures f sp) (slash .begins-slashed .result) (slash .begins-slashed .ensures) (c .if1 .left)
 
 pub cmd-fits-spec : {M : Type 1} → statement M
 cmd-fits-spec =
