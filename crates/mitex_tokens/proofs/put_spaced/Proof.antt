@@ -46,8 +46,7 @@ put-byte-requires c κs =
 sub-t : tie.Need-sub-t Inv-loop μ-loop
 sub-t c =
     let c₁ = c .before .before .before .before .before in
-    let c₂ = c₁ .before .before .before .before in
-    first (c₂) .within
+    let f = first (c₁ .before .before .before .before) in omega arith
 
 part-t-start : tie.Need-part-t-start Inv-loop μ-loop
 part-t-start c =
@@ -63,7 +62,7 @@ loop-less c =
     let c₁ = c .before .before .before .before .before in
     let c₂ = c₁ .before .before .before .before .before in
     let c₃ = c₂ .before .before in
-    let f = first (c₂) in left-less (c₃ .loop .t .now) _ (f .some) (f .within)
+    let f = first (c₂) in left-less (c₃ .loop .t .now) _ (omega arith) (omega arith)
 
 loop-again : tie.Need-loop-again Inv-loop μ-loop
 loop-again c =
