@@ -1,11 +1,16 @@
--- Laws of what follows a walk: the text behind it under another name, and no text at all.
+-- Laws of what follows a walk: the text behind it under another name, no text at all, and one byte or nothing.
 use mathlib.Core.Path.{_≡_, refl, subst}
-use mathlib.Core.List.{List, []}
+use mathlib.Core.List.{List, [], _∷_}
 use Prim.Native.Nat.{ℕ, _≤_}
+use borrow.Author.Tests.{ne-eqb}
 use Rattle.text.specs.Writing.{cap}
 use Rattle.text.proofs.Writing.{wrote-nil}
+use Rattle.mitex_state.specs.Children.{behind}
 use Rattle.mitex_state.specs.Contract.{Place, placeOf, Closed}
 use Rattle.mitex_state.specs.declared.Walked.{Walked}
+use Rattle.mitex_state.specs.declared.Act.{Act}
+use Rattle.mitex_state.specs.declared.Act.the-variants.{Skip, Convert, ThenSpace, Space, ThenComma, InBrackets, InDollars, SplitBare, SplitBased, Name, Empty, EmptyLast, ThinRule, ThickRule, Open, Close, CloseLast}
+use Rattle.mitex_loops.specs.Marks.{behindByte, markOf}
 
 pub closed-as :
     {a r : Walked} {x : Place} {w v out out′ : List ℕ} → w ≡ v → Closed a x w out r out′ → Closed a x v out r out′
@@ -14,3 +19,27 @@ closed-as {a} {r} {x} {w} {v} {out} {out′} e m = subst (λ (u : List ℕ). Clo
 pub closed-nil : (a : Walked) (out : List ℕ) → (a .refusal ≡ 0 → a .at ≤ cap) → Closed a (placeOf (a .converter)) [] out a out
 closed-nil a out h =
     record { refused-on = λ z. (refl, refl); accepted = λ z. z; converter = λ z. refl; written = λ z. wrote-nil (a .at) out (h z) }
+
+-- ---- one byte or nothing
+
+pub some-mark : (b : ℕ) → (b ≡ 0 → ⊥) → b ∷ [] ≡ markOf b
+some-mark b h = rw (ne-eqb b 0 h)
+
+pub behind-mark : (a : Act) → markOf (behindByte a) ≡ behind a
+behind-mark Skip = refl
+behind-mark Convert = refl
+behind-mark ThenSpace = refl
+behind-mark Space = refl
+behind-mark ThenComma = refl
+behind-mark InBrackets = refl
+behind-mark InDollars = refl
+behind-mark SplitBare = refl
+behind-mark SplitBased = refl
+behind-mark (Name n) = refl
+behind-mark Empty = refl
+behind-mark EmptyLast = refl
+behind-mark ThinRule = refl
+behind-mark ThickRule = refl
+behind-mark Open = refl
+behind-mark Close = refl
+behind-mark CloseLast = refl

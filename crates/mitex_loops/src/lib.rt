@@ -17,6 +17,7 @@ ghost use Rattle.mitex_state.specs.Groups.{groupEnv, lrBegin, lrEnd, attachLoop
 ghost use Rattle.mitex_state.specs.Colors.{bodyEnd, bodyLoop, argumentsLoop};
 ghost use Rattle.mitex_state.specs.Contract.{placeOf, Closed};
 ghost use Rattle.mitex_state.specs.declared.Act.the-variants.{Skip, Convert, Space, ThenSpace, ThenComma, InDollars};
+ghost use Rattle.mitex_loops.specs.Marks.{behindByte};
 ghost use Rattle.mitex_loops.specs.Given.{ChildGiven, OthersGiven, Decides, numberOf};
 use mitex_state::Act;
 use mitex_state::Attach;
@@ -607,30 +608,42 @@ fn close_here(out: &mut [u8], a: Walked, s: &[u8]) -> Walked
     mitex_state::close(out, a, mode, env, indent, s)
 }
 
+// The byte that is written behind a child, 0 where none is.
+fn behind_byte(act: Act) -> u8
+    ensures { λ r. ⌜ r ≡ behindByte act ⌝ }
+{
+    match act {
+        Act::Skip => 0,
+        Act::Convert => 0,
+        Act::ThenSpace => b' ',
+        Act::Space => 0,
+        Act::ThenComma => b',',
+        Act::InBrackets => b']',
+        Act::InDollars => b'$',
+        Act::SplitBare => 0,
+        Act::SplitBased => 0,
+        Act::Name(_) => b',',
+        Act::Empty => 0,
+        Act::EmptyLast => 0,
+        Act::ThinRule => 0,
+        Act::ThickRule => 0,
+        Act::Open => 0,
+        Act::Close => 0,
+        Act::CloseLast => 0,
+    }
+}
+
 // What is written behind a child.
 pub fn close_turn(out: &mut [u8], a: Walked, act: Act) -> Walked
     requires { ⌜ ((a .refusal ≡ 0 → a .at ≤ cap) × (length (now out) ≤ cap)) ⌝ }
     ensures { λ r. ⌜ Closed a (placeOf (a .converter)) (behind act) (now (out .entry)) r (now (out .exit)) ⌝ }
 {
-    match act {
-        Act::Skip => a,
-        Act::Convert => a,
-        Act::ThenSpace => close_here(out, a, b" "),
-        Act::Space => a,
-        Act::ThenComma => close_here(out, a, b","),
-        Act::InBrackets => close_here(out, a, b"]"),
-        Act::InDollars => close_here(out, a, b"$"),
-        Act::SplitBare => a,
-        Act::SplitBased => a,
-        Act::Name(_) => close_here(out, a, b","),
-        Act::Empty => a,
-        Act::EmptyLast => a,
-        Act::ThinRule => a,
-        Act::ThickRule => a,
-        Act::Open => a,
-        Act::Close => a,
-        Act::CloseLast => a,
+    let b = behind_byte(act);
+    if b == 0 {
+        return a;
     }
+    let s = [b];
+    close_here(out, a, &s)
 }
 
 // The end of a formula; the converter comes back to the place before it.
