@@ -16,7 +16,7 @@ use Rattle.mitex_syntax.specs.Rows.{extentOf, tokenSum, Spans}
 use Rattle.mitex_syntax.specs.Views.{isValid, isInline}
 use Rattle.mitex_syntax.proofs.Trees.{Element, element, all-begins, spans, rows-e, text-n, part, part-spells, past-exact, no-left}
 use Rattle.mitex_syntax.proofs.Places.{some-forest}
-use Rattle.mitex_state.specs.Outcome.{Context, Carry, Outcome, Conv, after, closing, inMode, inEnv, stepOf, labelMost}
+use Rattle.mitex_state.specs.Outcome.{Context, Carry, Outcome, Conv, Arm, after, closing, inMode, inEnv, stepOf, labelMost}
 use Rattle.mitex_state.specs.Outcome.Outcome.{refused, done}
 use Rattle.mitex_state.specs.State.{contextOf, carryOf}
 use Rattle.mitex_state.specs.Contract.{Place, placeOf, Agrees}
@@ -32,10 +32,11 @@ use Rattle.mitex_state.specs.declared.LaTeXEnv.the-variants.{None, Figure, Tabl
 use Rattle.mitex_state.specs.declared.LaTeXEnv.the-variants.{Math as MathEnv}
 use Rattle.mitex_state.specs.declared.Loop.{Loop}
 use Rattle.mitex_state.specs.declared.Loop.the-variants.{Plain, Curly, Spaced}
+use Rattle.mitex_state.specs.declared.CaptionPart.{CaptionPart}
 use Rattle.mitex_state.specs.declared.Converter.{Converter}
 use Rattle.mitex_state.specs.declared.Walked.{Walked}
 use Rattle.mitex_loops.specs.Given.{numberOf}
-use Rattle.mitex.specs.Walks.{Room, Siblings, Loops}
+use Rattle.mitex.specs.Walks.{Room, Siblings, Converts, Walks, Loops, Captions}
 use Rattle.mitex.proofs.Walking.{rest-rows, room-for, room-part}
 
 -- ---- what a walk over the children asks
@@ -56,6 +57,24 @@ pub loops-as :
     → Loops rules index rows text row c at out a out′ l → Loops rules index rows text row d at out a out′ l
 loops-as {rules} {index} {rows} {text} {row} {c} {d} {at} {out} {a} {out′} l e m =
     subst (λ (z : Converter). Loops rules index rows text row z at out a out′ l) e m
+
+pub walks-as :
+    {rules index rows text : List ℕ} {row : ℕ} {c d : Converter} {at : ℕ} {out : List ℕ} {a : Walked} {out′ : List ℕ} (arm : Arm) → c ≡ d
+    → Walks rules index rows text row c at out a out′ arm → Walks rules index rows text row d at out a out′ arm
+walks-as {rules} {index} {rows} {text} {row} {c} {d} {at} {out} {a} {out′} arm e m =
+    subst (λ (z : Converter). Walks rules index rows text row z at out a out′ arm) e m
+
+pub captions-as :
+    {rules index rows text : List ℕ} {row : ℕ} {c d : Converter} {at : ℕ} {out : List ℕ} {a : Walked} {out′ : List ℕ} (p : CaptionPart) → c ≡ d
+    → Captions rules index rows text row c at out a out′ p → Captions rules index rows text row d at out a out′ p
+captions-as {rules} {index} {rows} {text} {row} {c} {d} {at} {out} {a} {out′} p e m =
+    subst (λ (z : Converter). Captions rules index rows text row z at out a out′ p) e m
+
+pub converts-as :
+    {rules index rows text : List ℕ} {row : ℕ} {c d : Converter} {at : ℕ} {out : List ℕ} {a : Walked} {out′ : List ℕ} → c ≡ d
+    → Converts rules index rows text row c at out a out′ → Converts rules index rows text row d at out a out′
+converts-as {rules} {index} {rows} {text} {row} {c} {d} {at} {out} {a} {out′} e m =
+    subst (λ (z : Converter). Converts rules index rows text row z at out a out′) e m
 
 -- the same loop
 pub loops-how :

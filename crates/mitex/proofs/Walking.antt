@@ -7,7 +7,7 @@ use Prim.Native.Nat.{ℕ, _+_, _*_, _-_, _/_, _≤_, _<_}
 use native.Mathlib.Omega.{arith}
 use lib.Dec.{eqb}
 use lib.ListN.{length, take, drop, getD, length-drop}
-use lib.Seq.{take-all}
+use lib.Seq.{take-all, length-take-le}
 use Rattle.text.specs.Writing.{cap}
 use Rattle.mitex_spec.specs.Rules.{Rule}
 use Rattle.mitex_spec.specs.Index.{Ready, SomeRules}
@@ -17,7 +17,7 @@ use Rattle.mitex_syntax.specs.Tree.Forest.{none, more}
 use Rattle.mitex_syntax.specs.Spells.{Spells, SpellsAll, SomeTree}
 use Rattle.mitex_syntax.specs.Rows.{extentOf, tokenSum, Spans}
 use Rattle.mitex_syntax.proofs.Trees.{Element, element, all-begins, spans, kind-at, rows-e, text-n, part, part-spells, part-length, part-short, past-exact, no-left, size-more}
-use Rattle.mitex_state.specs.Outcome.{Carry, Outcome, after, andThen, closing, shift, labelMost}
+use Rattle.mitex_state.specs.Outcome.{Carry, Outcome, Arm, after, andThen, closing, shift, labelMost}
 use Rattle.mitex_state.specs.Outcome.Outcome.{refused, done}
 use Rattle.mitex_state.specs.State.{contextOf, carryOf}
 use Rattle.mitex_state.specs.Contract.{Place, placeOf, Agrees, Closed}
@@ -29,11 +29,12 @@ use Rattle.mitex_state.specs.declared.Loop.{Loop}
 use Rattle.mitex_state.specs.declared.Loop.the-variants.{Plain, Curly, Spaced, Attached, Greedy, Separated, Bracketed, Dollars, Arguments, Named, Inside, Figure, Table}
 use Rattle.mitex_state.specs.declared.Act.{Act}
 use Rattle.mitex_state.specs.declared.Act.the-variants.{Skip, Convert, ThenSpace, Space, ThenComma, InBrackets, InDollars, SplitBare, SplitBased, Name, Empty, EmptyLast, ThinRule, ThickRule, Open, Close, CloseLast}
+use Rattle.mitex_state.specs.declared.CaptionPart.{CaptionPart}
 use Rattle.mitex_state.specs.declared.Converter.{Converter}
 use Rattle.mitex_state.specs.declared.Walked.{Walked}
 use Rattle.mitex_state.proofs.Agreeing.{Good, good, agrees-as, agrees-shift, agrees-close, then-done, then-refused}
 use Rattle.mitex_state.proofs.Loops.{turn-converts, turn-passes, each-none, each-more, each-at}
-use Rattle.mitex.specs.Walks.{Room, Siblings, Converts, Turns, Loops}
+use Rattle.mitex.specs.Walks.{Room, Siblings, CaptionGiven, Converts, Walks, Turns, Loops, Captions}
 
 -- ---- where a loop stands
 
@@ -295,6 +296,16 @@ pub loops-good :
     → SomeRules rules index → Siblings rows text → Loops rules index rows text row c at out a out′ l → a .refusal ≡ 0 → Good a (placeOf c)
 loops-good c l rs g m z = good (m (rs .rules) (rs .ready) (g .forest) (g .spells) (sizes (g .forest)) (omega arith)) z
 
+pub walks-good :
+    {rules index rows text : List ℕ} {row : ℕ} (c : Converter) {at : ℕ} {out : List ℕ} {a : Walked} {out′ : List ℕ} (arm : Arm)
+    → SomeRules rules index → Siblings rows text → Walks rules index rows text row c at out a out′ arm → a .refusal ≡ 0 → Good a (placeOf c)
+walks-good c arm rs g m z = good (m (rs .rules) (rs .ready) (g .forest) (g .spells) (sizes (g .forest)) (omega arith)) z
+
+pub captions-good :
+    {rules index rows text : List ℕ} {row : ℕ} (c : Converter) {at : ℕ} {out : List ℕ} {a : Walked} {out′ : List ℕ} {p : CaptionPart}
+    → SomeRules rules index → CaptionGiven rows text p → Captions rules index rows text row c at out a out′ p → a .refusal ≡ 0 → Good a (placeOf c)
+captions-good c rs g m z = good (m (rs .rules) (rs .ready) (g .forest) (g .spells) (g .found) (sizes (g .forest)) (omega arith)) z
+
 -- ---- what one walk is given by another
 
 -- the same rows, another place and converter
@@ -354,3 +365,18 @@ module _ {rules index rows text : List ℕ} {row : ℕ} (k : ℕ) (c : Converter
       (rs : List Rule) → Ready rules index rs → (f : Forest) → SpellsAll f rows text → (d : ℕ) → sizes f ≤ d
       → Agrees a (placeOf c) row at out out′ (each (convert d (contextOf rs c)) k l f (carryOf c))
   loops-at rs ready f sp d h = agrees-as (each-at (convert d (contextOf rs c)) k l f (carryOf c)) (agrees-shift k (m rs ready f sp d h))
+
+-- ---- a part of the rows or of the text
+
+pub between-length : (l : List ℕ) (a b : ℕ) → a ≤ b → b ≤ length l → length (take (b - a) (drop a l)) ≡ b - a
+between-length l a b h k = length-take-le (b - a) (drop a l) (simp length-drop (omega arith))
+
+-- a walk over a part, whose first row stands behind those before it
+pub room-between :
+    {at row : ℕ} {rows text out : List ℕ} {c : Converter} → Room 8 rows text out at row c → (i e j u : ℕ) → i ≤ e → e ≤ length rows → j ≤ u
+    → u ≤ length text → (d : Converter) → d .indent ≤ c .indent + 2 → d .«label_len» ≤ labelMost → {at′ : ℕ} {out′ : List ℕ} → length out′ ≡ length out
+    → at′ ≤ cap → Room 0 (take (e - i) (drop i rows)) (take (u - j) (drop j text)) out′ at′ (row + 1 + i / 8) d
+room-between {row = row} {rows = rows} {text = text} r i e j u hi he hj hu d hd l k p =
+    let lr = between-length rows i e hi he in
+    let lt = between-length text j u hj hu in
+    room-part r 0 (row + 1 + i / 8) d (omega arith) (omega arith) (omega arith) (omega arith) l k p

@@ -1,0 +1,225 @@
+-- Laws of the arms of environments: what an environment comes to once its rule is known, and its captions and column letters.
+use mathlib.Core.Path.{_≡_, refl, sym, ap, subst, _∙_}
+use mathlib.Core.Bool.{Bool, true, false, cond}
+use mathlib.Core.Option.{Option}
+use mathlib.Core.Option.Option.{none as nothing, some}
+use mathlib.Core.List.{List, [], _++_, append-assoc}
+use Prim.Native.Nat.{ℕ, _+_, _*_, _-_, _/_, _≤_, _<_}
+use native.Mathlib.Omega.{arith}
+use lib.ListN.{length, take, drop, length-append, length-drop, length-take}
+use Rattle.text.specs.Ascii.{ascii}
+use Rattle.utf8.specs.Trim.{trim}
+use Rattle.utf8.proofs.Trimming.{trim-length}
+use Rattle.mitex_spec.specs.Rules.{Rule, getEnv, aliasOr}
+use Rattle.mitex_spec.specs.LookUp.{aliasOf, ruleOf}
+use Rattle.mitex_spec.specs.declared.Found.{Found}
+use Rattle.mitex_spec.specs.declared.Found.the-variants.{Absent, Plain as PlainRule, Aliased}
+use Rattle.mitex_syntax.specs.Syntax.{ClauseArgument, ItemBegin}
+use Rattle.mitex_syntax.specs.Tree.{Tree, Forest, size, sizes, textOf, textsOf}
+use Rattle.mitex_syntax.specs.Tree.Tree.{token, node}
+use Rattle.mitex_syntax.specs.Tree.Forest.{none, more}
+use Rattle.mitex_syntax.specs.Spells.{SpellsAll}
+use Rattle.mitex_syntax.specs.Views.{isOf, envName, textIn, inner, firstBy, firstOf, childrenOf, childrenIn, beginOf}
+use Rattle.mitex_syntax.proofs.Trees.{size-more, length-rowss}
+use Rattle.mitex_state.specs.Outcome.{Context, Carry, Outcome, Conv, after, andThen, closing, shift, inEnv, stepOf}
+use Rattle.mitex_state.specs.Outcome.Outcome.{refused, done}
+use Rattle.mitex_state.specs.Contract.{Place, Agrees}
+use Rattle.mitex_state.specs.Contract.Agrees.{declines, accepts}
+use Rattle.mitex_state.specs.Children.{each}
+use Rattle.mitex_state.specs.Tables.{hasEnds, lettersFit, tableHead}
+use Rattle.mitex_state.specs.Environments.{Caption, isCaption, captionAt, orLater, lastCaption, captioned, figureBody, tableBy, tableEnv, tableWith, envOf, envWith, envBy, environment, environmentNamed}
+use Rattle.mitex_state.specs.Environments.Caption.{absent, bare, caption}
+use Rattle.mitex_state.specs.Parts.{CaptionStands, CaptionFound}
+use Rattle.mitex_state.specs.Parts.CaptionFound.{no-caption, bare-caption, caption-at}
+use Rattle.mitex_state.proofs.Outcomes.{closing-nil}
+use Rattle.mitex_state.specs.declared.LaTeXEnv.{LaTeXEnv}
+use Rattle.mitex_state.specs.declared.LaTeXEnv.the-variants.{None, Figure, Itemize, Enumerate, Math, Matrix, Cases, SubStack, MathCurlyGroup}
+use Rattle.mitex_state.specs.declared.LaTeXEnv.the-variants.{Table as TableEnv}
+use Rattle.mitex_state.specs.declared.Loop.the-variants.{Table}
+use Rattle.mitex_state.specs.declared.Part.{Part}
+use Rattle.mitex_state.specs.declared.CaptionPart.{CaptionPart}
+use Rattle.mitex_state.specs.declared.CaptionPart.the-variants.{NoCaption, BareCaption, CaptionAt}
+use Rattle.mitex_state.specs.declared.Walked.{Walked}
+use Rattle.mitex_commands.specs.Leaves.{isAbsent, classOf}
+
+-- ---- by rule
+
+pub env-named : (conv : Conv) (x : Context) (f : Forest) (c : Carry) (name : List ℕ) → name ≡ trim (envName f)
+    → environment conv x f c ≡ envBy (getEnv (x .rules) name) name conv x f c
+env-named conv x f c name h = ap (λ (s : List ℕ). envBy (getEnv (x .rules) s) s conv x f c) (sym h)
+
+pub env-absent :
+    (o : Option Rule) (name : List ℕ) (conv : Conv) (x : Context) (f : Forest) (c : Carry) (file : List ℕ) (found : Found)
+    → ruleOf file name found ≡ o → isAbsent found ≡ true → envBy o name conv x f c ≡ refused 10 0
+env-absent o name conv x f c file Absent e h = ap (λ (p : Option Rule). envBy p name conv x f c) (sym e)
+env-absent o name conv x f c file (PlainRule class) e h = let z : _≡_ {A = ℕ} 0 1 = cc in absurd (omega arith)
+env-absent o name conv x f c file (Aliased class at size) e h = let z : _≡_ {A = ℕ} 0 1 = cc in absurd (omega arith)
+
+pub env-found :
+    (o : Option Rule) (name : List ℕ) (conv : Conv) (x : Context) (f : Forest) (c : Carry) (file : List ℕ) (found : Found) (w : List ℕ)
+    (env : LaTeXEnv) → ruleOf file name found ≡ o → isAbsent found ≡ false → w ≡ aliasOr (aliasOf file found) name
+    → env ≡ envOf (classOf found) → envBy o name conv x f c ≡ envWith env w conv x f c
+env-found o name conv x f c file Absent w env e h i j = let z : _≡_ {A = ℕ} 0 1 = cc in absurd (omega arith)
+env-found o name conv x f c file (PlainRule class) w env e h i j =
+    ap (λ (p : Option Rule). envBy p name conv x f c) (sym e)
+    ∙ ap (λ (s : List ℕ). envWith (envOf class) s conv x f c) (sym i)
+    ∙ ap (λ (y : LaTeXEnv). envWith y w conv x f c) (sym j)
+env-found o name conv x f c file (Aliased class at size) w env e h i j =
+    ap (λ (p : Option Rule). envBy p name conv x f c) (sym e)
+    ∙ ap (λ (s : List ℕ). envWith (envOf class) s conv x f c) (sym i)
+    ∙ ap (λ (y : LaTeXEnv). envWith y w conv x f c) (sym j)
+
+pub step-small : (e : LaTeXEnv) → stepOf e ≤ 2
+step-small None = omega arith
+step-small Figure = omega arith
+step-small TableEnv = omega arith
+step-small Itemize = omega arith
+step-small Enumerate = omega arith
+step-small Math = omega arith
+step-small Matrix = omega arith
+step-small Cases = omega arith
+step-small SubStack = omega arith
+step-small MathCurlyGroup = omega arith
+
+-- a refusal is one with a text behind it too
+pub closing-declines :
+    {a : Walked} {x y : Place} {row at : ℕ} {out out′ : List ℕ} {o : Outcome} (w : List ℕ) → Agrees a x row at out out′ o → (a .refusal ≡ 0 → ⊥)
+    → Agrees a y row at out out′ (closing w o)
+closing-declines w (declines g p q) z = declines g p q
+closing-declines w (accepts u ex ec l v) z = absurd (z u)
+
+-- ---- captions
+
+module _ {f : Forest} {rows text : List ℕ} where
+  pub caption-none : {r : CaptionPart} → CaptionFound f rows text r → r ≡ NoCaption → lastCaption 1 f ≡ absent
+  caption-none m e = go (subst (CaptionFound f rows text) e m)
+    where
+      go : CaptionFound f rows text NoCaption → lastCaption 1 f ≡ absent
+      go (no-caption h) = h
+
+  pub caption-bare : {r : CaptionPart} {n : ℕ} → CaptionFound f rows text r → r ≡ BareCaption n → lastCaption 1 f ≡ bare (1 + n)
+  caption-bare {r} {n} m e = go (subst (CaptionFound f rows text) e m)
+    where
+      go : CaptionFound f rows text (BareCaption n) → lastCaption 1 f ≡ bare (1 + n)
+      go (bare-caption h) = h
+
+  pub caption-stands : {r : CaptionPart} {p : Part} → CaptionFound f rows text r → r ≡ CaptionAt p → CaptionStands f rows text p
+  caption-stands {r} {p} m e = go (subst (CaptionFound f rows text) e m)
+    where
+      go : CaptionFound f rows text (CaptionAt p) → CaptionStands f rows text p
+      go (caption-at s) = s
+
+pub captioned-as : (k : Caption) (conv : Conv) (x : Context) (f : Forest) (c : Carry) → lastCaption 1 f ≡ k
+    → captioned (lastCaption 1 f) conv x f c ≡ captioned k conv x f c
+captioned-as k conv x f c e = ap (λ (p : Caption). captioned p conv x f c) e
+
+-- ---- tables
+
+pub table-bad :
+    (o : Option Tree) (w s : List ℕ) (conv : Conv) (x : Context) (f : Forest) (c : Carry) → s ≡ textIn o → hasEnds s ≡ false
+    → tableBy w o conv x f c ≡ refused 12 0
+table-bad nothing w s conv x f c e h = refl
+table-bad (some t) w s conv x f c e h =
+    ap (λ (b : Bool). cond b (tableWith w (trim (inner (textIn (some t)))) conv x f c) (refused 12 0)) (ap hasEnds (sym e) ∙ h)
+
+pub table-letters :
+    (o : Option Tree) (w s l : List ℕ) (conv : Conv) (x : Context) (f : Forest) (c : Carry) → s ≡ textIn o → hasEnds s ≡ true
+    → l ≡ trim (inner s) → tableBy w o conv x f c ≡ tableWith w l conv x f c
+table-letters nothing w s l conv x f c e h i =
+    let z : _≡_ {A = Bool} false true = ap hasEnds (sym e) ∙ h in
+    let y : _≡_ {A = ℕ} 0 1 = cc in absurd (omega arith)
+table-letters (some t) w s l conv x f c e h i =
+    ap (λ (b : Bool). cond b (tableWith w (trim (inner (textIn (some t)))) conv x f c) (refused 12 0)) (ap hasEnds (sym e) ∙ h)
+    ∙ ap (λ (r : List ℕ). tableWith w (trim (inner r)) conv x f c) (sym e)
+    ∙ ap (λ (r : List ℕ). tableWith w r conv x f c) (sym i)
+
+pub letters-bad : (w l : List ℕ) (conv : Conv) (x : Context) (f : Forest) (c : Carry) → lettersFit l ≡ false → tableWith w l conv x f c ≡ refused 13 0
+letters-bad w l conv x f c e = rw e
+
+pub letters-good :
+    (w l : List ℕ) (conv : Conv) (x : Context) (f : Forest) (c : Carry) → lettersFit l ≡ true → tableWith w l conv x f c
+    ≡ after (ascii "#" ++ (w ++ (ascii "(" ++ tableHead l))) (closing [] (each (conv (inEnv TableEnv x)) 1 (Table true) f c))
+letters-good w l conv x f c e =
+    ap (λ (b : Bool). cond b (after (ascii "#" ++ (w ++ (ascii "(" ++ tableHead l))) (each (conv (inEnv TableEnv x)) 1 (Table true) f c)) (refused 13 0)) e
+    ∙ ap (after (ascii "#" ++ (w ++ (ascii "(" ++ tableHead l)))) (sym (closing-nil (each (conv (inEnv TableEnv x)) 1 (Table true) f c)))
+
+-- ---- how far down a caption stands
+
+abbrev Low : ℕ → Caption → Type 0
+Low n absent = Unit {0}
+Low n (bare p) = p ≤ n
+Low n (caption p t) = Unit {0}
+
+low-more : (n m : ℕ) (k : Caption) → n ≤ m → Low n k → Low m k
+low-more n m absent h l = tt
+low-more n m (bare p) h l = omega arith
+low-more n m (caption p t) h l = tt
+
+low-later : (n : ℕ) (p q : Caption) → Low n p → Low n q → Low n (orLater p q)
+low-later n absent q l m = m
+low-later n (bare p) q l m = l
+low-later n (caption p t) absent l m = tt
+low-later n (caption p t) (bare q) l m = m
+low-later n (caption p t) (caption q u) l m = tt
+
+low-at : (n o : ℕ) (t : Tree) (a : Option Tree) → o ≤ n → Low n (captionAt o t a)
+low-at n o t nothing h = h
+low-at n o t (some a) h = tt
+
+low-if : (n : ℕ) (b : Bool) (p : Caption) → Low n p → Low n (cond b p absent)
+low-if n true p l = l
+low-if n false p l = tt
+
+caption-low : (o : ℕ) (f : Forest) → Low (o + sizes f) (lastCaption o f)
+unfolding lastCaption
+caption-low o none = tt
+caption-low o (more t f) =
+    low-later (o + sizes (more t f)) (cond (isCaption t) (captionAt o t (firstOf ClauseArgument (childrenOf t))) absent) (lastCaption (o + size t) f)
+    (low-if _ (isCaption t) (captionAt o t (firstOf ClauseArgument (childrenOf t))) (low-at _ o t (firstOf ClauseArgument (childrenOf t)) (omega arith)))
+    (low-more (o + size t + sizes f) (o + sizes (more t f)) (lastCaption (o + size t) f) (omega (arith, size-more t f)) (caption-low (o + size t) f))
+
+pub bare-low : {f : Forest} {rows text : List ℕ} (n : ℕ) → SpellsAll f rows text → lastCaption 1 f ≡ bare (1 + n) → 8 * n ≤ length rows
+bare-low {f} {rows} n sp e =
+    let h : Low (1 + sizes f) (bare (1 + n)) = subst (Low (1 + sizes f)) e (caption-low 1 f) in
+    omega (arith, h, ap length (sp .rows-are), length-rowss f)
+
+-- a name between its marks, and the head behind it
+pub head-joined : (w h : List ℕ) → (ascii "#" ++ (w ++ ascii "(")) ++ h ≡ ascii "#" ++ (w ++ (ascii "(" ++ h))
+head-joined w h = simp append-assoc
+
+-- ---- how long the column letters are
+
+-- what a test finds among the children is no longer than they are
+found-length : (p : Tree → Bool) (f : Forest) → length (textIn (firstBy p f)) ≤ length (textsOf f)
+unfolding firstBy textOf
+found-length p none = omega arith
+found-length p (more t f) = go (p t) (found-length p f)
+  where
+    go : (b : Bool) → length (textIn (firstBy p f)) ≤ length (textsOf f) → length (textIn (cond b (some t) (firstBy p f))) ≤ length (textOf t ++ textsOf f)
+    go true h = omega (arith, length-append (textOf t) (textsOf f))
+    go false h = omega (arith, length-append (textOf t) (textsOf f))
+
+children-length : (o : Option Tree) → length (textsOf (childrenIn o)) ≤ length (textIn o)
+unfolding textOf
+children-length nothing = omega arith
+children-length (some (token k s)) = omega arith
+children-length (some (node k f)) = omega arith
+
+inner-length : (s : List ℕ) → length (inner s) ≤ length s
+inner-length s = omega (arith, length-take (length s - 2) (drop 1 s), length-drop 1 s)
+
+pub letters-short :
+    {f : Forest} {rows text s l : List ℕ} → SpellsAll f rows text → s ≡ textIn (firstOf ClauseArgument (beginOf f)) → l ≡ trim (inner s)
+    → length l ≤ length text
+letters-short {f} {rows} {text} {s} sp e i =
+    omega (
+      arith,
+      ap length i,
+      trim-length (inner s),
+      inner-length s,
+      ap length e,
+      found-length (isOf ClauseArgument) (beginOf f),
+      children-length (firstOf ItemBegin f),
+      found-length (isOf ItemBegin) f,
+      ap length (sp .text-is),
+    )
