@@ -2,28 +2,22 @@
 use mathlib.Core.Path.{_≡_, refl, sym, ap, subst, _∙_}
 use mathlib.Core.Bool.{Bool, true, false, cond}
 use mathlib.Core.List.{List, []}
-use Prim.Native.Nat.{ℕ, _+_, _*_, _-_, _/_, _≤_, _<_}
+use Prim.Native.Nat.{ℕ, _+_, _*_, _-_, _≤_, _<_}
 use native.Mathlib.Omega.{arith}
-use lib.ListN.{length, take, drop, length-take, length-drop}
-use lib.Seq.{take-all}
+use lib.ListN.{length, take, drop}
 use Rattle.text.specs.Writing.{cap}
-use Rattle.mitex_spec.specs.Rules.{Rule}
-use Rattle.mitex_spec.specs.Index.{Ready, SomeRules}
-use Rattle.mitex_syntax.specs.Tree.{Tree, Forest, size, sizes, textOf}
+use Rattle.mitex_syntax.specs.Tree.{Tree, Forest, size, textOf}
 use Rattle.mitex_syntax.specs.Tree.Forest.{none, more}
-use Rattle.mitex_syntax.specs.Spells.{Spells, SpellsAll, SomeForest, SomeTree}
+use Rattle.mitex_syntax.specs.Spells.{Spells, SpellsAll, SomeForest}
 use Rattle.mitex_syntax.specs.Rows.{extentOf, tokenSum, Spans}
 use Rattle.mitex_syntax.specs.Views.{isValid, isInline}
-use Rattle.mitex_syntax.proofs.Trees.{Element, element, all-begins, spans, rows-e, text-n, part, part-spells, past-exact, no-left}
+use Rattle.mitex_syntax.proofs.Trees.{Element, element, all-begins, spans, rows-e, text-n, part-spells, past-exact}
 use Rattle.mitex_syntax.proofs.Places.{some-forest}
-use Rattle.mitex_state.specs.Outcome.{Context, Carry, Outcome, Conv, Arm, after, closing, inMode, inEnv, stepOf, labelMost}
+use Rattle.mitex_state.specs.Outcome.{Context, Carry, Conv, Arm, after, closing, inMode, inEnv, stepOf, labelMost}
 use Rattle.mitex_state.specs.Outcome.Outcome.{refused, done}
-use Rattle.mitex_state.specs.State.{contextOf, carryOf}
-use Rattle.mitex_state.specs.Contract.{Place, placeOf, Agrees}
 use Rattle.mitex_state.specs.Texts.{formulaBegin, formulaEnd}
 use Rattle.mitex_state.specs.Children.{each}
 use Rattle.mitex_state.specs.Groups.{attachLoop, formula, groupEnv, curlyIn, curlyGroup, lrBegin, lrEnd, clauseLr}
-use Rattle.mitex_state.specs.Conversion.{convert}
 use Rattle.mitex_state.proofs.Outcomes.{closing-nil}
 use Rattle.mitex_state.specs.declared.LaTeXMode.{LaTeXMode}
 use Rattle.mitex_state.specs.declared.LaTeXMode.the-variants.{Text, Math}
@@ -37,7 +31,7 @@ use Rattle.mitex_state.specs.declared.Converter.{Converter}
 use Rattle.mitex_state.specs.declared.Walked.{Walked}
 use Rattle.mitex_loops.specs.Given.{numberOf}
 use Rattle.mitex.specs.Walks.{Room, Siblings, Converts, Walks, Loops, Captions}
-use Rattle.mitex.proofs.Walking.{rest-rows, room-for, room-part}
+use Rattle.mitex.proofs.Walking.{rest-rows, room-for}
 
 -- ---- what a walk over the children asks
 

@@ -2,28 +2,25 @@
 use mathlib.Core.Path.{_≡_, refl, sym, ap, subst, _∙_}
 use mathlib.Core.Bool.{Bool, true, false, cond}
 use mathlib.Core.Option.{Option}
-use mathlib.Core.Option.Option.{none as nothing, some}
 use mathlib.Core.List.{List, [], _++_}
-use Prim.Native.Nat.{ℕ, _+_, _*_, _-_, _/_, _≤_, _<_}
+use Prim.Native.Nat.{ℕ, _+_, _/_}
 use native.Mathlib.Omega.{arith}
-use lib.ListN.{length, drop}
+use lib.ListN.{drop}
 use Rattle.text.specs.Ascii.{ascii}
 use Rattle.text.specs.Compare.{same}
-use Rattle.text.specs.Writing.{cap}
-use Rattle.mitex_spec.specs.Rules.{Rule, getCmd, aliasOr}
+use Rattle.mitex_spec.specs.Rules.{Rule, aliasOr}
 use Rattle.mitex_spec.specs.LookUp.{aliasOf, ruleOf}
 use Rattle.mitex_spec.specs.declared.Found.{Found}
 use Rattle.mitex_spec.specs.declared.Found.the-variants.{Absent, Plain as PlainRule, Aliased}
-use Rattle.mitex_syntax.specs.Tree.{Tree, Forest, size, sizes}
-use Rattle.mitex_syntax.specs.Tree.Tree.{node}
+use Rattle.mitex_syntax.specs.Tree.{Tree, Forest, size}
 use Rattle.mitex_syntax.specs.Tree.Forest.{none, more}
-use Rattle.mitex_syntax.specs.Views.{cmdName, firstBy, offsetBy}
+use Rattle.mitex_syntax.specs.Views.{cmdName, offsetBy}
 use Rattle.mitex_state.specs.Outcome.{Context, Carry, Outcome, Conv, after, andThen, closing, shift, inMode, inEnv}
 use Rattle.mitex_state.specs.Outcome.Outcome.{refused, done}
 use Rattle.mitex_state.specs.State.{contextOf, carryOf}
 use Rattle.mitex_state.specs.Texts.{substackName}
 use Rattle.mitex_state.specs.Children.{each}
-use Rattle.mitex_state.specs.Colors.{Model, colored, withModel, bodyEnd, bodyLoop, argumentsLoop}
+use Rattle.mitex_state.specs.Colors.{colored, bodyEnd, bodyLoop, argumentsLoop}
 use Rattle.mitex_state.specs.Commands.{typstName, argumentsOf, argumentsBy, isArgument, greedyIn, greedyArgument, stackEnv, written, normalBy, commandOf, commandBy, command}
 use Rattle.mitex_state.specs.Parts.{GreedyStands, GreedyFound}
 use Rattle.mitex_state.specs.Parts.GreedyFound.{no-greedy, greedy-at}

@@ -4,9 +4,9 @@ use mathlib.Core.Bool.{Bool, true, false, cond}
 use mathlib.Core.Option.{Option}
 use mathlib.Core.Option.Option.{none as nothing, some}
 use mathlib.Core.List.{List, [], _++_, append-assoc}
-use Prim.Native.Nat.{ℕ, _+_, _*_, _-_, _/_, _≤_, _<_}
+use Prim.Native.Nat.{ℕ, _+_, _*_, _-_, _≤_}
 use native.Mathlib.Omega.{arith}
-use lib.ListN.{length, take, drop, length-append, length-drop, length-take}
+use lib.ListN.{length, drop, length-append, length-drop, length-take}
 use Rattle.text.specs.Ascii.{ascii}
 use Rattle.utf8.specs.Trim.{trim}
 use Rattle.utf8.proofs.Trimming.{trim-length}
@@ -21,13 +21,13 @@ use Rattle.mitex_syntax.specs.Tree.Forest.{none, more}
 use Rattle.mitex_syntax.specs.Spells.{SpellsAll}
 use Rattle.mitex_syntax.specs.Views.{isOf, envName, textIn, inner, firstBy, firstOf, childrenOf, childrenIn, beginOf}
 use Rattle.mitex_syntax.proofs.Trees.{size-more, length-rowss}
-use Rattle.mitex_state.specs.Outcome.{Context, Carry, Outcome, Conv, after, andThen, closing, shift, inEnv, stepOf}
-use Rattle.mitex_state.specs.Outcome.Outcome.{refused, done}
+use Rattle.mitex_state.specs.Outcome.{Context, Carry, Outcome, Conv, after, closing, inEnv, stepOf}
+use Rattle.mitex_state.specs.Outcome.Outcome.{refused}
 use Rattle.mitex_state.specs.Contract.{Place, Agrees}
 use Rattle.mitex_state.specs.Contract.Agrees.{declines, accepts}
 use Rattle.mitex_state.specs.Children.{each}
 use Rattle.mitex_state.specs.Tables.{hasEnds, lettersFit, tableHead}
-use Rattle.mitex_state.specs.Environments.{Caption, isCaption, captionAt, orLater, lastCaption, captioned, figureBody, tableBy, tableEnv, tableWith, envOf, envWith, envBy, environment, environmentNamed}
+use Rattle.mitex_state.specs.Environments.{Caption, isCaption, captionAt, orLater, lastCaption, captioned, tableBy, tableWith, envOf, envWith, envBy, environment}
 use Rattle.mitex_state.specs.Environments.Caption.{absent, bare, caption}
 use Rattle.mitex_state.specs.Parts.{CaptionStands, CaptionFound}
 use Rattle.mitex_state.specs.Parts.CaptionFound.{no-caption, bare-caption, caption-at}

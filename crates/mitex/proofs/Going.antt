@@ -1,9 +1,9 @@
 -- Laws of going on after a walk: what a closed walk gives, and the same promise at another row, in another place.
-use mathlib.Core.Path.{_≡_, refl, sym, ap, subst, _∙_}
+use mathlib.Core.Path.{_≡_, sym, ap, subst, _∙_}
 use mathlib.Core.Bool.{Bool}
 use mathlib.Core.Option.{Option}
 use mathlib.Core.List.{List, _++_}
-use Prim.Native.Nat.{ℕ, _+_, _≤_, _<_}
+use Prim.Native.Nat.{ℕ, _≤_, _<_}
 use native.Mathlib.Omega.{arith}
 use native.Mathlib.Decide.{decLe}
 use lib.ListN.{length}
@@ -11,17 +11,17 @@ use Rattle.text.specs.Ascii.{ascii}
 use Rattle.text.specs.Writing.{cap}
 use Rattle.text.proofs.Writing.{wrote-low}
 use Rattle.mitex_spec.specs.Rules.{Rule}
-use Rattle.mitex_spec.specs.Index.{Ready, SomeRules}
-use Rattle.mitex_syntax.specs.Tree.{Tree, Forest, size}
-use Rattle.mitex_syntax.specs.Spells.{Spells, SomeTree}
-use Rattle.mitex_state.specs.Outcome.{Context, Carry, Outcome, Arm}
+use Rattle.mitex_spec.specs.Index.{SomeRules}
+use Rattle.mitex_syntax.specs.Tree.{Forest, size}
+use Rattle.mitex_syntax.specs.Spells.{SomeTree}
+use Rattle.mitex_state.specs.Outcome.{Context, Outcome, Arm}
 use Rattle.mitex_state.specs.State.{contextOf, carryOf}
 use Rattle.mitex_state.specs.Contract.{Place, placeOf, Agrees, Closed, Takes, Declined}
 use Rattle.mitex_state.specs.Children.{each}
 use Rattle.mitex_state.specs.Colors.{colorAlias}
 use Rattle.mitex_state.specs.Environments.{takeLabel}
 use Rattle.mitex_state.specs.Conversion.{convert}
-use Rattle.mitex_state.proofs.Agreeing.{Good, good, agrees-takes}
+use Rattle.mitex_state.proofs.Agreeing.{good, agrees-takes}
 use Rattle.mitex_state.specs.declared.LaTeXMode.{LaTeXMode}
 use Rattle.mitex_state.specs.declared.Loop.{Loop}
 use Rattle.mitex_state.specs.declared.ModelPart.{ModelPart}

@@ -1,16 +1,15 @@
 -- From an element to its children: what the rows of a node spell, and what its arm comes to.
 use mathlib.Core.Path.{_≡_, refl, sym, ap, subst, _∙_}
-use mathlib.Core.Bool.{Bool, true, false}
+use mathlib.Core.Bool.{true, false}
 use mathlib.Core.List.{List}
-use Prim.Native.Nat.{ℕ, zero, suc, _+_, _-_, _≤_, _<_}
+use Prim.Native.Nat.{ℕ, zero, suc, _+_, _-_, _≤_}
 use native.Mathlib.Omega.{arith}
 use lib.ListN.{length, take, drop, getD, length-drop}
-use Rattle.text.specs.Writing.{cap}
 use Rattle.mitex_syntax.specs.Tree.{Tree, Forest, size, sizes}
-use Rattle.mitex_syntax.specs.Tree.Tree.{token, node}
+use Rattle.mitex_syntax.specs.Tree.Tree.{node}
 use Rattle.mitex_syntax.specs.Spells.{Spells, SpellsAll, SomeTree}
-use Rattle.mitex_syntax.proofs.Trees.{rows-some, under, size-node, size-some}
-use Rattle.mitex_state.specs.Outcome.{Context, Carry, Outcome, flagged, labelMost}
+use Rattle.mitex_syntax.proofs.Trees.{under, size-node, size-some}
+use Rattle.mitex_state.specs.Outcome.{Context, Carry, Outcome, flagged}
 use Rattle.mitex_state.specs.Outcome.Outcome.{refused}
 use Rattle.mitex_state.specs.State.{carryOf, Carried}
 use Rattle.mitex_state.specs.Contract.{Place, placeOf, Agrees}

@@ -3,7 +3,7 @@
 use mathlib.Core.Path.{_≡_, refl, sym, ap, subst, _∙_}
 use mathlib.Core.Bool.{Bool, true, false, cond}
 use mathlib.Core.List.{List, [], _++_, append-nil}
-use Prim.Native.Nat.{ℕ, _+_, _*_, _-_, _/_, _≤_, _<_}
+use Prim.Native.Nat.{ℕ, _+_, _-_, _/_, _≤_, _<_}
 use native.Mathlib.Omega.{arith}
 use lib.Dec.{eqb}
 use lib.ListN.{length, take, drop, getD, length-drop}
@@ -22,7 +22,7 @@ use Rattle.mitex_state.specs.Outcome.Outcome.{refused, done}
 use Rattle.mitex_state.specs.State.{contextOf, carryOf}
 use Rattle.mitex_state.specs.Contract.{Place, placeOf, Agrees, Closed}
 use Rattle.mitex_state.specs.Contract.Agrees.{declines, accepts}
-use Rattle.mitex_state.specs.Children.{actOf, before, converts, behind, nextLoop, loopEnd, turn, each}
+use Rattle.mitex_state.specs.Children.{actOf, before, converts, behind, nextLoop, turn, each}
 use Rattle.mitex_state.specs.Conversion.{convert}
 use Rattle.mitex_loops.specs.Given.{numberOf, OthersGiven}
 use Rattle.mitex_state.specs.declared.Loop.{Loop}
@@ -33,7 +33,7 @@ use Rattle.mitex_state.specs.declared.CaptionPart.{CaptionPart}
 use Rattle.mitex_state.specs.declared.Converter.{Converter}
 use Rattle.mitex_state.specs.declared.Walked.{Walked}
 use Rattle.mitex_state.proofs.Agreeing.{Good, good, agrees-as, agrees-shift, agrees-close, then-done, then-refused}
-use Rattle.mitex_state.proofs.Loops.{turn-converts, turn-passes, each-none, each-more, each-at}
+use Rattle.mitex_state.proofs.Loops.{turn-converts, turn-passes, each-more, each-at}
 use Rattle.mitex.specs.Walks.{Room, Siblings, CaptionGiven, Converts, Walks, Turns, Loops, Captions}
 
 -- ---- where a loop stands

@@ -23,330 +23,556 @@ use Rattle.mitex.proofs.Nodes.{below-length, at-node, at-token, at-unex
 use Prim.Native.Nat.{ℕ}
 use Rattle.mitex.proofs.command.Reads as command
 use Rattle.mitex.proofs.convert.Reads as convert
-use Rattle.mitex.proofs.convert.Kinds as convert-kinds
 use Rattle.mitex.proofs.+arguments+body+captioned+colored+command+convert+convert_clause_lr+convert_command_color+convert_curly_group+convert_env+convert_env_figure+convert_env_table+convert_formula+convert_normal_command+each+env_body+env_math+env_plain+greedy+turn.Lts-convert as convert-lts
 use Rattle.mitex.proofs.convert_clause_lr.Reads as convert-clause-lr
 use Rattle.mitex.proofs.convert_curly_group.Reads as convert-curly-group
 use Rattle.mitex.proofs.convert_env.Reads as convert-env
 use Rattle.mitex.proofs.convert_formula.Reads as convert-formula
 use Rattle.mitex.proofs.each.Reads as each
-use Rattle.mitex_commands.proofs.element_of.Reads as element-of-reads
-use Rattle.mitex_loops.proofs.attach_loop.Reads as attach-loop-reads
-use Rattle.mitex_state.proofs.Converter.with_flag.Reads as with-flag-reads
-use Rattle.mitex_state.proofs.refuse.Reads as refuse-reads
-use Rattle.mitex_state.proofs.went.Reads as went-reads
-use Rattle.mitex_tokens.proofs.convert_token.Reads as convert-token-reads
-use Rattle.text.proofs.put.Reads as put-reads
-use Rattle.mitex.proofs.+arguments+body+captioned+colored+command+convert+convert_clause_lr+convert_command_color+convert_curly_group+convert_env+convert_env_figure+convert_env_table+convert_formula+convert_normal_command+each+env_body+env_math+env_plain+greedy+turn.Proof.Setup.{μ-arguments, μ-body, μ-captioned, μ-colored, μ-command, μ-convert, μ-convert-clause-lr, μ-convert-command-color, μ-convert-curly-group, μ-convert-env, μ-convert-env-figure, μ-convert-env-table, μ-convert-formula, μ-convert-normal-command, μ-each, μ-env-body, μ-env-math, μ-env-plain, μ-greedy, μ-turn, arguments-at, arguments-below, body-at, body-below, captioned-at, captioned-below, colored-at, colored-below, command-at, command-below, convert-at, convert-below, convert-clause-lr-at, convert-clause-lr-below, convert-command-color-at, convert-command-color-below, convert-curly-group-at, convert-curly-group-below, convert-env-at, convert-env-below, convert-env-figure-at, convert-env-figure-below, convert-env-table-at, convert-env-table-below, convert-formula-at, convert-formula-below, convert-normal-command-at, convert-normal-command-below, each-at, each-below, env-body-at, env-body-below, env-math-at, env-math-below, env-plain-at, env-plain-below, greedy-at, greedy-below, turn-at, turn-below, arguments-calls, body-calls, captioned-calls, colored-calls, command-calls, convert-calls, convert-clause-lr-calls, convert-command-color-calls, convert-curly-group-calls, convert-env-calls, convert-env-figure-calls, convert-env-table-calls, convert-formula-calls, convert-normal-command-calls, each-calls, env-body-calls, env-math-calls, env-plain-calls, greedy-calls, turn-calls}
+use Rattle.mitex.proofs.+arguments+body+captioned+colored+command+convert+convert_clause_lr+convert_command_color+convert_curly_group+convert_env+convert_env_figure+convert_env_table+convert_formula+convert_normal_command+each+env_body+env_math+env_plain+greedy+turn.Proof.Setup.{convert-at, convert-calls}
 
--- src/lib.rt:51:16
 pub convert-shared-slice-read-kind : (t : ℕ) → convert-lts.Need-shared-slice-read-kind (convert-calls t) (convert-at t) convert.Post
-convert-shared-slice-read-kind t c = omega (arith, rows-some (c .before .before .before .before .before .before .pre .1 .1 .1 .spells))
+convert-shared-slice-read-kind t c =
+    let c₁ = c .before .before .before .before .before in
+    let c₂ = c₁ .before in
+    omega (arith, rows-some (c₂ .pre .1 .1 .1 .spells))
 
--- src/lib.rt:52:9
 pub convert-element-of-requires : (t : ℕ) → convert-lts.Need-element-of-requires (convert-calls t) (convert-at t) convert.Post
 convert-element-of-requires t c κs = search needs
 
--- src/lib.rt:54:32
 pub convert-enum-told : (t : ℕ) → convert-lts.Need-enum-told (convert-calls t) (convert-at t) convert.Post
 convert-enum-told t c = search needs
 
--- src/lib.rt:54:32
 pub convert-refuse-requires : (t : ℕ) → convert-lts.Need-refuse-requires (convert-calls t) (convert-at t) convert.Post
 convert-refuse-requires t c κs = search needs
 
--- src/lib.rt:55:35
 pub convert-enum-told-2 : (t : ℕ) → convert-lts.Need-enum-told-2 (convert-calls t) (convert-at t) convert.Post
 convert-enum-told-2 t c = search needs
 
--- src/lib.rt:55:44
 pub convert-sub-each : (t : ℕ) → convert-lts.Need-sub-each (convert-calls t) (convert-at t) convert.Post
-convert-sub-each t c = omega (arith, rows-some (c .before .before .before .before .before .before .before .before .before .before .pre .1 .1 .1 .spells))
+convert-sub-each t c =
+    let c₁ = c .before .before .before .before .before in
+    let c₂ = c₁ .before .before .before .before .before in
+    omega (arith, rows-some (c₂ .pre .1 .1 .1 .spells))
 
--- src/lib.rt:55:44
 pub convert-part-each-start : (t : ℕ) → convert-lts.Need-part-each-start (convert-calls t) (convert-at t) convert.Post
-convert-part-each-start t c = omega (arith, rows-some (c .before .before .before .before .before .before .before .before .before .before .pre .1 .1 .1 .spells))
+convert-part-each-start t c =
+    let c₁ = c .before .before .before .before .before in
+    let c₂ = c₁ .before .before .before .before .before in
+    omega (arith, rows-some (c₂ .pre .1 .1 .1 .spells))
 
--- src/lib.rt:55:44
 pub convert-part-each-end : (t : ℕ) → convert-lts.Need-part-each-end (convert-calls t) (convert-at t) convert.Post
-convert-part-each-end t c = omega (arith, rows-some (c .before .before .before .before .before .before .before .before .before .before .pre .1 .1 .1 .spells))
+convert-part-each-end t c =
+    let c₁ = c .before .before .before .before .before in
+    let c₂ = c₁ .before .before .before .before .before in
+    omega (arith, rows-some (c₂ .pre .1 .1 .1 .spells))
 
--- src/lib.rt:55:62
 pub convert-add-each : (t : ℕ) → convert-lts.Need-add-each (convert-calls t) (convert-at t) convert.Post
-convert-add-each t c = omega (arith, c .before .before .before .before .before .before .before .before .before .before .before .pre .1 .0 .low, rows-some (c .before .before .before .before .before .before .before .before .before .before .before .pre .1 .1 .1 .spells))
+convert-add-each t c =
+    let c₁ = c .before .before .before .before .before in
+    let c₂ = c₁ .before .before .before .before .before in
+    let c₃ = c₂ .before in
+    omega (arith, c₃ .pre .1 .0 .low, rows-some (c₃ .pre .1 .1 .1 .spells))
 
--- src/lib.rt:55:85
 pub convert-with-flag-requires : (t : ℕ) → convert-lts.Need-with-flag-requires (convert-calls t) (convert-at t) convert.Post
 convert-with-flag-requires t c κs = search needs
 
--- src/lib.rt:55:30
 pub convert-each-requires : (t : ℕ) → convert-lts.Need-each-requires (convert-calls t) (convert-at t) convert.Post
-convert-each-requires t c κs = (omega (arith, c .before .before .before .before .before .before .before .before .before .before .before .before .pre .0, below-length (c .before .before .before .before .before .before .before .before .before .before .before .before .args .rows .now), rows-some (c .before .before .before .before .before .before .before .before .before .before .before .before .pre .1 .1 .1 .spells)), (room-children (c .before .before .before .before .before .before .before .before .before .before .before .before .pre .1 .0) (rows-some (c .before .before .before .before .before .before .before .before .before .before .before .before .pre .1 .1 .1 .spells)) (c .with-flag .ensures), (c .before .before .before .before .before .before .before .before .before .before .before .before .pre .1 .1 .0, (given-below (c .before .before .before .before .before .before .before .before .before .before .before .before .pre .1 .1 .1) Children (sym (c .before .before .before .before .before .element-of .ensures) ∙ c .before .before .before .enum-told2 .given .1) refl, omega (arith, c .before .before .before .before .before .before .before .before .before .before .before .before .pre .1 .0 .few, below-length (c .before .before .before .before .before .before .before .before .before .before .before .before .args .rows .now))))))
+convert-each-requires t c κs =
+    let c₁ = c .before .before .before in
+    let c₂ = c₁ .before .before in
+    let c₃ = c₂ .before .before .before .before .before in
+    let c₄ = c₃ .before .before in (
+      omega (arith, c₄ .pre .0, below-length (c₄ .args .rows .now), rows-some (c₄ .pre .1 .1 .1 .spells)),
+      (
+        room-children (c₄ .pre .1 .0) (rows-some (c₄ .pre .1 .1 .1 .spells)) (c .with-flag .ensures),
+        (
+          c₄ .pre .1 .1 .0,
+          (
+            given-below (c₄ .pre .1 .1 .1) Children (sym (c₂ .element-of .ensures) ∙ c₁ .enum-told2 .given .1) refl,
+            omega (arith, c₄ .pre .1 .0 .few, below-length (c₄ .args .rows .now)),
+          ),
+        ),
+      ),
+    )
 
--- src/lib.rt:56:45
 pub convert-enum-told-3 : (t : ℕ) → convert-lts.Need-enum-told-3 (convert-calls t) (convert-at t) convert.Post
 convert-enum-told-3 t c = search needs
 
--- src/lib.rt:56:54
 pub convert-sub-convert-formula : (t : ℕ) → convert-lts.Need-sub-convert-formula (convert-calls t) (convert-at t) convert.Post
-convert-sub-convert-formula t c = omega (arith, rows-some (c .before .before .before .before .before .before .before .before .before .before .pre .1 .1 .1 .spells))
+convert-sub-convert-formula t c =
+    let c₁ = c .before .before .before .before .before in
+    let c₂ = c₁ .before .before .before .before .before in
+    omega (arith, rows-some (c₂ .pre .1 .1 .1 .spells))
 
--- src/lib.rt:56:54
 pub convert-part-convert-formula-start : (t : ℕ) → convert-lts.Need-part-convert-formula-start (convert-calls t) (convert-at t) convert.Post
-convert-part-convert-formula-start t c = omega (arith, rows-some (c .before .before .before .before .before .before .before .before .before .before .pre .1 .1 .1 .spells))
+convert-part-convert-formula-start t c =
+    let c₁ = c .before .before .before .before .before in
+    let c₂ = c₁ .before .before .before .before .before in
+    omega (arith, rows-some (c₂ .pre .1 .1 .1 .spells))
 
--- src/lib.rt:56:54
 pub convert-part-convert-formula-end : (t : ℕ) → convert-lts.Need-part-convert-formula-end (convert-calls t) (convert-at t) convert.Post
-convert-part-convert-formula-end t c = omega (arith, rows-some (c .before .before .before .before .before .before .before .before .before .before .pre .1 .1 .1 .spells))
+convert-part-convert-formula-end t c =
+    let c₁ = c .before .before .before .before .before in
+    let c₂ = c₁ .before .before .before .before .before in
+    omega (arith, rows-some (c₂ .pre .1 .1 .1 .spells))
 
--- src/lib.rt:56:91
 pub convert-with-flag-requires-2 : (t : ℕ) → convert-lts.Need-with-flag-requires-2 (convert-calls t) (convert-at t) convert.Post
 convert-with-flag-requires-2 t c κs = search needs
 
--- src/lib.rt:56:29
 pub convert-convert-formula-requires : (t : ℕ) → convert-lts.Need-convert-formula-requires (convert-calls t) (convert-at t) convert.Post
-convert-convert-formula-requires t c κs = (omega (arith, c .before .before .before .before .before .before .before .before .before .before .before .before .pre .0, below-length (c .before .before .before .before .before .before .before .before .before .before .before .before .args .rows .now), rows-some (c .before .before .before .before .before .before .before .before .before .before .before .before .pre .1 .1 .1 .spells)), (room-below (c .before .before .before .before .before .before .before .before .before .before .before .before .pre .1 .0) (rows-some (c .before .before .before .before .before .before .before .before .before .before .before .before .pre .1 .1 .1 .spells)) (c .with-flag2 .ensures), (c .before .before .before .before .before .before .before .before .before .before .before .before .pre .1 .1 .0, given-below (c .before .before .before .before .before .before .before .before .before .before .before .before .pre .1 .1 .1) Formula (sym (c .before .before .before .before .before .element-of .ensures) ∙ c .before .before .before .enum-told3 .given .1) refl)))
+convert-convert-formula-requires t c κs =
+    let c₁ = c .before .before .before in
+    let c₂ = c₁ .before .before in
+    let c₃ = c₂ .before .before .before .before .before in
+    let c₄ = c₃ .before .before in (
+      omega (arith, c₄ .pre .0, below-length (c₄ .args .rows .now), rows-some (c₄ .pre .1 .1 .1 .spells)),
+      (
+        room-below (c₄ .pre .1 .0) (rows-some (c₄ .pre .1 .1 .1 .spells)) (c .with-flag2 .ensures),
+        (c₄ .pre .1 .1 .0, given-below (c₄ .pre .1 .1 .1) Formula (sym (c₂ .element-of .ensures) ∙ c₁ .enum-told3 .given .1) refl),
+      ),
+    )
 
--- src/lib.rt:57:52
 pub convert-enum-told-4 : (t : ℕ) → convert-lts.Need-enum-told-4 (convert-calls t) (convert-at t) convert.Post
 convert-enum-told-4 t c = search needs
 
--- src/lib.rt:57:61
 pub convert-sub-convert-curly-group : (t : ℕ) → convert-lts.Need-sub-convert-curly-group (convert-calls t) (convert-at t) convert.Post
-convert-sub-convert-curly-group t c = omega (arith, rows-some (c .before .before .before .before .before .before .before .before .before .before .pre .1 .1 .1 .spells))
+convert-sub-convert-curly-group t c =
+    let c₁ = c .before .before .before .before .before in
+    let c₂ = c₁ .before .before .before .before .before in
+    omega (arith, rows-some (c₂ .pre .1 .1 .1 .spells))
 
--- src/lib.rt:57:61
 pub convert-part-convert-curly-group-start : (t : ℕ) → convert-lts.Need-part-convert-curly-group-start (convert-calls t) (convert-at t) convert.Post
-convert-part-convert-curly-group-start t c = omega (arith, rows-some (c .before .before .before .before .before .before .before .before .before .before .pre .1 .1 .1 .spells))
+convert-part-convert-curly-group-start t c =
+    let c₁ = c .before .before .before .before .before in
+    let c₂ = c₁ .before .before .before .before .before in
+    omega (arith, rows-some (c₂ .pre .1 .1 .1 .spells))
 
--- src/lib.rt:57:61
 pub convert-part-convert-curly-group-end : (t : ℕ) → convert-lts.Need-part-convert-curly-group-end (convert-calls t) (convert-at t) convert.Post
-convert-part-convert-curly-group-end t c = omega (arith, rows-some (c .before .before .before .before .before .before .before .before .before .before .pre .1 .1 .1 .spells))
+convert-part-convert-curly-group-end t c =
+    let c₁ = c .before .before .before .before .before in
+    let c₂ = c₁ .before .before .before .before .before in
+    omega (arith, rows-some (c₂ .pre .1 .1 .1 .spells))
 
--- src/lib.rt:57:98
 pub convert-with-flag-requires-3 : (t : ℕ) → convert-lts.Need-with-flag-requires-3 (convert-calls t) (convert-at t) convert.Post
 convert-with-flag-requires-3 t c κs = search needs
 
--- src/lib.rt:57:32
 pub convert-convert-curly-group-requires : (t : ℕ) → convert-lts.Need-convert-curly-group-requires (convert-calls t) (convert-at t) convert.Post
-convert-convert-curly-group-requires t c κs = (omega (arith, c .before .before .before .before .before .before .before .before .before .before .before .before .pre .0, below-length (c .before .before .before .before .before .before .before .before .before .before .before .before .args .rows .now), rows-some (c .before .before .before .before .before .before .before .before .before .before .before .before .pre .1 .1 .1 .spells)), (room-below (c .before .before .before .before .before .before .before .before .before .before .before .before .pre .1 .0) (rows-some (c .before .before .before .before .before .before .before .before .before .before .before .before .pre .1 .1 .1 .spells)) (c .with-flag3 .ensures), (c .before .before .before .before .before .before .before .before .before .before .before .before .pre .1 .1 .0, given-below (c .before .before .before .before .before .before .before .before .before .before .before .before .pre .1 .1 .1) CurlyGroup (sym (c .before .before .before .before .before .element-of .ensures) ∙ c .before .before .before .enum-told4 .given .1) refl)))
+convert-convert-curly-group-requires t c κs =
+    let c₁ = c .before .before .before in
+    let c₂ = c₁ .before .before in
+    let c₃ = c₂ .before .before .before .before .before in
+    let c₄ = c₃ .before .before in (
+      omega (arith, c₄ .pre .0, below-length (c₄ .args .rows .now), rows-some (c₄ .pre .1 .1 .1 .spells)),
+      (
+        room-below (c₄ .pre .1 .0) (rows-some (c₄ .pre .1 .1 .1 .spells)) (c .with-flag3 .ensures),
+        (c₄ .pre .1 .1 .0, given-below (c₄ .pre .1 .1 .1) CurlyGroup (sym (c₂ .element-of .ensures) ∙ c₁ .enum-told4 .given .1) refl),
+      ),
+    )
 
--- src/lib.rt:58:48
 pub convert-enum-told-5 : (t : ℕ) → convert-lts.Need-enum-told-5 (convert-calls t) (convert-at t) convert.Post
 convert-enum-told-5 t c = search needs
 
--- src/lib.rt:58:57
 pub convert-sub-convert-clause-lr : (t : ℕ) → convert-lts.Need-sub-convert-clause-lr (convert-calls t) (convert-at t) convert.Post
-convert-sub-convert-clause-lr t c = omega (arith, rows-some (c .before .before .before .before .before .before .before .before .before .before .pre .1 .1 .1 .spells))
+convert-sub-convert-clause-lr t c =
+    let c₁ = c .before .before .before .before .before in
+    let c₂ = c₁ .before .before .before .before .before in
+    omega (arith, rows-some (c₂ .pre .1 .1 .1 .spells))
 
--- src/lib.rt:58:57
 pub convert-part-convert-clause-lr-start : (t : ℕ) → convert-lts.Need-part-convert-clause-lr-start (convert-calls t) (convert-at t) convert.Post
-convert-part-convert-clause-lr-start t c = omega (arith, rows-some (c .before .before .before .before .before .before .before .before .before .before .pre .1 .1 .1 .spells))
+convert-part-convert-clause-lr-start t c =
+    let c₁ = c .before .before .before .before .before in
+    let c₂ = c₁ .before .before .before .before .before in
+    omega (arith, rows-some (c₂ .pre .1 .1 .1 .spells))
 
--- src/lib.rt:58:57
 pub convert-part-convert-clause-lr-end : (t : ℕ) → convert-lts.Need-part-convert-clause-lr-end (convert-calls t) (convert-at t) convert.Post
-convert-part-convert-clause-lr-end t c = omega (arith, rows-some (c .before .before .before .before .before .before .before .before .before .before .pre .1 .1 .1 .spells))
+convert-part-convert-clause-lr-end t c =
+    let c₁ = c .before .before .before .before .before in
+    let c₂ = c₁ .before .before .before .before .before in
+    omega (arith, rows-some (c₂ .pre .1 .1 .1 .spells))
 
--- src/lib.rt:58:94
 pub convert-with-flag-requires-4 : (t : ℕ) → convert-lts.Need-with-flag-requires-4 (convert-calls t) (convert-at t) convert.Post
 convert-with-flag-requires-4 t c κs = search needs
 
--- src/lib.rt:58:30
 pub convert-convert-clause-lr-requires : (t : ℕ) → convert-lts.Need-convert-clause-lr-requires (convert-calls t) (convert-at t) convert.Post
-convert-convert-clause-lr-requires t c κs = (omega (arith, c .before .before .before .before .before .before .before .before .before .before .before .before .pre .0, below-length (c .before .before .before .before .before .before .before .before .before .before .before .before .args .rows .now), rows-some (c .before .before .before .before .before .before .before .before .before .before .before .before .pre .1 .1 .1 .spells)), (room-below (c .before .before .before .before .before .before .before .before .before .before .before .before .pre .1 .0) (rows-some (c .before .before .before .before .before .before .before .before .before .before .before .before .pre .1 .1 .1 .spells)) (c .with-flag4 .ensures), (c .before .before .before .before .before .before .before .before .before .before .before .before .pre .1 .1 .0, given-below (c .before .before .before .before .before .before .before .before .before .before .before .before .pre .1 .1 .1) ClauseLr (sym (c .before .before .before .before .before .element-of .ensures) ∙ c .before .before .before .enum-told5 .given .1) refl)))
+convert-convert-clause-lr-requires t c κs =
+    let c₁ = c .before .before .before in
+    let c₂ = c₁ .before .before in
+    let c₃ = c₂ .before .before .before .before .before in
+    let c₄ = c₃ .before .before in (
+      omega (arith, c₄ .pre .0, below-length (c₄ .args .rows .now), rows-some (c₄ .pre .1 .1 .1 .spells)),
+      (
+        room-below (c₄ .pre .1 .0) (rows-some (c₄ .pre .1 .1 .1 .spells)) (c .with-flag4 .ensures),
+        (c₄ .pre .1 .1 .0, given-below (c₄ .pre .1 .1 .1) ClauseLr (sym (c₂ .element-of .ensures) ∙ c₁ .enum-told5 .given .1) refl),
+      ),
+    )
 
--- src/lib.rt:60:17
 pub convert-enum-told-6 : (t : ℕ) → convert-lts.Need-enum-told-6 (convert-calls t) (convert-at t) convert.Post
 convert-enum-told-6 t c = search needs
 
--- src/lib.rt:61:17
 pub convert-attach-loop-requires : (t : ℕ) → convert-lts.Need-attach-loop-requires (convert-calls t) (convert-at t) convert.Post
 convert-attach-loop-requires t c κs = search needs
 
--- src/lib.rt:62:27
 pub convert-sub-each-2 : (t : ℕ) → convert-lts.Need-sub-each-2 (convert-calls t) (convert-at t) convert.Post
-convert-sub-each-2 t c = omega (arith, rows-some (c .before .before .before .before .before .before .before .before .before .before .before .pre .1 .1 .1 .spells))
+convert-sub-each-2 t c =
+    let c₁ = c .before .before .before .before .before in
+    let c₂ = c₁ .before .before .before .before .before in
+    let c₃ = c₂ .before in
+    omega (arith, rows-some (c₃ .pre .1 .1 .1 .spells))
 
--- src/lib.rt:62:27
 pub convert-part-each-start-2 : (t : ℕ) → convert-lts.Need-part-each-start-2 (convert-calls t) (convert-at t) convert.Post
-convert-part-each-start-2 t c = omega (arith, rows-some (c .before .before .before .before .before .before .before .before .before .before .before .pre .1 .1 .1 .spells))
+convert-part-each-start-2 t c =
+    let c₁ = c .before .before .before .before .before in
+    let c₂ = c₁ .before .before .before .before .before in
+    let c₃ = c₂ .before in
+    omega (arith, rows-some (c₃ .pre .1 .1 .1 .spells))
 
--- src/lib.rt:62:27
 pub convert-part-each-end-2 : (t : ℕ) → convert-lts.Need-part-each-end-2 (convert-calls t) (convert-at t) convert.Post
-convert-part-each-end-2 t c = omega (arith, rows-some (c .before .before .before .before .before .before .before .before .before .before .before .pre .1 .1 .1 .spells))
+convert-part-each-end-2 t c =
+    let c₁ = c .before .before .before .before .before in
+    let c₂ = c₁ .before .before .before .before .before in
+    let c₃ = c₂ .before in
+    omega (arith, rows-some (c₃ .pre .1 .1 .1 .spells))
 
--- src/lib.rt:62:45
 pub convert-add-each-2 : (t : ℕ) → convert-lts.Need-add-each-2 (convert-calls t) (convert-at t) convert.Post
-convert-add-each-2 t c = omega (arith, c .before .before .before .before .before .before .before .before .before .before .before .before .pre .1 .0 .low, rows-some (c .before .before .before .before .before .before .before .before .before .before .before .before .pre .1 .1 .1 .spells))
+convert-add-each-2 t c =
+    let c₁ = c .before .before .before .before .before in
+    let c₂ = c₁ .before .before .before .before .before in
+    let c₃ = c₂ .before .before in
+    omega (arith, c₃ .pre .1 .0 .low, rows-some (c₃ .pre .1 .1 .1 .spells))
 
--- src/lib.rt:62:68
 pub convert-with-flag-requires-5 : (t : ℕ) → convert-lts.Need-with-flag-requires-5 (convert-calls t) (convert-at t) convert.Post
 convert-with-flag-requires-5 t c κs = search needs
 
--- src/lib.rt:62:13
 pub convert-each-requires-2 : (t : ℕ) → convert-lts.Need-each-requires-2 (convert-calls t) (convert-at t) convert.Post
-convert-each-requires-2 t c κs = (omega (arith, c .before .before .before .before .before .before .before .before .before .before .before .before .before .pre .0, below-length (c .before .before .before .before .before .before .before .before .before .before .before .before .before .args .rows .now), rows-some (c .before .before .before .before .before .before .before .before .before .before .before .before .before .pre .1 .1 .1 .spells)), (room-children (c .before .before .before .before .before .before .before .before .before .before .before .before .before .pre .1 .0) (rows-some (c .before .before .before .before .before .before .before .before .before .before .before .before .before .pre .1 .1 .1 .spells)) (c .with-flag5 .ensures), (c .before .before .before .before .before .before .before .before .before .before .before .before .before .pre .1 .1 .0, (given-below (c .before .before .before .before .before .before .before .before .before .before .before .before .before .pre .1 .1 .1) AttachComponent (sym (c .before .before .before .before .before .before .element-of .ensures) ∙ c .before .before .before .before .enum-told6 .given .1) refl, omega (arith, c .before .before .before .before .before .before .before .before .before .before .before .before .before .pre .1 .0 .few, below-length (c .before .before .before .before .before .before .before .before .before .before .before .before .before .args .rows .now), ap numberOf (c .before .before .before .attach-loop .ensures), attach-number (c .before .before .before .before .before .before .before .before .before .before .before .before .before .args .c .mode))))))
+convert-each-requires-2 t c κs =
+    let c₁ = c .before .before .before in
+    let c₂ = c₁ .before in
+    let c₃ = c₂ .before .before in
+    let c₄ = c₃ .before .before .before .before .before in
+    let c₅ = c₄ .before .before in (
+      omega (arith, c₅ .pre .0, below-length (c₅ .args .rows .now), rows-some (c₅ .pre .1 .1 .1 .spells)),
+      (
+        room-children (c₅ .pre .1 .0) (rows-some (c₅ .pre .1 .1 .1 .spells)) (c .with-flag5 .ensures),
+        (
+          c₅ .pre .1 .1 .0,
+          (
+            given-below (c₅ .pre .1 .1 .1) AttachComponent (sym (c₃ .element-of .ensures) ∙ c₂ .enum-told6 .given .1) refl,
+            omega (
+              arith,
+              c₅ .pre .1 .0 .few,
+              below-length (c₅ .args .rows .now),
+              ap numberOf (c₁ .attach-loop .ensures),
+              attach-number (c₅ .args .c .mode),
+            ),
+          ),
+        ),
+      ),
+    )
 
--- src/lib.rt:64:33
 pub convert-enum-told-7 : (t : ℕ) → convert-lts.Need-enum-told-7 (convert-calls t) (convert-at t) convert.Post
 convert-enum-told-7 t c = search needs
 
--- src/lib.rt:64:33
 pub convert-with-flag-requires-6 : (t : ℕ) → convert-lts.Need-with-flag-requires-6 (convert-calls t) (convert-at t) convert.Post
 convert-with-flag-requires-6 t c κs = search needs
 
--- src/lib.rt:64:28
 pub convert-went-requires : (t : ℕ) → convert-lts.Need-went-requires (convert-calls t) (convert-at t) convert.Post
 convert-went-requires t c κs = search needs
 
--- src/lib.rt:65:37
 pub convert-enum-told-8 : (t : ℕ) → convert-lts.Need-enum-told-8 (convert-calls t) (convert-at t) convert.Post
 convert-enum-told-8 t c = search needs
 
--- src/lib.rt:65:46
 pub convert-sub-command : (t : ℕ) → convert-lts.Need-sub-command (convert-calls t) (convert-at t) convert.Post
-convert-sub-command t c = omega (arith, rows-some (c .before .before .before .before .before .before .before .before .before .before .pre .1 .1 .1 .spells))
+convert-sub-command t c =
+    let c₁ = c .before .before .before .before .before in
+    let c₂ = c₁ .before .before .before .before .before in
+    omega (arith, rows-some (c₂ .pre .1 .1 .1 .spells))
 
--- src/lib.rt:65:46
 pub convert-part-command-start : (t : ℕ) → convert-lts.Need-part-command-start (convert-calls t) (convert-at t) convert.Post
-convert-part-command-start t c = omega (arith, rows-some (c .before .before .before .before .before .before .before .before .before .before .pre .1 .1 .1 .spells))
+convert-part-command-start t c =
+    let c₁ = c .before .before .before .before .before in
+    let c₂ = c₁ .before .before .before .before .before in
+    omega (arith, rows-some (c₂ .pre .1 .1 .1 .spells))
 
--- src/lib.rt:65:46
 pub convert-part-command-end : (t : ℕ) → convert-lts.Need-part-command-end (convert-calls t) (convert-at t) convert.Post
-convert-part-command-end t c = omega (arith, rows-some (c .before .before .before .before .before .before .before .before .before .before .pre .1 .1 .1 .spells))
+convert-part-command-end t c =
+    let c₁ = c .before .before .before .before .before in
+    let c₂ = c₁ .before .before .before .before .before in
+    omega (arith, rows-some (c₂ .pre .1 .1 .1 .spells))
 
--- src/lib.rt:65:83
 pub convert-with-flag-requires-7 : (t : ℕ) → convert-lts.Need-with-flag-requires-7 (convert-calls t) (convert-at t) convert.Post
 convert-with-flag-requires-7 t c κs = search needs
 
--- src/lib.rt:65:29
 pub convert-command-requires : (t : ℕ) → convert-lts.Need-command-requires (convert-calls t) (convert-at t) convert.Post
-convert-command-requires t c κs = (omega (arith, c .before .before .before .before .before .before .before .before .before .before .before .before .pre .0, below-length (c .before .before .before .before .before .before .before .before .before .before .before .before .args .rows .now), rows-some (c .before .before .before .before .before .before .before .before .before .before .before .before .pre .1 .1 .1 .spells)), (room-below (c .before .before .before .before .before .before .before .before .before .before .before .before .pre .1 .0) (rows-some (c .before .before .before .before .before .before .before .before .before .before .before .before .pre .1 .1 .1 .spells)) (c .with-flag7 .ensures), (c .before .before .before .before .before .before .before .before .before .before .before .before .pre .1 .1 .0, given-below (c .before .before .before .before .before .before .before .before .before .before .before .before .pre .1 .1 .1) Command (sym (c .before .before .before .before .before .element-of .ensures) ∙ c .before .before .before .enum-told8 .given .1) refl)))
+convert-command-requires t c κs =
+    let c₁ = c .before .before .before in
+    let c₂ = c₁ .before .before in
+    let c₃ = c₂ .before .before .before .before .before in
+    let c₄ = c₃ .before .before in (
+      omega (arith, c₄ .pre .0, below-length (c₄ .args .rows .now), rows-some (c₄ .pre .1 .1 .1 .spells)),
+      (
+        room-below (c₄ .pre .1 .0) (rows-some (c₄ .pre .1 .1 .1 .spells)) (c .with-flag7 .ensures),
+        (c₄ .pre .1 .1 .0, given-below (c₄ .pre .1 .1 .1) Command (sym (c₂ .element-of .ensures) ∙ c₁ .enum-told8 .given .1) refl),
+      ),
+    )
 
--- src/lib.rt:66:45
 pub convert-enum-told-9 : (t : ℕ) → convert-lts.Need-enum-told-9 (convert-calls t) (convert-at t) convert.Post
 convert-enum-told-9 t c = search needs
 
--- src/lib.rt:66:54
 pub convert-sub-convert-env : (t : ℕ) → convert-lts.Need-sub-convert-env (convert-calls t) (convert-at t) convert.Post
-convert-sub-convert-env t c = omega (arith, rows-some (c .before .before .before .before .before .before .before .before .before .before .pre .1 .1 .1 .spells))
+convert-sub-convert-env t c =
+    let c₁ = c .before .before .before .before .before in
+    let c₂ = c₁ .before .before .before .before .before in
+    omega (arith, rows-some (c₂ .pre .1 .1 .1 .spells))
 
--- src/lib.rt:66:54
 pub convert-part-convert-env-start : (t : ℕ) → convert-lts.Need-part-convert-env-start (convert-calls t) (convert-at t) convert.Post
-convert-part-convert-env-start t c = omega (arith, rows-some (c .before .before .before .before .before .before .before .before .before .before .pre .1 .1 .1 .spells))
+convert-part-convert-env-start t c =
+    let c₁ = c .before .before .before .before .before in
+    let c₂ = c₁ .before .before .before .before .before in
+    omega (arith, rows-some (c₂ .pre .1 .1 .1 .spells))
 
--- src/lib.rt:66:54
 pub convert-part-convert-env-end : (t : ℕ) → convert-lts.Need-part-convert-env-end (convert-calls t) (convert-at t) convert.Post
-convert-part-convert-env-end t c = omega (arith, rows-some (c .before .before .before .before .before .before .before .before .before .before .pre .1 .1 .1 .spells))
+convert-part-convert-env-end t c =
+    let c₁ = c .before .before .before .before .before in
+    let c₂ = c₁ .before .before .before .before .before in
+    omega (arith, rows-some (c₂ .pre .1 .1 .1 .spells))
 
--- src/lib.rt:66:91
 pub convert-with-flag-requires-8 : (t : ℕ) → convert-lts.Need-with-flag-requires-8 (convert-calls t) (convert-at t) convert.Post
 convert-with-flag-requires-8 t c κs = search needs
 
--- src/lib.rt:66:33
 pub convert-convert-env-requires : (t : ℕ) → convert-lts.Need-convert-env-requires (convert-calls t) (convert-at t) convert.Post
-convert-convert-env-requires t c κs = (omega (arith, c .before .before .before .before .before .before .before .before .before .before .before .before .pre .0, below-length (c .before .before .before .before .before .before .before .before .before .before .before .before .args .rows .now), rows-some (c .before .before .before .before .before .before .before .before .before .before .before .before .pre .1 .1 .1 .spells)), (room-below (c .before .before .before .before .before .before .before .before .before .before .before .before .pre .1 .0) (rows-some (c .before .before .before .before .before .before .before .before .before .before .before .before .pre .1 .1 .1 .spells)) (c .with-flag8 .ensures), (c .before .before .before .before .before .before .before .before .before .before .before .before .pre .1 .1 .0, given-below (c .before .before .before .before .before .before .before .before .before .before .before .before .pre .1 .1 .1) Environment (sym (c .before .before .before .before .before .element-of .ensures) ∙ c .before .before .before .enum-told9 .given .1) refl)))
+convert-convert-env-requires t c κs =
+    let c₁ = c .before .before .before in
+    let c₂ = c₁ .before .before in
+    let c₃ = c₂ .before .before .before .before .before in
+    let c₄ = c₃ .before .before in (
+      omega (arith, c₄ .pre .0, below-length (c₄ .args .rows .now), rows-some (c₄ .pre .1 .1 .1 .spells)),
+      (
+        room-below (c₄ .pre .1 .0) (rows-some (c₄ .pre .1 .1 .1 .spells)) (c .with-flag8 .ensures),
+        (c₄ .pre .1 .1 .0, given-below (c₄ .pre .1 .1 .1) Environment (sym (c₂ .element-of .ensures) ∙ c₁ .enum-told9 .given .1) refl),
+      ),
+    )
 
--- src/lib.rt:68:31
 pub convert-enum-told-10 : (t : ℕ) → convert-lts.Need-enum-told-10 (convert-calls t) (convert-at t) convert.Post
 convert-enum-told-10 t c = search needs
 
--- src/lib.rt:68:17
 pub convert-put-requires : (t : ℕ) → convert-lts.Need-put-requires (convert-calls t) (convert-at t) convert.Post
-convert-put-requires t c κs = (c .before .before .before .before .before .before .before .before .before .before .pre .1 .0 .place, c .before .before .before .before .before .before .before .before .before .before .pre .1 .0 .room)
+convert-put-requires t c κs =
+    let c₁ = c .before .before .before .before .before in
+    let c₂ = c₁ .before .before .before .before .before in
+    (c₂ .pre .1 .0 .place, c₂ .pre .1 .0 .room)
 
--- src/lib.rt:69:18
 pub convert-with-flag-requires-9 : (t : ℕ) → convert-lts.Need-with-flag-requires-9 (convert-calls t) (convert-at t) convert.Post
 convert-with-flag-requires-9 t c κs = search needs
 
--- src/lib.rt:69:13
 pub convert-went-requires-2 : (t : ℕ) → convert-lts.Need-went-requires-2 (convert-calls t) (convert-at t) convert.Post
 convert-went-requires-2 t c κs = search needs
 
--- src/lib.rt:71:41
 pub convert-enum-told-11 : (t : ℕ) → convert-lts.Need-enum-told-11 (convert-calls t) (convert-at t) convert.Post
 convert-enum-told-11 t c = search needs
 
--- src/lib.rt:71:27
 pub convert-convert-token-requires : (t : ℕ) → convert-lts.Need-convert-token-requires (convert-calls t) (convert-at t) convert.Post
-convert-convert-token-requires t c κs = ((c .before .before .before .before .before .before .before .before .before .before .pre .1 .0 .place, c .before .before .before .before .before .before .before .before .before .before .pre .1 .0 .room, c .before .before .before .before .before .before .before .before .before .before .pre .1 .0 .label), c .before .before .before .before .before .before .before .before .before .before .pre .1 .1 .0)
+convert-convert-token-requires t c κs =
+    let c₁ = c .before .before .before .before .before in
+    let c₂ = c₁ .before .before .before .before .before in
+    ((c₂ .pre .1 .0 .place, c₂ .pre .1 .0 .room, c₂ .pre .1 .0 .label), c₂ .pre .1 .1 .0)
 
--- src/lib.rt:36:1
 pub convert-returns : (t : ℕ) → convert-lts.Need-returns (convert-calls t) (convert-at t) convert.Post
-convert-returns t c = λ rs ready u sp n h. agrees-as (at-unexpected (contextOf rs (c .before .before .before .before .before .before .before .before .before .before .args .c)) u (carryOf (c .before .before .before .before .before .before .before .before .before .before .args .c)) sp n h (sym (c .before .before .before .element-of .ensures) ∙ c .before .enum-told .given .1)) (agrees-here (omega arith) (c .refuse .ensures))
+convert-returns t c =
+    let c₁ = c .before .before .before in
+    let c₂ = c₁ .before .before .before .before .before in
+    let c₃ = c₂ .before .before in
+    λ rs ready u sp n h.
+    agrees-as
+    (at-unexpected (contextOf rs (c₃ .args .c)) u (carryOf (c₃ .args .c)) sp n h
+    (sym (c₁ .element-of .ensures) ∙ c .before .enum-told .given .1)) (agrees-here (omega arith) (c .refuse .ensures))
 
--- src/lib.rt:36:1
 pub convert-same-length : (t : ℕ) → convert-lts.Need-same-length (convert-calls t) (convert-at t) convert.Post
 convert-same-length t c = c .before .before .each .kept .0
 
--- src/lib.rt:36:1
 pub convert-returns-2 : (t : ℕ) → convert-lts.Need-returns-2 (convert-calls t) (convert-at t) convert.Post
-convert-returns-2 t c = λ rs ready u sp n h. let y = at-node (contextOf rs (c .before .before .before .before .before .before .before .before .before .before .before .before .before .before .before .args .c)) u (carryOf (c .before .before .before .before .before .before .before .before .before .before .before .before .before .before .before .args .c)) sp n h Children (sym (c .before .before .before .before .before .before .before .before .element-of .ensures) ∙ c .before .before .before .before .before .before .enum-told2 .given .1) refl in agrees-as (y .is) (carried-as (c .before .before .before .with-flag .ensures) (λ (p : Place) (q : Carry). armBy Children (meaning (y .lower)) (record { rules = rs; mode = p .mode; env = p .env; indent = p .indent }) (y .forest) q) (loops-at 1 (c .before .before .before .with-flag .result) Plain (c .before .before .each .ensures) rs ready (y .forest) (y .spells) (y .lower) (y .fits)))
+convert-returns-2 t c =
+    let c₁ = c .before .before .before in
+    let c₂ = c₁ .before .before .before in
+    let c₃ = c₂ .before .before in
+    let c₄ = c₃ .before .before .before .before .before in
+    let c₅ = c₄ .before .before in
+    λ rs ready u sp n h.
+    let y =
+    at-node (contextOf rs (c₅ .args .c)) u (carryOf (c₅ .args .c)) sp n h Children
+    (sym (c₃ .element-of .ensures) ∙ c₂ .enum-told2 .given .1) refl in
+    agrees-as (y .is)
+    (carried-as (c₁ .with-flag .ensures)
+    (λ (p : Place) (q : Carry).
+    armBy Children (meaning (y .lower)) (record { rules = rs; mode = p .mode; env = p .env; indent = p .indent }) (y .forest) q)
+    (loops-at 1 (c₁ .with-flag .result) Plain (c .before .before .each .ensures) rs ready (y .forest) (y .spells) (y .lower)
+    (y .fits)))
 
--- src/lib.rt:36:1
 pub convert-same-length-2 : (t : ℕ) → convert-lts.Need-same-length-2 (convert-calls t) (convert-at t) convert.Post
 convert-same-length-2 t c = c .before .before .convert-formula .kept .0
 
--- src/lib.rt:36:1
 pub convert-returns-3 : (t : ℕ) → convert-lts.Need-returns-3 (convert-calls t) (convert-at t) convert.Post
-convert-returns-3 t c = λ rs ready u sp n h. let y = at-node (contextOf rs (c .before .before .before .before .before .before .before .before .before .before .before .before .before .before .before .args .c)) u (carryOf (c .before .before .before .before .before .before .before .before .before .before .before .before .before .before .before .args .c)) sp n h Formula (sym (c .before .before .before .before .before .before .before .before .element-of .ensures) ∙ c .before .before .before .before .before .before .enum-told3 .given .1) refl in agrees-as (y .is) (carried-as (c .before .before .before .with-flag2 .ensures) (λ (p : Place) (q : Carry). armBy Formula (meaning (y .lower)) (record { rules = rs; mode = p .mode; env = p .env; indent = p .indent }) (y .forest) q) (c .before .before .convert-formula .ensures rs ready (y .forest) (y .spells) (y .lower) (y .fits)))
+convert-returns-3 t c =
+    let c₁ = c .before .before .before in
+    let c₂ = c₁ .before .before .before in
+    let c₃ = c₂ .before .before in
+    let c₄ = c₃ .before .before .before .before .before in
+    let c₅ = c₄ .before .before in
+    λ rs ready u sp n h.
+    let y =
+    at-node (contextOf rs (c₅ .args .c)) u (carryOf (c₅ .args .c)) sp n h Formula
+    (sym (c₃ .element-of .ensures) ∙ c₂ .enum-told3 .given .1) refl in
+    agrees-as (y .is)
+    (carried-as (c₁ .with-flag2 .ensures)
+    (λ (p : Place) (q : Carry).
+    armBy Formula (meaning (y .lower)) (record { rules = rs; mode = p .mode; env = p .env; indent = p .indent }) (y .forest) q)
+    (c .before .before .convert-formula .ensures rs ready (y .forest) (y .spells) (y .lower) (y .fits)))
 
--- src/lib.rt:36:1
 pub convert-same-length-3 : (t : ℕ) → convert-lts.Need-same-length-3 (convert-calls t) (convert-at t) convert.Post
 convert-same-length-3 t c = c .before .before .convert-curly-group .kept .0
 
--- src/lib.rt:36:1
 pub convert-returns-4 : (t : ℕ) → convert-lts.Need-returns-4 (convert-calls t) (convert-at t) convert.Post
-convert-returns-4 t c = λ rs ready u sp n h. let y = at-node (contextOf rs (c .before .before .before .before .before .before .before .before .before .before .before .before .before .before .before .args .c)) u (carryOf (c .before .before .before .before .before .before .before .before .before .before .before .before .before .before .before .args .c)) sp n h CurlyGroup (sym (c .before .before .before .before .before .before .before .before .element-of .ensures) ∙ c .before .before .before .before .before .before .enum-told4 .given .1) refl in agrees-as (y .is) (carried-as (c .before .before .before .with-flag3 .ensures) (λ (p : Place) (q : Carry). armBy CurlyGroup (meaning (y .lower)) (record { rules = rs; mode = p .mode; env = p .env; indent = p .indent }) (y .forest) q) (c .before .before .convert-curly-group .ensures rs ready (y .forest) (y .spells) (y .lower) (y .fits)))
+convert-returns-4 t c =
+    let c₁ = c .before .before .before in
+    let c₂ = c₁ .before .before .before in
+    let c₃ = c₂ .before .before in
+    let c₄ = c₃ .before .before .before .before .before in
+    let c₅ = c₄ .before .before in
+    λ rs ready u sp n h.
+    let y =
+    at-node (contextOf rs (c₅ .args .c)) u (carryOf (c₅ .args .c)) sp n h CurlyGroup
+    (sym (c₃ .element-of .ensures) ∙ c₂ .enum-told4 .given .1) refl in
+    agrees-as (y .is)
+    (carried-as (c₁ .with-flag3 .ensures)
+    (λ (p : Place) (q : Carry).
+    armBy CurlyGroup (meaning (y .lower)) (record { rules = rs; mode = p .mode; env = p .env; indent = p .indent }) (y .forest) q)
+    (c .before .before .convert-curly-group .ensures rs ready (y .forest) (y .spells) (y .lower) (y .fits)))
 
--- src/lib.rt:36:1
 pub convert-same-length-4 : (t : ℕ) → convert-lts.Need-same-length-4 (convert-calls t) (convert-at t) convert.Post
 convert-same-length-4 t c = c .before .before .convert-clause-lr .kept .0
 
--- src/lib.rt:36:1
 pub convert-returns-5 : (t : ℕ) → convert-lts.Need-returns-5 (convert-calls t) (convert-at t) convert.Post
-convert-returns-5 t c = λ rs ready u sp n h. let y = at-node (contextOf rs (c .before .before .before .before .before .before .before .before .before .before .before .before .before .before .before .args .c)) u (carryOf (c .before .before .before .before .before .before .before .before .before .before .before .before .before .before .before .args .c)) sp n h ClauseLr (sym (c .before .before .before .before .before .before .before .before .element-of .ensures) ∙ c .before .before .before .before .before .before .enum-told5 .given .1) refl in agrees-as (y .is) (carried-as (c .before .before .before .with-flag4 .ensures) (λ (p : Place) (q : Carry). armBy ClauseLr (meaning (y .lower)) (record { rules = rs; mode = p .mode; env = p .env; indent = p .indent }) (y .forest) q) (c .before .before .convert-clause-lr .ensures rs ready (y .forest) (y .spells) (y .lower) (y .fits)))
+convert-returns-5 t c =
+    let c₁ = c .before .before .before in
+    let c₂ = c₁ .before .before .before in
+    let c₃ = c₂ .before .before in
+    let c₄ = c₃ .before .before .before .before .before in
+    let c₅ = c₄ .before .before in
+    λ rs ready u sp n h.
+    let y =
+    at-node (contextOf rs (c₅ .args .c)) u (carryOf (c₅ .args .c)) sp n h ClauseLr
+    (sym (c₃ .element-of .ensures) ∙ c₂ .enum-told5 .given .1) refl in
+    agrees-as (y .is)
+    (carried-as (c₁ .with-flag4 .ensures)
+    (λ (p : Place) (q : Carry).
+    armBy ClauseLr (meaning (y .lower)) (record { rules = rs; mode = p .mode; env = p .env; indent = p .indent }) (y .forest) q)
+    (c .before .before .convert-clause-lr .ensures rs ready (y .forest) (y .spells) (y .lower) (y .fits)))
 
--- src/lib.rt:36:1
 pub convert-same-length-5 : (t : ℕ) → convert-lts.Need-same-length-5 (convert-calls t) (convert-at t) convert.Post
 convert-same-length-5 t c = c .before .before .each2 .kept .0
 
--- src/lib.rt:36:1
 pub convert-returns-6 : (t : ℕ) → convert-lts.Need-returns-6 (convert-calls t) (convert-at t) convert.Post
-convert-returns-6 t c = λ rs ready u sp n h. let y = at-node (contextOf rs (c .before .before .before .before .before .before .before .before .before .before .before .before .before .before .before .before .args .c)) u (carryOf (c .before .before .before .before .before .before .before .before .before .before .before .before .before .before .before .before .args .c)) sp n h AttachComponent (sym (c .before .before .before .before .before .before .before .before .before .element-of .ensures) ∙ c .before .before .before .before .before .before .before .enum-told6 .given .1) refl in agrees-as (y .is) (carried-as (c .before .before .before .with-flag5 .ensures) (λ (p : Place) (q : Carry). armBy AttachComponent (meaning (y .lower)) (record { rules = rs; mode = p .mode; env = p .env; indent = p .indent }) (y .forest) q) (loops-at 1 (c .before .before .before .with-flag5 .result) _ (loops-how (c .before .before .before .with-flag5 .result) (c .before .before .before .before .before .before .attach-loop .ensures ∙ ap attachLoop (sym (c .before .before .before .with-flag5 .ensures .mode))) (c .before .before .each2 .ensures)) rs ready (y .forest) (y .spells) (y .lower) (y .fits)))
+convert-returns-6 t c =
+    let c₁ = c .before .before .before in
+    let c₂ = c₁ .before .before .before in
+    let c₃ = c₂ .before in
+    let c₄ = c₃ .before .before in
+    let c₅ = c₄ .before .before .before .before .before in
+    let c₆ = c₅ .before .before in
+    λ rs ready u sp n h.
+    let y =
+    at-node (contextOf rs (c₆ .args .c)) u (carryOf (c₆ .args .c)) sp n h AttachComponent
+    (sym (c₄ .element-of .ensures) ∙ c₃ .enum-told6 .given .1) refl in
+    agrees-as (y .is)
+    (carried-as (c₁ .with-flag5 .ensures)
+    (λ (p : Place) (q : Carry).
+    armBy AttachComponent (meaning (y .lower)) (record { rules = rs; mode = p .mode; env = p .env; indent = p .indent }) (y .forest)
+    q)
+    (loops-at 1 (c₁ .with-flag5 .result) _
+    (loops-how (c₁ .with-flag5 .result) (c₂ .attach-loop .ensures ∙ ap attachLoop (sym (c₁ .with-flag5 .ensures .mode)))
+    (c .before .before .each2 .ensures)) rs ready (y .forest) (y .spells) (y .lower) (y .fits)))
 
--- src/lib.rt:36:1
 pub convert-returns-7 : (t : ℕ) → convert-lts.Need-returns-7 (convert-calls t) (convert-at t) convert.Post
-convert-returns-7 t c = λ rs ready u sp n h. let y = at-node (contextOf rs (c .before .before .before .before .before .before .before .before .before .before .before .args .c)) u (carryOf (c .before .before .before .before .before .before .before .before .before .before .before .args .c)) sp n h Silent (sym (c .before .before .before .before .element-of .ensures) ∙ c .before .before .enum-told7 .given .1) refl in agrees-as (y .is) (agrees-carried (c .before .with-flag6 .result) (c .went .ensures) (c .before .with-flag6 .ensures) refl (c .before .before .before .before .before .before .before .before .before .before .before .pre .1 .0 .label) (wrote-nil _ _ (c .before .before .before .before .before .before .before .before .before .before .before .pre .1 .0 .place)))
+convert-returns-7 t c =
+    let c₁ = c .before .before .before .before in
+    let c₂ = c₁ .before .before .before .before .before in
+    let c₃ = c₂ .before .before in
+    λ rs ready u sp n h.
+    let y =
+    at-node (contextOf rs (c₃ .args .c)) u (carryOf (c₃ .args .c)) sp n h Silent
+    (sym (c₁ .element-of .ensures) ∙ c .before .before .enum-told7 .given .1) refl in
+    agrees-as (y .is)
+    (agrees-carried (c .before .with-flag6 .result) (c .went .ensures) (c .before .with-flag6 .ensures) refl (c₃ .pre .1 .0 .label)
+    (wrote-nil _ _ (c₃ .pre .1 .0 .place)))
 
--- src/lib.rt:36:1
 pub convert-same-length-6 : (t : ℕ) → convert-lts.Need-same-length-6 (convert-calls t) (convert-at t) convert.Post
 convert-same-length-6 t c = c .before .before .command .kept .0
 
--- src/lib.rt:36:1
 pub convert-returns-8 : (t : ℕ) → convert-lts.Need-returns-8 (convert-calls t) (convert-at t) convert.Post
-convert-returns-8 t c = λ rs ready u sp n h. let y = at-node (contextOf rs (c .before .before .before .before .before .before .before .before .before .before .before .before .before .before .before .args .c)) u (carryOf (c .before .before .before .before .before .before .before .before .before .before .before .before .before .before .before .args .c)) sp n h Command (sym (c .before .before .before .before .before .before .before .before .element-of .ensures) ∙ c .before .before .before .before .before .before .enum-told8 .given .1) refl in agrees-as (y .is) (carried-as (c .before .before .before .with-flag7 .ensures) (λ (p : Place) (q : Carry). armBy Command (meaning (y .lower)) (record { rules = rs; mode = p .mode; env = p .env; indent = p .indent }) (y .forest) q) (c .before .before .command .ensures rs ready (y .forest) (y .spells) (y .lower) (y .fits)))
+convert-returns-8 t c =
+    let c₁ = c .before .before .before in
+    let c₂ = c₁ .before .before .before in
+    let c₃ = c₂ .before .before in
+    let c₄ = c₃ .before .before .before .before .before in
+    let c₅ = c₄ .before .before in
+    λ rs ready u sp n h.
+    let y =
+    at-node (contextOf rs (c₅ .args .c)) u (carryOf (c₅ .args .c)) sp n h Command
+    (sym (c₃ .element-of .ensures) ∙ c₂ .enum-told8 .given .1) refl in
+    agrees-as (y .is)
+    (carried-as (c₁ .with-flag7 .ensures)
+    (λ (p : Place) (q : Carry).
+    armBy Command (meaning (y .lower)) (record { rules = rs; mode = p .mode; env = p .env; indent = p .indent }) (y .forest) q)
+    (c .before .before .command .ensures rs ready (y .forest) (y .spells) (y .lower) (y .fits)))
 
--- src/lib.rt:36:1
 pub convert-same-length-7 : (t : ℕ) → convert-lts.Need-same-length-7 (convert-calls t) (convert-at t) convert.Post
 convert-same-length-7 t c = c .before .before .convert-env .kept .0
 
--- src/lib.rt:36:1
 pub convert-returns-9 : (t : ℕ) → convert-lts.Need-returns-9 (convert-calls t) (convert-at t) convert.Post
-convert-returns-9 t c = λ rs ready u sp n h. let y = at-node (contextOf rs (c .before .before .before .before .before .before .before .before .before .before .before .before .before .before .before .args .c)) u (carryOf (c .before .before .before .before .before .before .before .before .before .before .before .before .before .before .before .args .c)) sp n h Environment (sym (c .before .before .before .before .before .before .before .before .element-of .ensures) ∙ c .before .before .before .before .before .before .enum-told9 .given .1) refl in agrees-as (y .is) (carried-as (c .before .before .before .with-flag8 .ensures) (λ (p : Place) (q : Carry). armBy Environment (meaning (y .lower)) (record { rules = rs; mode = p .mode; env = p .env; indent = p .indent }) (y .forest) q) (c .before .before .convert-env .ensures rs ready (y .forest) (y .spells) (y .lower) (y .fits)))
+convert-returns-9 t c =
+    let c₁ = c .before .before .before in
+    let c₂ = c₁ .before .before .before in
+    let c₃ = c₂ .before .before in
+    let c₄ = c₃ .before .before .before .before .before in
+    let c₅ = c₄ .before .before in
+    λ rs ready u sp n h.
+    let y =
+    at-node (contextOf rs (c₅ .args .c)) u (carryOf (c₅ .args .c)) sp n h Environment
+    (sym (c₃ .element-of .ensures) ∙ c₂ .enum-told9 .given .1) refl in
+    agrees-as (y .is)
+    (carried-as (c₁ .with-flag8 .ensures)
+    (λ (p : Place) (q : Carry).
+    armBy Environment (meaning (y .lower)) (record { rules = rs; mode = p .mode; env = p .env; indent = p .indent }) (y .forest) q)
+    (c .before .before .convert-env .ensures rs ready (y .forest) (y .spells) (y .lower) (y .fits)))
 
--- src/lib.rt:36:1
 pub convert-same-length-8 : (t : ℕ) → convert-lts.Need-same-length-8 (convert-calls t) (convert-at t) convert.Post
 convert-same-length-8 t c = c .before .before .before .before .put .kept .0
 
--- src/lib.rt:36:1
 pub convert-returns-10 : (t : ℕ) → convert-lts.Need-returns-10 (convert-calls t) (convert-at t) convert.Post
-convert-returns-10 t c = λ rs ready u sp n h. let y = at-node (contextOf rs (c .before .before .before .before .before .before .before .before .before .before .before .before .before .before .before .args .c)) u (carryOf (c .before .before .before .before .before .before .before .before .before .before .before .before .before .before .before .args .c)) sp n h TypstCode (sym (c .before .before .before .before .before .before .before .before .element-of .ensures) ∙ c .before .before .before .before .before .before .enum-told10 .given .1) refl in agrees-as (y .is) (agrees-carried (c .before .with-flag9 .result) (c .went2 .ensures) (c .before .with-flag9 .ensures) refl (c .before .before .before .before .before .before .before .before .before .before .before .before .before .before .before .pre .1 .0 .label) (wrote-as (y .spells .text-is) (c .before .before .before .before .put .ensures)))
+convert-returns-10 t c =
+    let c₁ = c .before .before .before .before in
+    let c₂ = c₁ .before .before in
+    let c₃ = c₂ .before .before in
+    let c₄ = c₃ .before .before .before .before .before in
+    let c₅ = c₄ .before .before in
+    λ rs ready u sp n h.
+    let y =
+    at-node (contextOf rs (c₅ .args .c)) u (carryOf (c₅ .args .c)) sp n h TypstCode
+    (sym (c₃ .element-of .ensures) ∙ c₂ .enum-told10 .given .1) refl in
+    agrees-as (y .is)
+    (agrees-carried (c .before .with-flag9 .result) (c .went2 .ensures) (c .before .with-flag9 .ensures) refl (c₅ .pre .1 .0 .label)
+    (wrote-as (y .spells .text-is) (c₁ .put .ensures)))
 
--- src/lib.rt:36:1
 pub convert-same-length-9 : (t : ℕ) → convert-lts.Need-same-length-9 (convert-calls t) (convert-at t) convert.Post
 convert-same-length-9 t c = c .before .before .convert-token .kept .0
 
--- src/lib.rt:36:1
 pub convert-returns-11 : (t : ℕ) → convert-lts.Need-returns-11 (convert-calls t) (convert-at t) convert.Post
-convert-returns-11 t c = λ rs ready u sp n h. agrees-as (at-token (contextOf rs (c .before .before .before .before .before .before .before .before .before .before .before .before .before .args .c)) u (carryOf (c .before .before .before .before .before .before .before .before .before .before .before .before .before .args .c)) sp n h (sym (c .before .before .before .before .before .before .element-of .ensures) ∙ c .before .before .before .before .enum-told11 .given .1)) (c .before .before .convert-token .ensures rs (ready .decodes))
+convert-returns-11 t c =
+    let c₁ = c .before .before .before .before in
+    let c₂ = c₁ .before .before in
+    let c₃ = c₂ .before .before .before .before .before in
+    let c₄ = c₃ .before .before in
+    λ rs ready u sp n h.
+    agrees-as
+    (at-token (contextOf rs (c₄ .args .c)) u (carryOf (c₄ .args .c)) sp n h (sym (c₂ .element-of .ensures) ∙ c₁ .enum-told11 .given .1))
+    (c .before .before .convert-token .ensures rs (ready .decodes))

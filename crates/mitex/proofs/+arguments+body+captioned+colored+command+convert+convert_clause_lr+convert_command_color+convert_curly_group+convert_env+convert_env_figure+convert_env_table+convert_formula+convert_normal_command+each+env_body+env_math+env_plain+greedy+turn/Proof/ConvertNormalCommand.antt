@@ -16,76 +16,130 @@ use Rattle.mitex.proofs.Commanding.{normal-absent, normal-found, normal
 use Prim.Native.Nat.{ℕ}
 use Rattle.mitex.proofs.arguments.Reads as arguments
 use Rattle.mitex.proofs.convert_normal_command.Reads as convert-normal-command
-use Rattle.mitex.proofs.convert_normal_command.Kinds as convert-normal-command-kinds
 use Rattle.mitex.proofs.+arguments+body+captioned+colored+command+convert+convert_clause_lr+convert_command_color+convert_curly_group+convert_env+convert_env_figure+convert_env_table+convert_formula+convert_normal_command+each+env_body+env_math+env_plain+greedy+turn.Lts-convert_normal_command as convert-normal-command-lts
-use Rattle.mitex_commands.proofs.arguments_of.Reads as arguments-of-reads
-use Rattle.mitex_commands.proofs.class_of.Reads as class-of-reads
-use Rattle.mitex_commands.proofs.is_absent.Reads as is-absent-reads
-use Rattle.mitex_commands.proofs.is_stack.Reads as is-stack-reads
-use Rattle.mitex_commands.proofs.put_typst_name.Reads as put-typst-name-reads
-use Rattle.mitex_commands.proofs.stacked.Reads as stacked-reads
-use Rattle.mitex_spec.proofs.get_cmd.Reads as get-cmd-reads
-use Rattle.mitex_spec.proofs.written_name.Reads as written-name-reads
-use Rattle.mitex_state.proofs.close.Reads as close-reads
-use Rattle.mitex_state.proofs.refuse.Reads as refuse-reads
-use Rattle.mitex.proofs.+arguments+body+captioned+colored+command+convert+convert_clause_lr+convert_command_color+convert_curly_group+convert_env+convert_env_figure+convert_env_table+convert_formula+convert_normal_command+each+env_body+env_math+env_plain+greedy+turn.Proof.Setup.{μ-arguments, μ-body, μ-captioned, μ-colored, μ-command, μ-convert, μ-convert-clause-lr, μ-convert-command-color, μ-convert-curly-group, μ-convert-env, μ-convert-env-figure, μ-convert-env-table, μ-convert-formula, μ-convert-normal-command, μ-each, μ-env-body, μ-env-math, μ-env-plain, μ-greedy, μ-turn, arguments-at, arguments-below, body-at, body-below, captioned-at, captioned-below, colored-at, colored-below, command-at, command-below, convert-at, convert-below, convert-clause-lr-at, convert-clause-lr-below, convert-command-color-at, convert-command-color-below, convert-curly-group-at, convert-curly-group-below, convert-env-at, convert-env-below, convert-env-figure-at, convert-env-figure-below, convert-env-table-at, convert-env-table-below, convert-formula-at, convert-formula-below, convert-normal-command-at, convert-normal-command-below, each-at, each-below, env-body-at, env-body-below, env-math-at, env-math-below, env-plain-at, env-plain-below, greedy-at, greedy-below, turn-at, turn-below, arguments-calls, body-calls, captioned-calls, colored-calls, command-calls, convert-calls, convert-clause-lr-calls, convert-command-color-calls, convert-curly-group-calls, convert-env-calls, convert-env-figure-calls, convert-env-table-calls, convert-formula-calls, convert-normal-command-calls, each-calls, env-body-calls, env-math-calls, env-plain-calls, greedy-calls, turn-calls}
+use Rattle.mitex.proofs.+arguments+body+captioned+colored+command+convert+convert_clause_lr+convert_command_color+convert_curly_group+convert_env+convert_env_figure+convert_env_table+convert_formula+convert_normal_command+each+env_body+env_math+env_plain+greedy+turn.Proof.Setup.{convert-normal-command-at, convert-normal-command-calls}
 
--- src/lib.rt:352:9
 pub convert-normal-command-get-cmd-requires : (t : ℕ) → convert-normal-command-lts.Need-get-cmd-requires (convert-normal-command-calls t) (convert-normal-command-at t) convert-normal-command.Post
-convert-normal-command-get-cmd-requires t c κs = c .before .before .before .before .before .before .pre .1 .1 .0
+convert-normal-command-get-cmd-requires t c κs =
+    let c₁ = c .before .before .before .before .before in
+    let c₂ = c₁ .before in
+    c₂ .pre .1 .1 .0
 
--- src/lib.rt:353:8
 pub convert-normal-command-is-absent-requires : (t : ℕ) → convert-normal-command-lts.Need-is-absent-requires (convert-normal-command-calls t) (convert-normal-command-at t) convert-normal-command.Post
 convert-normal-command-is-absent-requires t c κs = search needs
 
--- src/lib.rt:354:9
 pub convert-normal-command-refuse-requires : (t : ℕ) → convert-normal-command-lts.Need-refuse-requires (convert-normal-command-calls t) (convert-normal-command-at t) convert-normal-command.Post
 convert-normal-command-refuse-requires t c κs = search needs
 
--- src/lib.rt:354:9
 pub convert-normal-command-returns : (t : ℕ) → convert-normal-command-lts.Need-returns (convert-normal-command-calls t) (convert-normal-command-at t) convert-normal-command.Post
-convert-normal-command-returns t c = λ rs ready f sp n h. agrees-as (normal-absent _ (c .before .before .before .before .before .before .before .before .before .before .args .name .now) (meaning n) (contextOf rs (c .before .before .before .before .before .before .before .before .before .before .args .c)) f (carryOf (c .before .before .before .before .before .before .before .before .before .before .args .c)) _ (c .before .before .before .get-cmd .result) ((c .before .before .before .get-cmd .ensures rs (ready .decodes)) .rule) (sym (c .before .before .is-absent .ensures) ∙ c .before .if1 .taken)) (agrees-here (omega arith) (c .refuse .ensures))
+convert-normal-command-returns t c =
+    let c₁ = c .before .before .before in
+    let c₂ = c₁ .before .before .before .before .before in
+    let c₃ = c₂ .before .before in
+    λ rs ready f sp n h.
+    agrees-as
+    (normal-absent _ (c₃ .args .name .now) (meaning n) (contextOf rs (c₃ .args .c)) f (carryOf (c₃ .args .c)) _ (c₁ .get-cmd .result)
+    ((c₁ .get-cmd .ensures rs (ready .decodes)) .rule) (sym (c .before .before .is-absent .ensures) ∙ c .before .if1 .taken))
+    (agrees-here (omega arith) (c .refuse .ensures))
 
--- src/lib.rt:359:9
 pub convert-normal-command-written-name-requires : (t : ℕ) → convert-normal-command-lts.Need-written-name-requires (convert-normal-command-calls t) (convert-normal-command-at t) convert-normal-command.Post
-convert-normal-command-written-name-requires t c κs = (c .before .before .get-cmd .ensures (c .before .before .before .before .before .before .before .before .before .pre .1 .1 .0 .rules) (c .before .before .before .before .before .before .before .before .before .pre .1 .1 .0 .ready .decodes)) .inside
+convert-normal-command-written-name-requires t c κs =
+    let c₁ = c .before .before .before .before .before in
+    let c₂ = c₁ .before .before .before .before in
+    (c .before .before .get-cmd .ensures (c₂ .pre .1 .1 .0 .rules) (c₂ .pre .1 .1 .0 .ready .decodes)) .inside
 
--- src/lib.rt:360:9
 pub convert-normal-command-put-typst-name-requires : (t : ℕ) → convert-normal-command-lts.Need-put-typst-name-requires (convert-normal-command-calls t) (convert-normal-command-at t) convert-normal-command.Post
-convert-normal-command-put-typst-name-requires t c κs = (c .before .before .before .before .before .before .before .before .before .before .before .pre .1 .0 .place, c .before .before .before .before .before .before .before .before .before .before .before .pre .1 .0 .room)
+convert-normal-command-put-typst-name-requires t c κs =
+    let c₁ = c .before .before .before .before .before in
+    let c₂ = c₁ .before .before .before .before .before in
+    let c₃ = c₂ .before in
+    (c₃ .pre .1 .0 .place, c₃ .pre .1 .0 .room)
 
--- src/lib.rt:361:28
 pub convert-normal-command-class-of-requires : (t : ℕ) → convert-normal-command-lts.Need-class-of-requires (convert-normal-command-calls t) (convert-normal-command-at t) convert-normal-command.Post
 convert-normal-command-class-of-requires t c κs = search needs
 
--- src/lib.rt:361:9
 pub convert-normal-command-arguments-of-requires : (t : ℕ) → convert-normal-command-lts.Need-arguments-of-requires (convert-normal-command-calls t) (convert-normal-command-at t) convert-normal-command.Post
 convert-normal-command-arguments-of-requires t c κs = search needs
 
--- src/lib.rt:362:24
 pub convert-normal-command-is-stack-requires : (t : ℕ) → convert-normal-command-lts.Need-is-stack-requires (convert-normal-command-calls t) (convert-normal-command-at t) convert-normal-command.Post
 convert-normal-command-is-stack-requires t c κs = search needs
 
--- src/lib.rt:362:9
 pub convert-normal-command-stacked-requires : (t : ℕ) → convert-normal-command-lts.Need-stacked-requires (convert-normal-command-calls t) (convert-normal-command-at t) convert-normal-command.Post
 convert-normal-command-stacked-requires t c κs = search needs
 
--- src/lib.rt:363:9
 pub convert-normal-command-arguments-requires : (t : ℕ) → convert-normal-command-lts.Need-arguments-requires (convert-normal-command-calls t) (convert-normal-command-at t) convert-normal-command.Post
-convert-normal-command-arguments-requires t c κs = let e = c .before .stacked .ensures in (omega (arith, c .before .before .before .before .before .before .before .before .before .before .before .before .before .before .before .before .before .before .before .pre .0), (room-for (c .before .before .before .before .before .before .before .before .before .before .before .before .before .before .before .before .before .before .before .pre .1 .0) 8 _ (c .before .stacked .result) (omega arith) (omega (arith, ap (λ y. y .indent) e, stack-indent (c .before .before .before .before .before .before .before .before .before .before .before .before .before .before .before .before .before .before .before .args .c) (c .before .before .is-stack .result))) (omega (arith, ap (λ y. y .«label_len») e, stack-label (c .before .before .before .before .before .before .before .before .before .before .before .before .before .before .before .before .before .before .before .args .c) (c .before .before .is-stack .result), c .before .before .before .before .before .before .before .before .before .before .before .before .before .before .before .before .before .before .before .pre .1 .0 .label)) (c .before .before .before .before .before .before .before .put-typst-name .kept .0) (wrote-low (c .before .before .before .before .before .before .before .put-typst-name .ensures)), (c .before .before .before .before .before .before .before .before .before .before .before .before .before .before .before .before .before .before .before .pre .1 .1 .0, c .before .before .before .before .before .before .before .before .before .before .before .before .before .before .before .before .before .before .before .pre .1 .1 .1)))
+convert-normal-command-arguments-requires t c κs =
+    let c₁ = c .before .before .before .before .before in
+    let c₂ = c₁ .before .before in
+    let c₃ = c₂ .before .before .before .before .before in
+    let c₄ = c₃ .before .before .before .before .before in
+    let c₅ = c₄ .before .before in
+    let e = c .before .stacked .ensures in (
+      omega (arith, c₅ .pre .0),
+      (
+        room-for (c₅ .pre .1 .0) 8 _ (c .before .stacked .result) (omega arith)
+            (omega (arith, ap (λ y. y .indent) e, stack-indent (c₅ .args .c) (c .before .before .is-stack .result)))
+            (omega (arith, ap (λ y. y .«label_len») e, stack-label (c₅ .args .c) (c .before .before .is-stack .result), c₅ .pre .1 .0 .label))
+            (c₂ .put-typst-name .kept .0) (wrote-low (c₂ .put-typst-name .ensures)),
+        (c₅ .pre .1 .1 .0, c₅ .pre .1 .1 .1),
+      ),
+    )
 
--- src/lib.rt:364:38
 pub convert-normal-command-slice-aggregate-close : (t : ℕ) → convert-normal-command-lts.Need-slice-aggregate-close (convert-normal-command-calls t) (convert-normal-command-at t) convert-normal-command.Post
 convert-normal-command-slice-aggregate-close t c = search needs
 
--- src/lib.rt:364:5
 pub convert-normal-command-close-requires : (t : ℕ) → convert-normal-command-lts.Need-close-requires (convert-normal-command-calls t) (convert-normal-command-at t) convert-normal-command.Post
-convert-normal-command-close-requires t c κs = (λ z. walks-good (c .before .before .before .before .before .before .stacked .result) (argumentsBy (c .before .before .before .before .before .before .before .before .arguments-of .result)) (c .before .before .before .before .before .before .before .before .before .before .before .before .before .before .before .before .before .before .before .before .before .before .before .before .pre .1 .1 .0) (c .before .before .before .before .before .before .before .before .before .before .before .before .before .before .before .before .before .before .before .before .before .before .before .before .pre .1 .1 .1) (c .before .before .before .before .arguments .ensures) z .place, omega (arith, c .before .before .before .before .before .before .before .before .before .before .before .before .before .before .before .before .before .before .before .before .before .before .before .before .pre .1 .0 .room, c .before .before .before .before .arguments .kept .0, c .before .before .before .before .before .before .before .before .before .before .before .before .put-typst-name .kept .0))
+convert-normal-command-close-requires t c κs =
+    let c₁ = c .before .before .before .before in
+    let c₂ = c₁ .before .before in
+    let c₃ = c₂ .before .before in
+    let c₄ = c₃ .before .before .before .before in
+    let c₅ = c₄ .before .before .before .before .before in
+    let c₆ = c₅ .before .before .before .before .before in
+    let c₇ = c₆ .before .before in (
+      λ z.
+          walks-good (c₂ .stacked .result) (argumentsBy (c₃ .arguments-of .result)) (c₇ .pre .1 .1 .0) (c₇ .pre .1 .1 .1) (c₁ .arguments .ensures)
+          z .place,
+      omega (arith, c₇ .pre .1 .0 .room, c₁ .arguments .kept .0, c₄ .put-typst-name .kept .0),
+    )
 
--- src/lib.rt:336:1
 pub convert-normal-command-same-length : (t : ℕ) → convert-normal-command-lts.Need-same-length (convert-normal-command-calls t) (convert-normal-command-at t) convert-normal-command.Post
-convert-normal-command-same-length t c = c .before .before .close .kept .0 ∙ c .before .before .before .before .before .before .before .arguments .kept .0 ∙ c .before .before .before .before .before .before .before .before .before .before .before .before .before .before .before .put-typst-name .kept .0
+convert-normal-command-same-length t c =
+    let c₁ = c .before .before .before .before .before in
+    let c₂ = c₁ .before .before in
+    let c₃ = c₂ .before .before .before .before .before in
+    let c₄ = c₃ .before .before .before in
+    c .before .before .close .kept .0 ∙ c₂ .arguments .kept .0 ∙ c₄ .put-typst-name .kept .0
 
--- src/lib.rt:336:1
 pub convert-normal-command-returns-2 : (t : ℕ) → convert-normal-command-lts.Need-returns-2 (convert-normal-command-calls t) (convert-normal-command-at t) convert-normal-command.Post
-convert-normal-command-returns-2 t c = λ rs ready f sp n h. agrees-as (normal-found _ (c .before .before .before .before .before .before .before .before .before .before .before .before .before .before .before .before .before .before .before .before .before .before .before .before .before .before .before .args .name .now) (meaning n) (contextOf rs (c .before .before .before .before .before .before .before .before .before .before .before .before .before .before .before .before .before .before .before .before .before .before .before .before .before .before .before .args .c)) f (carryOf (c .before .before .before .before .before .before .before .before .before .before .before .before .before .before .before .before .before .before .before .before .before .before .before .before .before .before .before .args .c)) _ (c .before .before .before .before .before .before .before .before .before .before .before .before .before .before .before .before .before .before .before .before .get-cmd .result) _ ((c .before .before .before .before .before .before .before .before .before .before .before .before .before .before .before .before .before .before .before .before .get-cmd .ensures rs (ready .decodes)) .rule) (sym (c .before .before .before .before .before .before .before .before .before .before .before .before .before .before .before .before .before .before .before .is-absent .ensures) ∙ c .before .before .before .before .before .before .before .before .before .before .before .before .before .before .before .before .before .before .if1 .left) (c .before .before .before .before .before .before .before .before .before .before .before .before .before .before .before .before .before .written-name .ensures) ∙ normal-written rs (c .before .before .before .before .before .before .before .before .before .before .before .before .before .before .before .before .before .before .before .before .before .before .before .before .before .before .before .args .c) (meaning n) f (classOf (c .before .before .before .before .before .before .before .before .before .before .before .before .before .before .before .before .before .before .before .before .get-cmd .result)) (typstName (c .before .before .before .before .before .before .before .before .before .before .before .before .before .before .before .before .before .before .before .before .before .before .before .before .before .before .before .args .c .mode) (c .before .before .before .before .before .before .before .before .before .before .before .before .before .before .before .before .before .before .before .before .before .before .before .before .before .before .before .args .name .now) (c .before .before .before .before .before .before .before .before .before .before .before .before .before .before .before .before .before .written-name .result .now)) (c .before .before .before .before .before .before .before .before .before .before .before .arguments-of .result) (c .before .before .before .before .before .before .before .before .before .before .is-stack .result) (c .before .before .before .before .before .before .before .before .before .before .before .arguments-of .ensures ∙ ap (λ y. argumentsOf y (c .before .before .before .before .before .before .before .before .before .before .before .before .before .before .before .before .before .before .before .before .before .before .before .before .before .before .before .args .c .mode) (typstName (c .before .before .before .before .before .before .before .before .before .before .before .before .before .before .before .before .before .before .before .before .before .before .before .before .before .before .before .args .c .mode) (c .before .before .before .before .before .before .before .before .before .before .before .before .before .before .before .before .before .before .before .before .before .before .before .before .before .before .before .args .name .now) (c .before .before .before .before .before .before .before .before .before .before .before .before .before .before .before .before .before .written-name .result .now))) (c .before .before .before .before .before .before .before .before .before .before .before .before .class-of .ensures)) (c .before .before .before .before .before .before .before .before .before .before .is-stack .ensures)) (agrees-after (c .before .before .before .before .before .before .before .before .before .before .before .before .before .before .before .before .before .before .before .before .before .before .before .before .before .before .before .pre .1 .0 .room) (c .before .before .before .before .before .before .before .before .before .before .before .before .before .before .before .put-typst-name .ensures) (agrees-close (omega (arith, c .before .before .before .before .before .before .before .before .before .before .before .before .before .before .before .before .before .before .before .before .before .before .before .before .before .before .before .pre .1 .0 .room, c .before .before .before .before .before .before .before .before .before .before .before .before .before .before .before .put-typst-name .kept .0)) (walks-as (argumentsBy (c .before .before .before .before .before .before .before .before .before .before .before .arguments-of .result)) (c .before .before .before .before .before .before .before .before .before .stacked .ensures) (c .before .before .before .before .before .before .before .arguments .ensures) rs ready f sp n h) (c .before .before .close .ensures)))
+convert-normal-command-returns-2 t c =
+    let c₁ = c .before .before .before .before .before in
+    let c₂ = c₁ .before .before in
+    let c₃ = c₂ .before .before in
+    let c₄ = c₃ .before in
+    let c₅ = c₄ .before in
+    let c₆ = c₅ .before in
+    let c₇ = c₆ .before .before .before in
+    let c₈ = c₇ .before .before in
+    let c₉ = c₈ .before in
+    let c₁₀ = c₉ .before in
+    let c₁₁ = c₁₀ .before in
+    let c₁₂ = c₁₁ .before .before .before .before .before in
+    let c₁₃ = c₁₂ .before .before in
+    λ rs ready f sp n h.
+    agrees-as
+    (normal-found _ (c₁₃ .args .name .now) (meaning n) (contextOf rs (c₁₃ .args .c)) f (carryOf (c₁₃ .args .c)) _ (c₁₁ .get-cmd .result)
+    _ ((c₁₁ .get-cmd .ensures rs (ready .decodes)) .rule) (sym (c₁₀ .is-absent .ensures) ∙ c₉ .if1 .left)
+    (c₈ .written-name .ensures)
+    ∙ normal-written rs (c₁₃ .args .c) (meaning n) f (classOf (c₁₁ .get-cmd .result))
+    (typstName (c₁₃ .args .c .mode) (c₁₃ .args .name .now) (c₈ .written-name .result .now)) (c₅ .arguments-of .result)
+    (c₄ .is-stack .result)
+    (c₅ .arguments-of .ensures
+    ∙ ap
+    (λ y.
+    argumentsOf y (c₁₃ .args .c .mode) (typstName (c₁₃ .args .c .mode) (c₁₃ .args .name .now) (c₈ .written-name .result .now)))
+    (c₆ .class-of .ensures)) (c₄ .is-stack .ensures))
+    (agrees-after (c₁₃ .pre .1 .0 .room) (c₇ .put-typst-name .ensures)
+    (agrees-close (omega (arith, c₁₃ .pre .1 .0 .room, c₇ .put-typst-name .kept .0))
+    (walks-as (argumentsBy (c₅ .arguments-of .result)) (c₃ .stacked .ensures) (c₂ .arguments .ensures) rs ready f sp n h)
+    (c .before .before .close .ensures)))

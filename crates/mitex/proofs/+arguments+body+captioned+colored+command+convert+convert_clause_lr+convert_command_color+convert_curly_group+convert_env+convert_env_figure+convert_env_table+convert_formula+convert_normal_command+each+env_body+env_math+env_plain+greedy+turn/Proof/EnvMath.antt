@@ -25,104 +25,316 @@ use Rattle.mitex.proofs.Environing.{step-small, closing-declines}
 use Prim.Native.Nat.{ℕ}
 use Rattle.mitex.proofs.each.Reads as each
 use Rattle.mitex.proofs.env_math.Reads as env-math
-use Rattle.mitex.proofs.env_math.Kinds as env-math-kinds
 use Rattle.mitex.proofs.+arguments+body+captioned+colored+command+convert+convert_clause_lr+convert_command_color+convert_curly_group+convert_env+convert_env_figure+convert_env_table+convert_formula+convert_normal_command+each+env_body+env_math+env_plain+greedy+turn.Lts-env_math as env-math-lts
-use Rattle.mitex_environments.proofs.begin_part.Reads as begin-part-reads
-use Rattle.mitex_loops.proofs.close_math.Reads as close-math-reads
-use Rattle.mitex_loops.proofs.put_dollar_begin.Reads as put-dollar-begin-reads
-use Rattle.mitex_state.proofs.Converter.entered_env.Reads as entered-env-reads
-use Rattle.mitex_state.proofs.Converter.entered_mode.Reads as entered-mode-reads
-use Rattle.text.proofs.put.Reads as put-reads
-use Rattle.mitex.proofs.+arguments+body+captioned+colored+command+convert+convert_clause_lr+convert_command_color+convert_curly_group+convert_env+convert_env_figure+convert_env_table+convert_formula+convert_normal_command+each+env_body+env_math+env_plain+greedy+turn.Proof.Setup.{μ-arguments, μ-body, μ-captioned, μ-colored, μ-command, μ-convert, μ-convert-clause-lr, μ-convert-command-color, μ-convert-curly-group, μ-convert-env, μ-convert-env-figure, μ-convert-env-table, μ-convert-formula, μ-convert-normal-command, μ-each, μ-env-body, μ-env-math, μ-env-plain, μ-greedy, μ-turn, arguments-at, arguments-below, body-at, body-below, captioned-at, captioned-below, colored-at, colored-below, command-at, command-below, convert-at, convert-below, convert-clause-lr-at, convert-clause-lr-below, convert-command-color-at, convert-command-color-below, convert-curly-group-at, convert-curly-group-below, convert-env-at, convert-env-below, convert-env-figure-at, convert-env-figure-below, convert-env-table-at, convert-env-table-below, convert-formula-at, convert-formula-below, convert-normal-command-at, convert-normal-command-below, each-at, each-below, env-body-at, env-body-below, env-math-at, env-math-below, env-plain-at, env-plain-below, greedy-at, greedy-below, turn-at, turn-below, arguments-calls, body-calls, captioned-calls, colored-calls, command-calls, convert-calls, convert-clause-lr-calls, convert-command-color-calls, convert-curly-group-calls, convert-env-calls, convert-env-figure-calls, convert-env-table-calls, convert-formula-calls, convert-normal-command-calls, each-calls, env-body-calls, env-math-calls, env-plain-calls, greedy-calls, turn-calls}
+use Rattle.mitex.proofs.+arguments+body+captioned+colored+command+convert+convert_clause_lr+convert_command_color+convert_curly_group+convert_env+convert_env_figure+convert_env_table+convert_formula+convert_normal_command+each+env_body+env_math+env_plain+greedy+turn.Proof.Setup.{env-math-at, env-math-calls}
 
--- src/lib.rt:546:9
 pub env-math-put-dollar-begin-requires : (t : ℕ) → env-math-lts.Need-put-dollar-begin-requires (env-math-calls t) (env-math-at t) env-math.Post
-env-math-put-dollar-begin-requires t c κs = (c .before .before .before .before .before .before .before .pre .1 .0 .place, c .before .before .before .before .before .before .before .pre .1 .0 .room)
+env-math-put-dollar-begin-requires t c κs =
+    let c₁ = c .before .before .before .before .before in
+    let c₂ = c₁ .before .before in
+    (c₂ .pre .1 .0 .place, c₂ .pre .1 .0 .room)
 
--- src/lib.rt:547:9
 pub env-math-put-requires : (t : ℕ) → env-math-lts.Need-put-requires (env-math-calls t) (env-math-at t) env-math.Post
-env-math-put-requires t c κs = (wrote-low (c .before .before .before .put-dollar-begin .ensures), omega (arith, c .before .before .before .before .before .before .before .before .before .before .before .pre .1 .0 .room, c .before .before .before .put-dollar-begin .kept .0))
+env-math-put-requires t c κs =
+    let c₁ = c .before .before .before in
+    let c₂ = c₁ .before .before .before .before .before in
+    let c₃ = c₂ .before .before .before in
+    (wrote-low (c₁ .put-dollar-begin .ensures), omega (arith, c₃ .pre .1 .0 .room, c₁ .put-dollar-begin .kept .0))
 
--- src/lib.rt:548:31
 pub env-math-slice-aggregate-put : (t : ℕ) → env-math-lts.Need-slice-aggregate-put (env-math-calls t) (env-math-at t) env-math.Post
 env-math-slice-aggregate-put t c = search needs
 
--- src/lib.rt:548:9
 pub env-math-put-requires-2 : (t : ℕ) → env-math-lts.Need-put-requires-2 (env-math-calls t) (env-math-at t) env-math.Post
-env-math-put-requires-2 t c κs = (wrote-low (c .before .before .before .before .put .ensures), omega (arith, c .before .before .before .before .before .before .before .before .before .before .before .before .before .before .before .before .pre .1 .0 .room, c .before .before .before .before .put .kept .0, c .before .before .before .before .before .before .before .before .put-dollar-begin .kept .0))
+env-math-put-requires-2 t c κs =
+    let c₁ = c .before .before .before .before in
+    let c₂ = c₁ .before .before .before .before in
+    let c₃ = c₂ .before .before .before .before .before in
+    let c₄ = c₃ .before .before .before in
+    (wrote-low (c₁ .put .ensures), omega (arith, c₄ .pre .1 .0 .room, c₁ .put .kept .0, c₂ .put-dollar-begin .kept .0))
 
--- src/lib.rt:549:9
 pub env-math-begin-part-requires : (t : ℕ) → env-math-lts.Need-begin-part-requires (env-math-calls t) (env-math-at t) env-math.Post
-env-math-begin-part-requires t c κs = siblings-forest (c .before .before .before .before .before .before .before .before .before .before .before .before .before .before .before .before .before .before .before .pre .1 .0) (c .before .before .before .before .before .before .before .before .before .before .before .before .before .before .before .before .before .before .before .pre .1 .1 .1)
+env-math-begin-part-requires t c κs =
+    let c₁ = c .before .before .before .before .before in
+    let c₂ = c₁ .before .before .before .before .before in
+    let c₃ = c₂ .before .before .before .before .before in
+    let c₄ = c₃ .before .before .before .before in
+    siblings-forest (c₄ .pre .1 .0) (c₄ .pre .1 .1 .1)
 
--- src/lib.rt:554:9
 pub env-math-entered-mode-requires : (t : ℕ) → env-math-lts.Need-entered-mode-requires (env-math-calls t) (env-math-at t) env-math.Post
 env-math-entered-mode-requires t c κs = search needs
 
--- src/lib.rt:555:26
 pub env-math-sub-each : (t : ℕ) → env-math-lts.Need-sub-each (env-math-calls t) (env-math-at t) env-math.Post
-env-math-sub-each t c = (c .before .before .begin-part .ensures (c .before .before .before .before .before .before .before .before .before .before .before .before .before .before .before .before .before .before .before .before .before .before .pre .1 .1 .1 .forest) (c .before .before .before .before .before .before .before .before .before .before .before .before .before .before .before .before .before .before .before .before .before .before .pre .1 .1 .1 .spells)) .inside .low
+env-math-sub-each t c =
+    let c₁ = c .before .before .before .before .before in
+    let c₂ = c₁ .before .before .before .before .before in
+    let c₃ = c₂ .before .before .before .before .before in
+    let c₄ = c₃ .before .before .before .before .before in
+    let c₅ = c₄ .before .before in
+    (c .before .before .begin-part .ensures (c₅ .pre .1 .1 .1 .forest) (c₅ .pre .1 .1 .1 .spells)) .inside .low
 
--- src/lib.rt:555:26
 pub env-math-part-each-start : (t : ℕ) → env-math-lts.Need-part-each-start (env-math-calls t) (env-math-at t) env-math.Post
-env-math-part-each-start t c = (c .before .before .begin-part .ensures (c .before .before .before .before .before .before .before .before .before .before .before .before .before .before .before .before .before .before .before .before .before .before .pre .1 .1 .1 .forest) (c .before .before .before .before .before .before .before .before .before .before .before .before .before .before .before .before .before .before .before .before .before .before .pre .1 .1 .1 .spells)) .inside .low
+env-math-part-each-start t c =
+    let c₁ = c .before .before .before .before .before in
+    let c₂ = c₁ .before .before .before .before .before in
+    let c₃ = c₂ .before .before .before .before .before in
+    let c₄ = c₃ .before .before .before .before .before in
+    let c₅ = c₄ .before .before in
+    (c .before .before .begin-part .ensures (c₅ .pre .1 .1 .1 .forest) (c₅ .pre .1 .1 .1 .spells)) .inside .low
 
--- src/lib.rt:555:26
 pub env-math-part-each-end : (t : ℕ) → env-math-lts.Need-part-each-end (env-math-calls t) (env-math-at t) env-math.Post
-env-math-part-each-end t c = (c .before .before .begin-part .ensures (c .before .before .before .before .before .before .before .before .before .before .before .before .before .before .before .before .before .before .before .before .before .before .pre .1 .1 .1 .forest) (c .before .before .before .before .before .before .before .before .before .before .before .before .before .before .before .before .before .before .before .before .before .before .pre .1 .1 .1 .spells)) .inside .high
+env-math-part-each-end t c =
+    let c₁ = c .before .before .before .before .before in
+    let c₂ = c₁ .before .before .before .before .before in
+    let c₃ = c₂ .before .before .before .before .before in
+    let c₄ = c₃ .before .before .before .before .before in
+    let c₅ = c₄ .before .before in
+    (c .before .before .begin-part .ensures (c₅ .pre .1 .1 .1 .forest) (c₅ .pre .1 .1 .1 .spells)) .inside .high
 
--- src/lib.rt:555:39
 pub env-math-sub-each-2 : (t : ℕ) → env-math-lts.Need-sub-each-2 (env-math-calls t) (env-math-at t) env-math.Post
-env-math-sub-each-2 t c = (c .before .before .before .begin-part .ensures (c .before .before .before .before .before .before .before .before .before .before .before .before .before .before .before .before .before .before .before .before .before .before .before .pre .1 .1 .1 .forest) (c .before .before .before .before .before .before .before .before .before .before .before .before .before .before .before .before .before .before .before .before .before .before .before .pre .1 .1 .1 .spells)) .inside .begun
+env-math-sub-each-2 t c =
+    let c₁ = c .before .before .before in
+    let c₂ = c₁ .before .before .before .before .before in
+    let c₃ = c₂ .before .before .before .before .before in
+    let c₄ = c₃ .before .before .before .before .before in
+    let c₅ = c₄ .before .before .before .before .before in
+    (c₁ .begin-part .ensures (c₅ .pre .1 .1 .1 .forest) (c₅ .pre .1 .1 .1 .spells)) .inside .begun
 
--- src/lib.rt:555:39
 pub env-math-part-each-start-2 : (t : ℕ) → env-math-lts.Need-part-each-start-2 (env-math-calls t) (env-math-at t) env-math.Post
-env-math-part-each-start-2 t c = (c .before .before .before .begin-part .ensures (c .before .before .before .before .before .before .before .before .before .before .before .before .before .before .before .before .before .before .before .before .before .before .before .pre .1 .1 .1 .forest) (c .before .before .before .before .before .before .before .before .before .before .before .before .before .before .before .before .before .before .before .before .before .before .before .pre .1 .1 .1 .spells)) .inside .begun
+env-math-part-each-start-2 t c =
+    let c₁ = c .before .before .before in
+    let c₂ = c₁ .before .before .before .before .before in
+    let c₃ = c₂ .before .before .before .before .before in
+    let c₄ = c₃ .before .before .before .before .before in
+    let c₅ = c₄ .before .before .before .before .before in
+    (c₁ .begin-part .ensures (c₅ .pre .1 .1 .1 .forest) (c₅ .pre .1 .1 .1 .spells)) .inside .begun
 
--- src/lib.rt:555:39
 pub env-math-part-each-end-2 : (t : ℕ) → env-math-lts.Need-part-each-end-2 (env-math-calls t) (env-math-at t) env-math.Post
-env-math-part-each-end-2 t c = (c .before .before .before .begin-part .ensures (c .before .before .before .before .before .before .before .before .before .before .before .before .before .before .before .before .before .before .before .before .before .before .before .pre .1 .1 .1 .forest) (c .before .before .before .before .before .before .before .before .before .before .before .before .before .before .before .before .before .before .before .before .before .before .before .pre .1 .1 .1 .spells)) .inside .stop
+env-math-part-each-end-2 t c =
+    let c₁ = c .before .before .before in
+    let c₂ = c₁ .before .before .before .before .before in
+    let c₃ = c₂ .before .before .before .before .before in
+    let c₄ = c₃ .before .before .before .before .before in
+    let c₅ = c₄ .before .before .before .before .before in
+    (c₁ .begin-part .ensures (c₅ .pre .1 .1 .1 .forest) (c₅ .pre .1 .1 .1 .spells)) .inside .stop
 
--- src/lib.rt:555:52
 pub env-math-add-each : (t : ℕ) → env-math-lts.Need-add-each (env-math-calls t) (env-math-at t) env-math.Post
-env-math-add-each t c = omega (arith, c .before .before .before .before .before .before .before .before .before .before .before .before .before .before .before .before .before .before .before .before .before .before .before .before .pre .1 .0 .low)
+env-math-add-each t c =
+    let c₁ = c .before .before .before .before .before in
+    let c₂ = c₁ .before .before .before .before .before in
+    let c₃ = c₂ .before .before .before .before .before in
+    let c₄ = c₃ .before .before .before .before .before in
+    let c₅ = c₄ .before .before .before .before in
+    omega (arith, c₅ .pre .1 .0 .low)
 
--- src/lib.rt:555:52
 pub env-math-add-each-2 : (t : ℕ) → env-math-lts.Need-add-each-2 (env-math-calls t) (env-math-at t) env-math.Post
-env-math-add-each-2 t c = let q = (c .before .before .before .before .begin-part .ensures (c .before .before .before .before .before .before .before .before .before .before .before .before .before .before .before .before .before .before .before .before .before .before .before .before .pre .1 .1 .1 .forest) (c .before .before .before .before .before .before .before .before .before .before .before .before .before .before .before .before .before .before .before .before .before .before .before .before .pre .1 .1 .1 .spells)) .inside in omega (arith, c .before .before .before .before .before .before .before .before .before .before .before .before .before .before .before .before .before .before .before .before .before .before .before .before .pre .1 .0 .low, q .low, q .high)
+env-math-add-each-2 t c =
+    let c₁ = c .before .before .before .before in
+    let c₂ = c₁ .before .before .before .before .before in
+    let c₃ = c₂ .before .before .before .before .before in
+    let c₄ = c₃ .before .before .before .before .before in
+    let c₅ = c₄ .before .before .before .before .before in
+    let q = (c₁ .begin-part .ensures (c₅ .pre .1 .1 .1 .forest) (c₅ .pre .1 .1 .1 .spells)) .inside in
+    omega (arith, c₅ .pre .1 .0 .low, q .low, q .high)
 
--- src/lib.rt:555:83
 pub env-math-entered-env-requires : (t : ℕ) → env-math-lts.Need-entered-env-requires (env-math-calls t) (env-math-at t) env-math.Post
-env-math-entered-env-requires t c κs = omega (arith, step-small (c .before .before .before .before .before .before .before .before .before .before .before .before .before .before .before .before .before .before .before .before .before .before .before .before .args .env), c .before .before .before .before .before .before .before .before .before .before .before .before .before .before .before .before .before .before .before .before .before .before .before .before .pre .1 .0 .deep, ap (λ y. y .indent) (c .before .before .before .entered-mode .ensures))
+env-math-entered-env-requires t c κs =
+    let c₁ = c .before .before .before in
+    let c₂ = c₁ .before .before .before .before .before in
+    let c₃ = c₂ .before .before .before .before .before in
+    let c₄ = c₃ .before .before .before .before .before in
+    let c₅ = c₄ .before .before .before .before .before in
+    let c₆ = c₅ .before in
+    omega (arith, step-small (c₆ .args .env), c₆ .pre .1 .0 .deep, ap (λ y. y .indent) (c₁ .entered-mode .ensures))
 
--- src/lib.rt:555:9
 pub env-math-each-requires : (t : ℕ) → env-math-lts.Need-each-requires (env-math-calls t) (env-math-at t) env-math.Post
-env-math-each-requires t c κs = let q = (c .before .before .before .before .before .begin-part .ensures (c .before .before .before .before .before .before .before .before .before .before .before .before .before .before .before .before .before .before .before .before .before .before .before .before .before .pre .1 .1 .1 .forest) (c .before .before .before .before .before .before .before .before .before .before .before .before .before .before .before .before .before .before .before .before .before .before .before .before .before .pre .1 .1 .1 .spells)) in let w = q .inside in let ln = between-length (c .before .before .before .before .before .before .before .before .before .before .before .before .before .before .before .before .before .before .before .before .before .before .before .before .before .args .rows .now) _ _ (w .low) (w .high) in (omega (arith, c .before .before .before .before .before .before .before .before .before .before .before .before .before .before .before .before .before .before .before .before .before .before .before .before .before .pre .0, ln, w .high), (room-between (c .before .before .before .before .before .before .before .before .before .before .before .before .before .before .before .before .before .before .before .before .before .before .before .before .before .pre .1 .0) _ _ _ _ (w .low) (w .high) (w .begun) (w .stop) (c .entered-env .result) (omega (arith, ap (λ y. y .indent) (c .entered-env .ensures), ap (λ y. y .indent) (c .before .before .before .before .entered-mode .ensures), step-small (c .before .before .before .before .before .before .before .before .before .before .before .before .before .before .before .before .before .before .before .before .before .before .before .before .before .args .env))) (omega (arith, ap (λ y. y .«label_len») (c .entered-env .ensures), ap (λ y. y .«label_len») (c .before .before .before .before .entered-mode .ensures), c .before .before .before .before .before .before .before .before .before .before .before .before .before .before .before .before .before .before .before .before .before .before .before .before .before .pre .1 .0 .label)) (c .before .before .before .before .before .before .before .before .put2 .kept .0 ∙ c .before .before .before .before .before .before .before .before .before .before .before .before .before .put .kept .0 ∙ c .before .before .before .before .before .before .before .before .before .before .before .before .before .before .before .before .before .put-dollar-begin .kept .0) (wrote-low (c .before .before .before .before .before .before .before .before .put2 .ensures)), (c .before .before .before .before .before .before .before .before .before .before .before .before .before .before .before .before .before .before .before .before .before .before .before .before .before .pre .1 .1 .0, (record { forest = beginOf (c .before .before .before .before .before .before .before .before .before .before .before .before .before .before .before .before .before .before .before .before .before .before .before .before .before .pre .1 .1 .1 .forest); spells = q .spells }, omega (arith, c .before .before .before .before .before .before .before .before .before .before .before .before .before .before .before .before .before .before .before .before .before .before .before .before .before .pre .1 .0 .few, ln, w .high)))))
+env-math-each-requires t c κs =
+    let c₁ = c .before .before .before .before in
+    let c₂ = c₁ .before in
+    let c₃ = c₂ .before .before .before in
+    let c₄ = c₃ .before .before .before .before .before in
+    let c₅ = c₄ .before .before .before .before in
+    let c₆ = c₅ .before .before .before .before .before in
+    let c₇ = c₆ .before .before .before in
+    let q = (c₂ .begin-part .ensures (c₇ .pre .1 .1 .1 .forest) (c₇ .pre .1 .1 .1 .spells)) in
+    let w = q .inside in
+    let ln = between-length (c₇ .args .rows .now) _ _ (w .low) (w .high) in (
+      omega (arith, c₇ .pre .0, ln, w .high),
+      (
+        room-between (c₇ .pre .1 .0) _ _ _ _ (w .low) (w .high) (w .begun) (w .stop) (c .entered-env .result)
+            (omega (
+              arith,
+              ap (λ y. y .indent) (c .entered-env .ensures),
+              ap (λ y. y .indent) (c₁ .entered-mode .ensures),
+              step-small (c₇ .args .env),
+            ))
+            (omega (
+              arith,
+              ap (λ y. y .«label_len») (c .entered-env .ensures),
+              ap (λ y. y .«label_len») (c₁ .entered-mode .ensures),
+              c₇ .pre .1 .0 .label,
+            )) (c₃ .put2 .kept .0 ∙ c₄ .put .kept .0 ∙ c₅ .put-dollar-begin .kept .0) (wrote-low (c₃ .put2 .ensures)),
+        (
+          c₇ .pre .1 .1 .0,
+          (record { forest = beginOf (c₇ .pre .1 .1 .1 .forest); spells = q .spells }, omega (arith, c₇ .pre .1 .0 .few, ln, w .high)),
+        ),
+      ),
+    )
 
--- src/lib.rt:557:9
 pub env-math-same-length : (t : ℕ) → env-math-lts.Need-same-length (env-math-calls t) (env-math-at t) env-math.Post
-env-math-same-length t c = c .before .before .before .before .each .kept .0 ∙ c .before .before .before .before .before .before .before .before .before .before .before .before .before .put2 .kept .0 ∙ c .before .before .before .before .before .before .before .before .before .before .before .before .before .before .before .before .before .before .put .kept .0 ∙ c .before .before .before .before .before .before .before .before .before .before .before .before .before .before .before .before .before .before .before .before .before .before .put-dollar-begin .kept .0
+env-math-same-length t c =
+    let c₁ = c .before .before .before .before in
+    let c₂ = c₁ .before .before .before .before .before in
+    let c₃ = c₂ .before .before .before .before in
+    let c₄ = c₃ .before .before .before .before .before in
+    let c₅ = c₄ .before .before .before .before in
+    c₁ .each .kept .0 ∙ c₃ .put2 .kept .0 ∙ c₄ .put .kept .0 ∙ c₅ .put-dollar-begin .kept .0
 
--- src/lib.rt:557:9
 pub env-math-returns : (t : ℕ) → env-math-lts.Need-returns (env-math-calls t) (env-math-at t) env-math.Post
-env-math-returns t c = λ rs ready f sp n h. let q = c .before .before .before .before .before .before .before .before .before .before .begin-part .ensures f sp in agrees-after (c .before .before .before .before .before .before .before .before .before .before .before .before .before .before .before .before .before .before .before .before .before .before .before .before .before .before .before .before .before .before .pre .1 .0 .room) (wrote-then (c .before .before .before .before .before .before .before .before .before .before .before .before .before .before .before .before .before .before .before .before .before .before .before .before .before .before .before .before .before .before .pre .1 .0 .room) (c .before .before .before .before .before .before .before .before .before .before .before .before .before .before .before .before .before .before .before .before .before .before .put-dollar-begin .ensures) (wrote-then (omega (arith, c .before .before .before .before .before .before .before .before .before .before .before .before .before .before .before .before .before .before .before .before .before .before .before .before .before .before .before .before .before .before .pre .1 .0 .room, c .before .before .before .before .before .before .before .before .before .before .before .before .before .before .before .before .before .before .before .before .before .before .put-dollar-begin .kept .0)) (c .before .before .before .before .before .before .before .before .before .before .before .before .before .before .before .before .before .before .put .ensures) (c .before .before .before .before .before .before .before .before .before .before .before .before .before .put2 .ensures))) (closing-declines {x = placeOf (c .before .before .before .before .before .before .before .before .before .before .before .before .before .before .before .before .before .before .before .before .before .before .before .before .before .before .before .before .before .before .args .c)} _ (then-refused (λ c′. loop-of (meaning n (contextOf rs (enteredEnv (c .before .before .before .before .before .before .before .before .before .before .before .before .before .before .before .before .before .before .before .before .before .before .before .before .before .before .before .before .before .before .args .env) (withMode Math (c .before .before .before .before .before .before .before .before .before .before .before .before .before .before .before .before .before .before .before .before .before .before .before .before .before .before .before .before .before .before .args .c))))) 1 Inside f c′) (agrees-as (q .row (meaning n (contextOf rs (enteredEnv (c .before .before .before .before .before .before .before .before .before .before .before .before .before .before .before .before .before .before .before .before .before .before .before .before .before .before .before .before .before .before .args .env) (withMode Math (c .before .before .before .before .before .before .before .before .before .before .before .before .before .before .before .before .before .before .before .before .before .before .before .before .before .before .before .before .before .before .args .c))))) (Named 0) (carryOf (c .before .before .before .before .before .before .before .before .before .before .before .before .before .before .before .before .before .before .before .before .before .before .before .before .before .before .before .before .before .before .args .c))) (agrees-shift _ (loops-row (enteredEnv (c .before .before .before .before .before .before .before .before .before .before .before .before .before .before .before .before .before .before .before .before .before .before .before .before .before .before .before .before .before .before .args .env) (withMode Math (c .before .before .before .before .before .before .before .before .before .before .before .before .before .before .before .before .before .before .before .before .before .before .before .before .before .before .before .before .before .before .args .c))) (Named 0) (omega arith) (loops-as (Named 0) (c .before .before .before .before .before .entered-env .ensures ∙ ap (enteredEnv (c .before .before .before .before .before .before .before .before .before .before .before .before .before .before .before .before .before .before .before .before .before .before .before .before .before .before .before .before .before .before .args .env)) (c .before .before .before .before .before .before .before .before .before .entered-mode .ensures)) (c .before .before .before .before .each .ensures)) rs ready (beginOf f) (q .spells) n (omega (arith, h, q .fits))))) (c .if1 .taken)) (c .if1 .taken))
+env-math-returns t c =
+    let c₁ = c .before .before .before .before in
+    let c₂ = c₁ .before in
+    let c₃ = c₂ .before .before .before .before in
+    let c₄ = c₃ .before in
+    let c₅ = c₄ .before .before .before in
+    let c₆ = c₅ .before .before .before .before .before in
+    let c₇ = c₆ .before .before .before .before in
+    let c₈ = c₇ .before .before .before .before .before in
+    let c₉ = c₈ .before .before .before in
+    λ rs ready f sp n h.
+    let q = c₄ .begin-part .ensures f sp in
+    agrees-after (c₉ .pre .1 .0 .room)
+    (wrote-then (c₉ .pre .1 .0 .room) (c₇ .put-dollar-begin .ensures)
+    (wrote-then (omega (arith, c₉ .pre .1 .0 .room, c₇ .put-dollar-begin .kept .0)) (c₆ .put .ensures) (c₅ .put2 .ensures)))
+    (closing-declines {x = placeOf (c₉ .args .c)} _
+    (then-refused (λ c′. loop-of (meaning n (contextOf rs (enteredEnv (c₉ .args .env) (withMode Math (c₉ .args .c))))) 1 Inside f c′)
+    (agrees-as
+    (q .row (meaning n (contextOf rs (enteredEnv (c₉ .args .env) (withMode Math (c₉ .args .c))))) (Named 0)
+    (carryOf (c₉ .args .c)))
+    (agrees-shift _
+    (loops-row (enteredEnv (c₉ .args .env) (withMode Math (c₉ .args .c))) (Named 0) (omega arith)
+    (loops-as (Named 0) (c₂ .entered-env .ensures ∙ ap (enteredEnv (c₉ .args .env)) (c₃ .entered-mode .ensures))
+    (c₁ .each .ensures)) rs ready (beginOf f) (q .spells) n (omega (arith, h, q .fits))))) (c .if1 .taken))
+    (c .if1 .taken))
 
--- src/lib.rt:561:38
 pub env-math-add-each-3 : (t : ℕ) → env-math-lts.Need-add-each-3 (env-math-calls t) (env-math-at t) env-math.Post
-env-math-add-each-3 t c = omega (arith, c .before .before .before .before .before .before .before .before .before .before .before .before .before .before .before .before .before .before .before .before .before .before .before .before .before .before .before .before .before .before .before .before .pre .1 .0 .low)
+env-math-add-each-3 t c =
+    let c₁ = c .before .before .before .before .before in
+    let c₂ = c₁ .before .before .before .before .before in
+    let c₃ = c₂ .before .before .before .before .before in
+    let c₄ = c₃ .before .before .before .before .before in
+    let c₅ = c₄ .before .before .before .before .before in
+    let c₆ = c₅ .before .before .before .before .before in
+    let c₇ = c₆ .before .before in
+    omega (arith, c₇ .pre .1 .0 .low)
 
--- src/lib.rt:561:9
 pub env-math-each-requires-2 : (t : ℕ) → env-math-lts.Need-each-requires-2 (env-math-calls t) (env-math-at t) env-math.Post
-env-math-each-requires-2 t c κs = let w = loops-good (c .before .before .before .before .before .before .before .entered-env .result) (Named 0) (c .before .before .before .before .before .before .before .before .before .before .before .before .before .before .before .before .before .before .before .before .before .before .before .before .before .before .before .before .before .before .before .before .pre .1 .1 .0) (record { forest = beginOf (c .before .before .before .before .before .before .before .before .before .before .before .before .before .before .before .before .before .before .before .before .before .before .before .before .before .before .before .before .before .before .before .before .pre .1 .1 .1 .forest); spells = (c .before .before .before .before .before .before .before .before .before .before .before .before .begin-part .ensures (c .before .before .before .before .before .before .before .before .before .before .before .before .before .before .before .before .before .before .before .before .before .before .before .before .before .before .before .before .before .before .before .before .pre .1 .1 .1 .forest) (c .before .before .before .before .before .before .before .before .before .before .before .before .before .before .before .before .before .before .before .before .before .before .before .before .before .before .before .before .before .before .before .before .pre .1 .1 .1 .spells)) .spells }) (c .before .before .before .before .before .before .each .ensures) (c .before .before .if1 .left) in let i = ap (λ (y : Place). y .indent) (w .placed-so) in (omega (arith, c .before .before .before .before .before .before .before .before .before .before .before .before .before .before .before .before .before .before .before .before .before .before .before .before .before .before .before .before .before .before .before .before .pre .0), (room-each (c .before .before .before .before .before .before .before .before .before .before .before .before .before .before .before .before .before .before .before .before .before .before .before .before .before .before .before .before .before .before .before .before .pre .1 .0) (c .before .before .before .before .before .before .each .result .converter) (omega (arith, i, ap (λ y. y .indent) (c .before .before .before .before .before .before .before .entered-env .ensures), ap (λ y. y .indent) (c .before .before .before .before .before .before .before .before .before .before .before .entered-mode .ensures), step-small (c .before .before .before .before .before .before .before .before .before .before .before .before .before .before .before .before .before .before .before .before .before .before .before .before .before .before .before .before .before .before .before .before .args .env))) (w .short) (c .before .before .before .before .before .before .each .kept .0 ∙ c .before .before .before .before .before .before .before .before .before .before .before .before .before .before .before .put2 .kept .0 ∙ c .before .before .before .before .before .before .before .before .before .before .before .before .before .before .before .before .before .before .before .before .put .kept .0 ∙ c .before .before .before .before .before .before .before .before .before .before .before .before .before .before .before .before .before .before .before .before .before .before .before .before .put-dollar-begin .kept .0) (w .place), (c .before .before .before .before .before .before .before .before .before .before .before .before .before .before .before .before .before .before .before .before .before .before .before .before .before .before .before .before .before .before .before .before .pre .1 .1 .0, (c .before .before .before .before .before .before .before .before .before .before .before .before .before .before .before .before .before .before .before .before .before .before .before .before .before .before .before .before .before .before .before .before .pre .1 .1 .1, omega (arith, c .before .before .before .before .before .before .before .before .before .before .before .before .before .before .before .before .before .before .before .before .before .before .before .before .before .before .before .before .before .before .before .before .pre .1 .0 .few)))))
+env-math-each-requires-2 t c κs =
+    let c₁ = c .before .before .before .before .before in
+    let c₂ = c₁ .before in
+    let c₃ = c₂ .before in
+    let c₄ = c₃ .before .before .before .before in
+    let c₅ = c₄ .before in
+    let c₆ = c₅ .before .before .before in
+    let c₇ = c₆ .before .before .before .before .before in
+    let c₈ = c₇ .before .before .before .before in
+    let c₉ = c₈ .before .before .before .before .before in
+    let c₁₀ = c₉ .before .before .before in
+    let w =
+    loops-good (c₃ .entered-env .result) (Named 0) (c₁₀ .pre .1 .1 .0)
+    (record
+    { forest = beginOf (c₁₀ .pre .1 .1 .1 .forest); spells = (c₅ .begin-part .ensures (c₁₀ .pre .1 .1 .1 .forest) (c₁₀ .pre .1 .1 .1 .spells)) .spells })
+    (c₂ .each .ensures) (c .before .before .if1 .left) in
+    let i = ap (λ (y : Place). y .indent) (w .placed-so) in (
+      omega (arith, c₁₀ .pre .0),
+      (
+        room-each (c₁₀ .pre .1 .0) (c₂ .each .result .converter)
+            (omega (
+              arith,
+              i,
+              ap (λ y. y .indent) (c₃ .entered-env .ensures),
+              ap (λ y. y .indent) (c₄ .entered-mode .ensures),
+              step-small (c₁₀ .args .env),
+            )) (w .short)
+            (c₂ .each .kept .0 ∙ c₆ .put2 .kept .0 ∙ c₇ .put .kept .0 ∙ c₈ .put-dollar-begin .kept .0) (w .place),
+        (c₁₀ .pre .1 .1 .0, (c₁₀ .pre .1 .1 .1, omega (arith, c₁₀ .pre .1 .0 .few))),
+      ),
+    )
 
--- src/lib.rt:562:5
 pub env-math-close-math-requires : (t : ℕ) → env-math-lts.Need-close-math-requires (env-math-calls t) (env-math-at t) env-math.Post
-env-math-close-math-requires t c κs = (λ z. loops-good (c .before .before .before .before .before .before .before .before .before .before .each .result .converter) Inside (c .before .before .before .before .before .before .before .before .before .before .before .before .before .before .before .before .before .before .before .before .before .before .before .before .before .before .before .before .before .before .before .before .before .before .before .before .pre .1 .1 .0) (c .before .before .before .before .before .before .before .before .before .before .before .before .before .before .before .before .before .before .before .before .before .before .before .before .before .before .before .before .before .before .before .before .before .before .before .before .pre .1 .1 .1) (c .before .before .before .each2 .ensures) z .place, omega (arith, c .before .before .before .before .before .before .before .before .before .before .before .before .before .before .before .before .before .before .before .before .before .before .before .before .before .before .before .before .before .before .before .before .before .before .before .before .pre .1 .0 .room, c .before .before .before .each2 .kept .0, c .before .before .before .before .before .before .before .before .before .before .each .kept .0, c .before .before .before .before .before .before .before .before .before .before .before .before .before .before .before .before .before .before .before .put2 .kept .0, c .before .before .before .before .before .before .before .before .before .before .before .before .before .before .before .before .before .before .before .before .before .before .before .before .put .kept .0, c .before .before .before .before .before .before .before .before .before .before .before .before .before .before .before .before .before .before .before .before .before .before .before .before .before .before .before .before .put-dollar-begin .kept .0))
+env-math-close-math-requires t c κs =
+    let c₁ = c .before .before .before in
+    let c₂ = c₁ .before .before .before .before .before in
+    let c₃ = c₂ .before .before in
+    let c₄ = c₃ .before .before .before .before .before in
+    let c₅ = c₄ .before .before .before .before in
+    let c₆ = c₅ .before .before .before .before .before in
+    let c₇ = c₆ .before .before .before .before in
+    let c₈ = c₇ .before .before .before .before .before in
+    let c₉ = c₈ .before .before .before in (
+      λ z. loops-good (c₃ .each .result .converter) Inside (c₉ .pre .1 .1 .0) (c₉ .pre .1 .1 .1) (c₁ .each2 .ensures) z .place,
+      omega (
+        arith,
+        c₉ .pre .1 .0 .room,
+        c₁ .each2 .kept .0,
+        c₃ .each .kept .0,
+        c₅ .put2 .kept .0,
+        c₆ .put .kept .0,
+        c₇ .put-dollar-begin .kept .0,
+      ),
+    )
 
--- src/lib.rt:526:1
 pub env-math-same-length-2 : (t : ℕ) → env-math-lts.Need-same-length-2 (env-math-calls t) (env-math-at t) env-math.Post
-env-math-same-length-2 t c = c .before .before .close-math .kept .0 ∙ c .before .before .before .before .before .before .each2 .kept .0 ∙ c .before .before .before .before .before .before .before .before .before .before .before .before .before .each .kept .0 ∙ c .before .before .before .before .before .before .before .before .before .before .before .before .before .before .before .before .before .before .before .before .before .before .put2 .kept .0 ∙ c .before .before .before .before .before .before .before .before .before .before .before .before .before .before .before .before .before .before .before .before .before .before .before .before .before .before .before .put .kept .0 ∙ c .before .before .before .before .before .before .before .before .before .before .before .before .before .before .before .before .before .before .before .before .before .before .before .before .before .before .before .before .before .before .before .put-dollar-begin .kept .0
+env-math-same-length-2 t c =
+    let c₁ = c .before .before .before .before .before in
+    let c₂ = c₁ .before in
+    let c₃ = c₂ .before .before .before .before .before in
+    let c₄ = c₃ .before .before in
+    let c₅ = c₄ .before .before .before .before .before in
+    let c₆ = c₅ .before .before .before .before in
+    let c₇ = c₆ .before .before .before .before .before in
+    let c₈ = c₇ .before .before .before .before in
+    c .before .before .close-math .kept .0
+    ∙ c₂ .each2 .kept .0
+    ∙ c₄ .each .kept .0
+    ∙ c₆ .put2 .kept .0
+    ∙ c₇ .put .kept .0
+    ∙ c₈ .put-dollar-begin .kept .0
 
--- src/lib.rt:526:1
 pub env-math-returns-2 : (t : ℕ) → env-math-lts.Need-returns-2 (env-math-calls t) (env-math-at t) env-math.Post
-env-math-returns-2 t c = λ rs ready f sp n h. let q = c .before .before .before .before .before .before .before .before .before .before .before .before .before .before .before .before .before .before .before .begin-part .ensures f sp in let w = loops-good (c .before .before .before .before .before .before .before .before .before .before .before .before .before .before .entered-env .result) (Named 0) (c .before .before .before .before .before .before .before .before .before .before .before .before .before .before .before .before .before .before .before .before .before .before .before .before .before .before .before .before .before .before .before .before .before .before .before .before .before .before .before .pre .1 .1 .0) (record { forest = beginOf (c .before .before .before .before .before .before .before .before .before .before .before .before .before .before .before .before .before .before .before .before .before .before .before .before .before .before .before .before .before .before .before .before .before .before .before .before .before .before .before .pre .1 .1 .1 .forest); spells = (c .before .before .before .before .before .before .before .before .before .before .before .before .before .before .before .before .before .before .before .begin-part .ensures (c .before .before .before .before .before .before .before .before .before .before .before .before .before .before .before .before .before .before .before .before .before .before .before .before .before .before .before .before .before .before .before .before .before .before .before .before .before .before .before .pre .1 .1 .1 .forest) (c .before .before .before .before .before .before .before .before .before .before .before .before .before .before .before .before .before .before .before .before .before .before .before .before .before .before .before .before .before .before .before .before .before .before .before .before .before .before .before .pre .1 .1 .1 .spells)) .spells }) (c .before .before .before .before .before .before .before .before .before .before .before .before .before .each .ensures) (c .before .before .before .before .before .before .before .before .before .if1 .left) in agrees-after (c .before .before .before .before .before .before .before .before .before .before .before .before .before .before .before .before .before .before .before .before .before .before .before .before .before .before .before .before .before .before .before .before .before .before .before .before .before .before .before .pre .1 .0 .room) (wrote-then (c .before .before .before .before .before .before .before .before .before .before .before .before .before .before .before .before .before .before .before .before .before .before .before .before .before .before .before .before .before .before .before .before .before .before .before .before .before .before .before .pre .1 .0 .room) (c .before .before .before .before .before .before .before .before .before .before .before .before .before .before .before .before .before .before .before .before .before .before .before .before .before .before .before .before .before .before .before .put-dollar-begin .ensures) (wrote-then (omega (arith, c .before .before .before .before .before .before .before .before .before .before .before .before .before .before .before .before .before .before .before .before .before .before .before .before .before .before .before .before .before .before .before .before .before .before .before .before .before .before .before .pre .1 .0 .room, c .before .before .before .before .before .before .before .before .before .before .before .before .before .before .before .before .before .before .before .before .before .before .before .before .before .before .before .before .before .before .before .put-dollar-begin .kept .0)) (c .before .before .before .before .before .before .before .before .before .before .before .before .before .before .before .before .before .before .before .before .before .before .before .before .before .before .before .put .ensures) (c .before .before .before .before .before .before .before .before .before .before .before .before .before .before .before .before .before .before .before .before .before .before .put2 .ensures))) (agrees-close (omega (arith, c .before .before .before .before .before .before .before .before .before .before .before .before .before .before .before .before .before .before .before .before .before .before .before .before .before .before .before .before .before .before .before .before .before .before .before .before .before .before .before .pre .1 .0 .room, c .before .before .before .before .before .before .before .before .before .before .before .before .before .before .before .before .before .before .before .before .before .before .put2 .kept .0, c .before .before .before .before .before .before .before .before .before .before .before .before .before .before .before .before .before .before .before .before .before .before .before .before .before .before .before .put .kept .0, c .before .before .before .before .before .before .before .before .before .before .before .before .before .before .before .before .before .before .before .before .before .before .before .before .before .before .before .before .before .before .before .put-dollar-begin .kept .0)) (then-done (λ c′. loop-of (meaning n (contextOf rs (enteredEnv (c .before .before .before .before .before .before .before .before .before .before .before .before .before .before .before .before .before .before .before .before .before .before .before .before .before .before .before .before .before .before .before .before .before .before .before .before .before .before .before .args .env) (withMode Math (c .before .before .before .before .before .before .before .before .before .before .before .before .before .before .before .before .before .before .before .before .before .before .before .before .before .before .before .before .before .before .before .before .before .before .before .before .before .before .before .args .c))))) 1 Inside f c′) (omega (arith, c .before .before .before .before .before .before .before .before .before .before .before .before .before .before .before .before .before .before .before .before .before .before .before .before .before .before .before .before .before .before .before .before .before .before .before .before .before .before .before .pre .1 .0 .room, c .before .before .before .before .before .before .before .before .before .before .before .before .before .before .before .before .before .before .before .before .before .before .put2 .kept .0, c .before .before .before .before .before .before .before .before .before .before .before .before .before .before .before .before .before .before .before .before .before .before .before .before .before .before .before .put .kept .0, c .before .before .before .before .before .before .before .before .before .before .before .before .before .before .before .before .before .before .before .before .before .before .before .before .before .before .before .before .before .before .before .put-dollar-begin .kept .0)) (agrees-as (q .row (meaning n (contextOf rs (enteredEnv (c .before .before .before .before .before .before .before .before .before .before .before .before .before .before .before .before .before .before .before .before .before .before .before .before .before .before .before .before .before .before .before .before .before .before .before .before .before .before .before .args .env) (withMode Math (c .before .before .before .before .before .before .before .before .before .before .before .before .before .before .before .before .before .before .before .before .before .before .before .before .before .before .before .before .before .before .before .before .before .before .before .before .before .before .before .args .c))))) (Named 0) (carryOf (c .before .before .before .before .before .before .before .before .before .before .before .before .before .before .before .before .before .before .before .before .before .before .before .before .before .before .before .before .before .before .before .before .before .before .before .before .before .before .before .args .c))) (agrees-shift _ (loops-row (enteredEnv (c .before .before .before .before .before .before .before .before .before .before .before .before .before .before .before .before .before .before .before .before .before .before .before .before .before .before .before .before .before .before .before .before .before .before .before .before .before .before .before .args .env) (withMode Math (c .before .before .before .before .before .before .before .before .before .before .before .before .before .before .before .before .before .before .before .before .before .before .before .before .before .before .before .before .before .before .before .before .before .before .before .before .before .before .before .args .c))) (Named 0) (omega arith) (loops-as (Named 0) (c .before .before .before .before .before .before .before .before .before .before .before .before .before .before .entered-env .ensures ∙ ap (enteredEnv (c .before .before .before .before .before .before .before .before .before .before .before .before .before .before .before .before .before .before .before .before .before .before .before .before .before .before .before .before .before .before .before .before .before .before .before .before .before .before .before .args .env)) (c .before .before .before .before .before .before .before .before .before .before .before .before .before .before .before .before .before .before .entered-mode .ensures)) (c .before .before .before .before .before .before .before .before .before .before .before .before .before .each .ensures)) rs ready (beginOf f) (q .spells) n (omega (arith, h, q .fits))))) (c .before .before .before .before .before .before .before .before .before .if1 .left) (loops-placed rs n (c .before .before .before .before .before .before .before .before .before .before .before .before .before .each .result .converter) (w .placed-so ∙ ap placeOf (c .before .before .before .before .before .before .before .before .before .before .before .before .before .before .entered-env .ensures ∙ ap (enteredEnv (c .before .before .before .before .before .before .before .before .before .before .before .before .before .before .before .before .before .before .before .before .before .before .before .before .before .before .before .before .before .before .before .before .before .before .before .before .before .before .before .args .env)) (c .before .before .before .before .before .before .before .before .before .before .before .before .before .before .before .before .before .before .entered-mode .ensures))) 1 Inside f (loops-at 1 (c .before .before .before .before .before .before .before .before .before .before .before .before .before .each .result .converter) Inside (c .before .before .before .before .before .before .each2 .ensures) rs ready f sp n h))) (c .before .before .close-math .ensures))
+env-math-returns-2 t c =
+    let c₁ = c .before .before .before .before .before in
+    let c₂ = c₁ .before in
+    let c₃ = c₂ .before .before .before in
+    let c₄ = c₃ .before .before .before .before in
+    let c₅ = c₄ .before in
+    let c₆ = c₅ .before .before .before .before in
+    let c₇ = c₆ .before in
+    let c₈ = c₇ .before .before .before in
+    let c₉ = c₈ .before .before .before .before .before in
+    let c₁₀ = c₉ .before .before .before .before in
+    let c₁₁ = c₁₀ .before .before .before .before .before in
+    let c₁₂ = c₁₁ .before .before .before in
+    λ rs ready f sp n h.
+    let q = c₇ .begin-part .ensures f sp in
+    let w =
+    loops-good (c₅ .entered-env .result) (Named 0) (c₁₂ .pre .1 .1 .0)
+    (record
+    { forest = beginOf (c₁₂ .pre .1 .1 .1 .forest); spells = (c₇ .begin-part .ensures (c₁₂ .pre .1 .1 .1 .forest) (c₁₂ .pre .1 .1 .1 .spells)) .spells })
+    (c₄ .each .ensures) (c₃ .if1 .left) in
+    agrees-after (c₁₂ .pre .1 .0 .room)
+    (wrote-then (c₁₂ .pre .1 .0 .room) (c₁₀ .put-dollar-begin .ensures)
+    (wrote-then (omega (arith, c₁₂ .pre .1 .0 .room, c₁₀ .put-dollar-begin .kept .0)) (c₉ .put .ensures) (c₈ .put2 .ensures)))
+    (agrees-close (omega (arith, c₁₂ .pre .1 .0 .room, c₈ .put2 .kept .0, c₉ .put .kept .0, c₁₀ .put-dollar-begin .kept .0))
+    (then-done (λ c′. loop-of (meaning n (contextOf rs (enteredEnv (c₁₂ .args .env) (withMode Math (c₁₂ .args .c))))) 1 Inside f c′)
+    (omega (arith, c₁₂ .pre .1 .0 .room, c₈ .put2 .kept .0, c₉ .put .kept .0, c₁₀ .put-dollar-begin .kept .0))
+    (agrees-as
+    (q .row (meaning n (contextOf rs (enteredEnv (c₁₂ .args .env) (withMode Math (c₁₂ .args .c))))) (Named 0)
+    (carryOf (c₁₂ .args .c)))
+    (agrees-shift _
+    (loops-row (enteredEnv (c₁₂ .args .env) (withMode Math (c₁₂ .args .c))) (Named 0) (omega arith)
+    (loops-as (Named 0) (c₅ .entered-env .ensures ∙ ap (enteredEnv (c₁₂ .args .env)) (c₆ .entered-mode .ensures))
+    (c₄ .each .ensures)) rs ready (beginOf f) (q .spells) n (omega (arith, h, q .fits))))) (c₃ .if1 .left)
+    (loops-placed rs n (c₄ .each .result .converter)
+    (w .placed-so ∙ ap placeOf (c₅ .entered-env .ensures ∙ ap (enteredEnv (c₁₂ .args .env)) (c₆ .entered-mode .ensures))) 1
+    Inside f (loops-at 1 (c₄ .each .result .converter) Inside (c₂ .each2 .ensures) rs ready f sp n h)))
+    (c .before .before .close-math .ensures))
