@@ -17,6 +17,7 @@ use Rattle.mitex_syntax.specs.Views.{offsetBy, beforeBy, fromBy, isOf, isSolid,
 use Rattle.mitex_state.specs.Outcome.{Context, Carry, Outcome, Conv, after, andThen, closing, shift, inMode}
 use Rattle.mitex_state.specs.Outcome.Outcome.{refused, done}
 use Rattle.mitex_state.specs.Children.{each}
+use Rattle.mitex_state.specs.Texts.{mitexcolor}
 use Rattle.mitex_state.specs.declared.LaTeXMode.{LaTeXMode}
 use Rattle.mitex_state.specs.declared.LaTeXMode.the-variants.{Text, Math}
 use Rattle.mitex_state.specs.declared.Loop.{Loop}
@@ -107,8 +108,8 @@ withModel conv x name l m c =
 
 -- a colour command that is absent from the rules or has no alias there
 abbrev pub colorAlias : Option Rule → List ℕ
-colorAlias nothing = ascii "mitexcolor"
-colorAlias (some r) = aliasOr (r .alias) (ascii "mitexcolor")
+colorAlias nothing = mitexcolor
+colorAlias (some r) = aliasOr (r .alias) mitexcolor
 
 abbrev pub bodyLoop : LaTeXMode → Loop
 bodyLoop Text = Plain

@@ -20,7 +20,7 @@ use Rattle.mitex_syntax.specs.Views.{firstBy, offsetBy, isOther, cmdName, first
 use Rattle.mitex_state.specs.Outcome.{Context, Carry, Outcome, Conv, Arm, after, closing, shift, inMode, inEnv, labelled, labelMost}
 use Rattle.mitex_state.specs.Outcome.Label.{unheld, held}
 use Rattle.mitex_state.specs.Outcome.Outcome.{refused, done}
-use Rattle.mitex_state.specs.Texts.{itemName, labelName, imageName, arrayName, colorName, textcolorName, colorboxName, substackName}
+use Rattle.mitex_state.specs.Texts.{labelMark, itemName, labelName, imageName, arrayName, colorName, textcolorName, colorboxName, substackName}
 use Rattle.mitex_state.specs.Children.{each}
 use Rattle.mitex_state.specs.Images.{image}
 use Rattle.mitex_state.specs.Colors.{withModel, greedyModel, argumentModel, colorAlias, bodyLoop, argumentsLoop}
@@ -56,7 +56,7 @@ itemIn MathCurlyGroup n c = refused 11 0
 
 -- written at once in Text, and nothing in Math
 abbrev pub labelNow : LaTeXMode → List ℕ → Carry → Outcome
-labelNow Text s c = done c (ascii "<" ++ (s ++ ascii ">"))
+labelNow Text s c = done c (labelMark s)
 labelNow Math s c = done c []
 
 -- replaces the held label

@@ -16,7 +16,7 @@ use Rattle.mitex_syntax.specs.Views.{childrenOf, cmdName, firstOf, offsetOf, en
 use Rattle.mitex_state.specs.Outcome.{Context, Label, Carry, Outcome, Conv, Arm, after, andThen, closing, shift, inMode, inEnv, labelled}
 use Rattle.mitex_state.specs.Outcome.Label.{unheld, held}
 use Rattle.mitex_state.specs.Outcome.Outcome.{refused, done}
-use Rattle.mitex_state.specs.Texts.{captionName, dollarBegin, dollarEnd}
+use Rattle.mitex_state.specs.Texts.{labelMark, captionName, dollarBegin, dollarEnd}
 use Rattle.mitex_state.specs.Children.{each}
 use Rattle.mitex_state.specs.Tables.{lettersFit, tableHead, hasEnds}
 use Rattle.mitex_state.specs.declared.LaTeXMode.{LaTeXMode}
@@ -129,7 +129,7 @@ tableEnv w conv x f c = tableBy w (firstOf ClauseArgument (beginOf f)) conv x f 
 
 abbrev pub heldText : Label → List ℕ
 heldText unheld = []
-heldText (held s) = ascii "<" ++ (s ++ ascii ">")
+heldText (held s) = labelMark s
 
 abbrev pub isList : LaTeXEnv → Bool
 isList None = false

@@ -1,6 +1,6 @@
 -- The texts that the converter writes, and the names that it looks for, each once.
 use Prim.Native.Nat.{ℕ}
-use mathlib.Core.List.{List, []}
+use mathlib.Core.List.{List, [], _++_}
 use mathlib.Core.Bool.{Bool, true, false, cond}
 use lib.Dec.{eqb}
 use Rattle.text.specs.Ascii.{ascii}
@@ -112,3 +112,11 @@ captionName = ascii "\\caption"
 
 abbrev pub centeringName : List ℕ
 centeringName = ascii "\\centering"
+
+-- the name that a colour is written by where the rules give none
+abbrev pub mitexcolor : List ℕ
+mitexcolor = ascii "mitexcolor"
+
+-- a label as it is written
+abbrev pub labelMark : List ℕ → List ℕ
+labelMark s = ascii "<" ++ (s ++ ascii ">")
