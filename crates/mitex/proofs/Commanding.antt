@@ -6,7 +6,6 @@ use mathlib.Core.List.{List, [], _++_}
 use Prim.Native.Nat.{ℕ, _+_, _/_}
 use native.Mathlib.Omega.{arith}
 use lib.ListN.{drop}
-use Rattle.text.specs.Ascii.{ascii}
 use Rattle.text.specs.Compare.{same}
 use Rattle.mitex_spec.specs.Rules.{Rule, aliasOr}
 use Rattle.mitex_spec.specs.LookUp.{aliasOf, ruleOf}
@@ -18,7 +17,7 @@ use Rattle.mitex_syntax.specs.Views.{cmdName, offsetBy}
 use Rattle.mitex_state.specs.Outcome.{Context, Carry, Outcome, Conv, after, andThen, closing, shift, inMode, inEnv}
 use Rattle.mitex_state.specs.Outcome.Outcome.{refused, done}
 use Rattle.mitex_state.specs.State.{contextOf, carryOf}
-use Rattle.mitex_state.specs.Texts.{substackName}
+use Rattle.mitex_state.specs.Texts.{leftParen, rightParen, black, colorEnd, substackName}
 use Rattle.mitex_state.specs.Children.{each}
 use Rattle.mitex_state.specs.Colors.{colored, bodyEnd, bodyLoop, argumentsLoop}
 use Rattle.mitex_state.specs.Commands.{typstName, argumentsOf, argumentsBy, isArgument, greedyIn, greedyArgument, stackEnv, written, normalBy, commandOf, commandBy, command}
@@ -116,14 +115,14 @@ module _ {f : Forest} {rows text : List ℕ} where
 
   pub greedy-at-part :
       {p : Part} → (s : GreedyStands f rows text p) → (conv : Conv) (x : Context) (c : Carry)
-      → greedyArgument conv x f c ≡ after (ascii "(") (closing (ascii ")") (each (conv x) (1 + p .i / 8) Greedy (s .forest) c))
+      → greedyArgument conv x f c ≡ after leftParen (closing rightParen (each (conv x) (1 + p .i / 8) Greedy (s .forest) c))
   greedy-at-part {p} s conv x c =
       let o : ℕ = 1 + offsetBy isArgument f in
       let r = s .row in
       let e : o + 1 ≡ 1 + p .i / 8 = omega arith in
       ap (λ (t : Option Tree). greedyIn (conv x) o t c) (s .is)
-      ∙ ap (λ (y : Outcome). after (ascii "(") (closing (ascii ")") y)) (sym (each-shift (conv x) o 1 Greedy (s .forest) c))
-      ∙ ap (λ (n : ℕ). after (ascii "(") (closing (ascii ")") (each (conv x) n Greedy (s .forest) c))) e
+      ∙ ap (λ (y : Outcome). after leftParen (closing rightParen y)) (sym (each-shift (conv x) o 1 Greedy (s .forest) c))
+      ∙ ap (λ (n : ℕ). after leftParen (closing rightParen (each (conv x) n Greedy (s .forest) c))) e
 
 -- ---- colours
 
@@ -136,20 +135,21 @@ arguments-number Text = refl
 arguments-number Math = refl
 
 pub colored-none :
-    (conv : Conv) (x : Context) (l : Loop) (f : Forest) (c : Carry) → f ≡ none → colored conv x l 0 f c ≡ done c (ascii "black])[" ++ bodyEnd (x .mode))
+    (conv : Conv) (x : Context) (l : Loop) (f : Forest) (c : Carry) → f ≡ none
+    → colored conv x l 0 f c ≡ done c (black ++ (colorEnd ++ bodyEnd (x .mode)))
 colored-none conv x l f c e = ap (λ (g : Forest). colored conv x l 0 g c) e
 
 -- the colour, closed, and then the body
 pub colored-more :
     (conv : Conv) (x : Context) (l : Loop) (f g : Forest) (t : Tree) (c : Carry) (n : ℕ) → f ≡ more t g → n ≡ size t
     → colored conv x l 0 f c
-    ≡ andThen (closing (ascii "])[") (conv (inMode Text x) t c)) (λ c′. closing (bodyEnd (x .mode)) (each (conv x) n l g c′))
+    ≡ andThen (closing colorEnd (conv (inMode Text x) t c)) (λ c′. closing (bodyEnd (x .mode)) (each (conv x) n l g c′))
 colored-more conv x l f g t c n e h =
     ap (λ (y : Forest). colored conv x l 0 y c) e
-    ∙ ap (λ (o : Outcome). andThen o (λ c′. after (ascii "])[") (closing (bodyEnd (x .mode)) (each (conv x) (0 + size t) l g c′))))
+    ∙ ap (λ (o : Outcome). andThen o (λ c′. after colorEnd (closing (bodyEnd (x .mode)) (each (conv x) (0 + size t) l g c′))))
     (shift-zero (conv (inMode Text x) t c))
-    ∙ sym (andThen-closing (ascii "])[") (conv (inMode Text x) t c) (λ c′. closing (bodyEnd (x .mode)) (each (conv x) (0 + size t) l g c′)))
-    ∙ ap (λ (m : ℕ). andThen (closing (ascii "])[") (conv (inMode Text x) t c)) (λ c′. closing (bodyEnd (x .mode)) (each (conv x) m l g c′)))
+    ∙ sym (andThen-closing colorEnd (conv (inMode Text x) t c) (λ c′. closing (bodyEnd (x .mode)) (each (conv x) (0 + size t) l g c′)))
+    ∙ ap (λ (m : ℕ). andThen (closing colorEnd (conv (inMode Text x) t c)) (λ c′. closing (bodyEnd (x .mode)) (each (conv x) m l g c′)))
     (let z : 0 + size t ≡ n = omega arith in z)
 
 shift-then : (o n : ℕ) (p : Outcome) (k l : Carry → Outcome) → ((c : Carry) → k c ≡ shift o (l c)) → andThen (shift (o + n) p) k ≡ shift o (andThen (shift n p) l)
@@ -165,13 +165,17 @@ pub colored-shift :
     (conv : Conv) (x : Context) (l : Loop) (o : ℕ) (f : Forest) (c : Carry) → colored conv x l o f c ≡ shift o (colored conv x l 0 f c)
 colored-shift conv x l o none c = refl
 colored-shift conv x l o (more t f) c =
-    ap (λ (n : ℕ). andThen (shift n (conv (inMode Text x) t c)) (λ c′. after (ascii "])[") (closing (bodyEnd (x .mode)) (each (conv x) (o + size t) l f c′))))
+    ap
+    (λ (n : ℕ). andThen (shift n (conv (inMode Text x) t c))
+    (λ c′. after colorEnd (closing (bodyEnd (x .mode)) (each (conv x) (o + size t) l f c′))))
     (let z : o ≡ o + 0 = omega arith in z)
-    ∙ shift-then o 0 (conv (inMode Text x) t c) (λ c′. after (ascii "])[") (closing (bodyEnd (x .mode)) (each (conv x) (o + size t) l f c′)))
-    (λ c′. after (ascii "])[") (closing (bodyEnd (x .mode)) (each (conv x) (0 + size t) l f c′)))
+    ∙ shift-then o 0 (conv (inMode Text x) t c) (λ c′. after colorEnd (closing (bodyEnd (x .mode)) (each (conv x) (o + size t) l f c′)))
+    (λ c′. after colorEnd (closing (bodyEnd (x .mode)) (each (conv x) (0 + size t) l f c′)))
     (λ c′. further (each (conv x) (o + size t) l f c′) (each (conv x) (0 + size t) l f c′)
     (each-shift (conv x) o (size t) l f c′ ∙ ap (λ (m : ℕ). shift o (each (conv x) m l f c′)) (let z : size t ≡ 0 + size t = omega arith in z)))
   where
-    further : (p q : Outcome) → p ≡ shift o q → after (ascii "])[") (closing (bodyEnd (x .mode)) p) ≡ shift o (after (ascii "])[") (closing (bodyEnd (x .mode)) q))
-    further p (refused n r) e = ap (λ (y : Outcome). after (ascii "])[") (closing (bodyEnd (x .mode)) y)) e
-    further p (done k v) e = ap (λ (y : Outcome). after (ascii "])[") (closing (bodyEnd (x .mode)) y)) e
+    further :
+        (p q : Outcome) → p ≡ shift o q
+        → after colorEnd (closing (bodyEnd (x .mode)) p) ≡ shift o (after colorEnd (closing (bodyEnd (x .mode)) q))
+    further p (refused n r) e = ap (λ (y : Outcome). after colorEnd (closing (bodyEnd (x .mode)) y)) e
+    further p (done k v) e = ap (λ (y : Outcome). after colorEnd (closing (bodyEnd (x .mode)) y)) e

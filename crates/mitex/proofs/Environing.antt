@@ -7,7 +7,6 @@ use mathlib.Core.List.{List, [], _++_, append-assoc}
 use Prim.Native.Nat.{ℕ, _+_, _*_, _-_, _≤_}
 use native.Mathlib.Omega.{arith}
 use lib.ListN.{length, drop, length-append, length-drop, length-take}
-use Rattle.text.specs.Ascii.{ascii}
 use Rattle.utf8.specs.Trim.{trim}
 use Rattle.utf8.proofs.Trimming.{trim-length}
 use Rattle.mitex_spec.specs.Rules.{Rule, getEnv, aliasOr}
@@ -23,6 +22,7 @@ use Rattle.mitex_syntax.specs.Views.{isOf, envName, textIn, inner, firstBy, fir
 use Rattle.mitex_syntax.proofs.Trees.{size-more, length-rowss}
 use Rattle.mitex_state.specs.Outcome.{Context, Carry, Outcome, Conv, after, closing, inEnv, stepOf}
 use Rattle.mitex_state.specs.Outcome.Outcome.{refused}
+use Rattle.mitex_state.specs.Texts.{leftParen, hash}
 use Rattle.mitex_state.specs.Contract.{Place, Agrees}
 use Rattle.mitex_state.specs.Contract.Agrees.{declines, accepts}
 use Rattle.mitex_state.specs.Children.{each}
@@ -138,10 +138,13 @@ letters-bad w l conv x f c e = rw e
 
 pub letters-good :
     (w l : List ℕ) (conv : Conv) (x : Context) (f : Forest) (c : Carry) → lettersFit l ≡ true → tableWith w l conv x f c
-    ≡ after (ascii "#" ++ (w ++ (ascii "(" ++ tableHead l))) (closing [] (each (conv (inEnv TableEnv x)) 1 (Table true) f c))
+    ≡ after (hash ++ (w ++ (leftParen ++ tableHead l))) (closing [] (each (conv (inEnv TableEnv x)) 1 (Table true) f c))
 letters-good w l conv x f c e =
-    ap (λ (b : Bool). cond b (after (ascii "#" ++ (w ++ (ascii "(" ++ tableHead l))) (each (conv (inEnv TableEnv x)) 1 (Table true) f c)) (refused 13 0)) e
-    ∙ ap (after (ascii "#" ++ (w ++ (ascii "(" ++ tableHead l)))) (sym (closing-nil (each (conv (inEnv TableEnv x)) 1 (Table true) f c)))
+    ap
+    (λ (b : Bool).
+    cond b (after (hash ++ (w ++ (leftParen ++ tableHead l))) (each (conv (inEnv TableEnv x)) 1 (Table true) f c)) (refused 13 0))
+    e
+    ∙ ap (after (hash ++ (w ++ (leftParen ++ tableHead l)))) (sym (closing-nil (each (conv (inEnv TableEnv x)) 1 (Table true) f c)))
 
 -- ---- how far down a caption stands
 
@@ -184,7 +187,7 @@ bare-low {f} {rows} n sp e =
     omega (arith, h, ap length (sp .rows-are), length-rowss f)
 
 -- a name between its marks, and the head behind it
-pub head-joined : (w h : List ℕ) → (ascii "#" ++ (w ++ ascii "(")) ++ h ≡ ascii "#" ++ (w ++ (ascii "(" ++ h))
+pub head-joined : (w h : List ℕ) → (hash ++ (w ++ leftParen)) ++ h ≡ hash ++ (w ++ (leftParen ++ h))
 head-joined w h = simp append-assoc
 
 -- ---- how long the column letters are

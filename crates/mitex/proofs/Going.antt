@@ -7,7 +7,6 @@ use Prim.Native.Nat.{ℕ, _≤_, _<_}
 use native.Mathlib.Omega.{arith}
 use native.Mathlib.Decide.{decLe}
 use lib.ListN.{length}
-use Rattle.text.specs.Ascii.{ascii}
 use Rattle.text.specs.Writing.{cap}
 use Rattle.text.proofs.Writing.{wrote-low}
 use Rattle.mitex_spec.specs.Rules.{Rule}
@@ -15,6 +14,7 @@ use Rattle.mitex_spec.specs.Index.{SomeRules}
 use Rattle.mitex_syntax.specs.Tree.{Forest, size}
 use Rattle.mitex_syntax.specs.Spells.{SomeTree}
 use Rattle.mitex_state.specs.Outcome.{Context, Outcome, Arm}
+use Rattle.mitex_state.specs.Texts.{leftParen, leftBracket}
 use Rattle.mitex_state.specs.State.{contextOf, carryOf}
 use Rattle.mitex_state.specs.Contract.{Place, placeOf, Agrees, Closed, Takes, Declined}
 use Rattle.mitex_state.specs.Children.{each}
@@ -95,9 +95,10 @@ module _ (rs : List Rule) (n : ℕ) (d : Converter) {x : Place} (e : placeOf d �
 
 pub color-head :
     {o p : Option Rule} {s t : List ℕ} → o ≡ p → t ≡ s
-    → colorAlias o ++ (ascii "(" ++ (s ++ ascii "[")) ≡ colorAlias p ++ (ascii "(" ++ (t ++ ascii "["))
+    → colorAlias o ++ (leftParen ++ (s ++ leftBracket)) ≡ colorAlias p ++ (leftParen ++ (t ++ leftBracket))
 color-head {o} {p} {s} {t} e h =
-    ap (λ (q : Option Rule). colorAlias q ++ (ascii "(" ++ (s ++ ascii "["))) e ∙ ap (λ (r : List ℕ). colorAlias p ++ (ascii "(" ++ (r ++ ascii "["))) (sym h)
+    ap (λ (q : Option Rule). colorAlias q ++ (leftParen ++ (s ++ leftBracket))) e
+    ∙ ap (λ (r : List ℕ). colorAlias p ++ (leftParen ++ (r ++ leftBracket))) (sym h)
 
 pub agrees-takes-as :
     {row at : ℕ} {out out₁ out₂ : List ℕ} {a r : Walked} {x : Place} (list : Bool) {b : Bool} → b ≡ list → (m : LaTeXMode) {o : Outcome}

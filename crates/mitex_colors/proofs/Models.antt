@@ -10,7 +10,6 @@ use borrow.Author.Tests.{eq-eqb, leb-true}
 use lib.Dec.{leb}
 use lib.ListN.{length, take, drop, getD, length-drop}
 use lib.Seq.{drop-drop, drop-length, length-take-le, take-take}
-use Rattle.text.specs.Ascii.{ascii}
 use Rattle.text.specs.Compare.{startsWith, endsWith}
 use Rattle.text.proofs.Writing.{part-rest}
 use Rattle.mitex_spec.specs.Rules.{getCmd, aliasOr}
@@ -25,7 +24,9 @@ use Rattle.mitex_syntax.specs.Spells.{Sound, SpellsAll}
 use Rattle.mitex_syntax.specs.Places.{Stands}
 use Rattle.mitex_syntax.specs.declared.Cursor.{Cursor}
 use Rattle.mitex_syntax.proofs.Trees.{length-rowss}
-use Rattle.mitex_state.specs.Colors.{Rest, rest, Model, model, seek, pastFirst, inModel, noModel, bracketModel, modelIn, greedyModel, isModel, firstModel, modelFirst, withModel, colorAlias, bodyLoop}
+use Rattle.mitex_state.specs.Texts.{leftBracket, rightBracket, mitexcolor, noModel}
+use Rattle.mitex_state.specs.Colors.{Rest, rest, Model, model, seek, pastFirst, inModel, bracketModel, modelIn}
+use Rattle.mitex_state.specs.Colors.{greedyModel, isModel, firstModel, modelFirst, withModel, colorAlias, bodyLoop}
 use Rattle.mitex_state.specs.Parts.{between, modelText, ModelFound}
 use Rattle.mitex_state.specs.declared.ModelPart.{ModelPart}
 use Rattle.mitex_colors.specs.Scanning.{Left, Sought, Passed, modelAt, ColorFound}
@@ -141,8 +142,8 @@ inner-between a b l h k =
 
 model-two : (s : List ℕ) → isModel s ≡ true → 2 ≤ length s
 model-two s e =
-    let p = and-eq-true-iff (startsWith s (ascii "[")) (endsWith s (ascii "]") && leb 2 (length s)) .0 e in
-    leb-true 2 (length s) (and-eq-true-iff (endsWith s (ascii "]")) (leb 2 (length s)) .0 (p .1) .1)
+    let p = and-eq-true-iff (startsWith s leftBracket) (endsWith s rightBracket && leb 2 (length s)) .0 e in
+    leb-true 2 (length s) (and-eq-true-iff (endsWith s rightBracket) (leb 2 (length s)) .0 (p .1) .1)
 
 -- of a model's text both ends can be cut off
 pub model-wide : (a b : ℕ) (l : List ℕ) → a ≤ b → b ≤ length l → isModel (between a b l) ≡ true → a + 2 ≤ b
@@ -239,7 +240,7 @@ module _ {f : Forest} {rows text : List ℕ} {a b c d : ℕ} (s : Stands (isOf C
 
 -- ---- the written name
 
-pub name-alias : (rules name : List ℕ) (found : Found) → aliasOr (aliasOf rules found) (ascii "mitexcolor") ≡ colorAlias (ruleOf rules name found)
+pub name-alias : (rules name : List ℕ) (found : Found) → aliasOr (aliasOf rules found) mitexcolor ≡ colorAlias (ruleOf rules name found)
 name-alias rules name Absent = refl
 name-alias rules name (Plain class) = refl
 name-alias rules name (Aliased class at size) = refl

@@ -4,13 +4,13 @@ ghost use mathlib.Core.Path.{_≡_};
 ghost use mathlib.Core.List.{List, [], _++_};
 ghost use Prim.Native.Nat.{ℕ, _+_, _*_, _≤_};
 ghost use lib.ListN.{length};
-ghost use Rattle.text.specs.Ascii.{ascii};
 ghost use Rattle.text.specs.Writing.{cap, Wrote};
 ghost use Rattle.mitex_spec.specs.Rules.{aliasOr};
 ghost use Rattle.mitex_spec.specs.LookUp.{aliasOf, ruleOf, endOf};
 ghost use Rattle.mitex_syntax.specs.Tree.{Forest};
 ghost use Rattle.mitex_syntax.specs.Views.{isSolid};
 ghost use Rattle.mitex_syntax.specs.Spells.{SpellsAll, SomeForest};
+ghost use Rattle.mitex_state.specs.Texts.{leftParen, leftBracket, mitexcolor, black, colorEnd};
 ghost use Rattle.mitex_state.specs.Colors.{Rest, seek, modelIn, isModel, argumentModel, colorAlias, bodyEnd};
 ghost use Rattle.mitex_state.specs.Parts.{between, modelText, GreedyFound, ModelFound};
 ghost use Rattle.mitex_colors.specs.Scanning.{stopsAt, picks, Left, Sought, Passed, modelAt, ColorFound};
@@ -224,7 +224,7 @@ pub fn argument_model(rows: &[u8], text: &[u8]) -> ModelPart
 fn put_color_name(out: &mut [u8], at: usize, rules: &[u8], found: Found) -> usize
     requires { ⌜ (at ≤ cap) × (length (now out) ≤ cap) ⌝ }
     requires { ⌜ endOf found ≤ length (now rules) ⌝ }
-    ensures { λ r. ⌜ Wrote at (now (out .entry)) (aliasOr (aliasOf (now (rules .entry)) found) (ascii "mitexcolor")) r (now (out .exit)) ⌝ }
+    ensures { λ r. ⌜ Wrote at (now (out .entry)) (aliasOr (aliasOf (now (rules .entry)) found) mitexcolor) r (now (out .exit)) ⌝ }
 {
     text::put(
         out,
@@ -258,7 +258,7 @@ pub fn put_color_head(
     requires { ⌜ (at ≤ cap) × (length (now out) ≤ cap) ⌝ }
     requires { ⌜ endOf found ≤ length (now rules) ⌝ }
     requires { ⌜ (m .from ≤ m .to) × (m .to ≤ length (now text)) ⌝ }
-    ensures { λ r. ⌜ ((name : List ℕ) → Wrote at (now (out .entry)) (colorAlias (ruleOf (now (rules .entry)) name found) ++ (ascii "(" ++ (modelText (m .held) (between (m .from) (m .to) (now (text .entry))) ++ ascii "["))) r (now (out .exit))) ⌝ }
+    ensures { λ r. ⌜ ((name : List ℕ) → Wrote at (now (out .entry)) (colorAlias (ruleOf (now (rules .entry)) name found) ++ (leftParen ++ (modelText (m .held) (between (m .from) (m .to) (now (text .entry))) ++ leftBracket))) r (now (out .exit))) ⌝ }
 {
     let a = put_color_name(out, at, rules, found);
     let b = text::put(out, a, b"(");
@@ -271,7 +271,7 @@ pub fn put_color_head(
 // The colour and the body where there is no colour.
 pub fn put_black(out: &mut [u8], at: usize, mode: LaTeXMode) -> usize
     requires { ⌜ (at ≤ cap) × (length (now out) ≤ cap) ⌝ }
-    ensures { λ r. ⌜ Wrote at (now (out .entry)) (ascii "black])[" ++ bodyEnd mode) r (now (out .exit)) ⌝ }
+    ensures { λ r. ⌜ Wrote at (now (out .entry)) (black ++ (colorEnd ++ bodyEnd mode)) r (now (out .exit)) ⌝ }
 {
     match mode {
         LaTeXMode::Text => text::put(out, at, b"black])[];"),

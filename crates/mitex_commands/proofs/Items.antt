@@ -5,16 +5,18 @@ use mathlib.Core.List.{List, _∷_}
 use Prim.Native.Nat.{ℕ}
 use borrow.Author.Tests.{eq-eqb, ne-eqb}
 use lib.Dec.{eqb}
-use Rattle.text.specs.Ascii.{ascii}
 use Rattle.mitex_state.specs.Outcome.{Carry}
 use Rattle.mitex_state.specs.Outcome.Outcome.{refused, done}
+use Rattle.mitex_state.specs.Texts.{space}
 use Rattle.mitex_state.specs.Commands.{itemText, itemIn, labelNow, labelHeld, labelIn}
 use Rattle.mitex_state.specs.declared.LaTeXMode.{LaTeXMode}
 use Rattle.mitex_state.specs.declared.LaTeXEnv.{LaTeXEnv}
 use Rattle.mitex_state.specs.declared.LaTeXEnv.the-variants.{None, Figure, Table, Itemize, Enumerate, Math, Matrix, Cases, SubStack, MathCurlyGroup}
 use Rattle.mitex_commands.specs.Leaves.{markOf, writesNow}
 
-item-by : (e : LaTeXEnv) (n : ℕ) (c : Carry) → itemIn e n c ≡ cond (eqb (markOf e) 0) (refused 11 0) (done c (itemText n (markOf e ∷ ascii " ")))
+item-by :
+    (e : LaTeXEnv) (n : ℕ) (c : Carry)
+    → itemIn e n c ≡ cond (eqb (markOf e) 0) (refused 11 0) (done c (itemText n (markOf e ∷ space)))
 item-by None n c = refl
 item-by Figure n c = refl
 item-by Table n c = refl
@@ -30,13 +32,13 @@ module _ (e : LaTeXEnv) (n : ℕ) (c : Carry) {m : ℕ} (is : m ≡ markOf e) wh
   pub item-refused : m ≡ 0 → itemIn e n c ≡ refused 11 0
   item-refused z =
       item-by e n c
-      ∙ ap (λ (b : Bool). cond b (refused 11 0) (done c (itemText n (markOf e ∷ ascii " ")))) (eq-eqb (markOf e) 0 (sym is ∙ z))
+      ∙ ap (λ (b : Bool). cond b (refused 11 0) (done c (itemText n (markOf e ∷ space)))) (eq-eqb (markOf e) 0 (sym is ∙ z))
 
-  pub item-written : (m ≡ 0 → ⊥) → itemIn e n c ≡ done c (itemText n (m ∷ ascii " "))
+  pub item-written : (m ≡ 0 → ⊥) → itemIn e n c ≡ done c (itemText n (m ∷ space))
   item-written z =
       item-by e n c
-      ∙ ap (λ (b : Bool). cond b (refused 11 0) (done c (itemText n (markOf e ∷ ascii " ")))) (ne-eqb (markOf e) 0 (λ q. z (is ∙ q)))
-      ∙ ap (λ (k : ℕ). done c (itemText n (k ∷ ascii " "))) (sym is)
+      ∙ ap (λ (b : Bool). cond b (refused 11 0) (done c (itemText n (markOf e ∷ space)))) (ne-eqb (markOf e) 0 (λ q. z (is ∙ q)))
+      ∙ ap (λ (k : ℕ). done c (itemText n (k ∷ space))) (sym is)
 
 module _ (m : LaTeXMode) (s : List ℕ) (c : Carry) where
   label-by : (e : LaTeXEnv) → labelIn e m s c ≡ cond (writesNow e) (labelNow m s c) (labelHeld s c)

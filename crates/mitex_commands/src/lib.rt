@@ -1,10 +1,9 @@
 // Commands, by their name without the backslash: which arm an element and a command have, `\item` and `\label`, and the name that a
 // command is written by. Nothing here recurses.
 ghost use mathlib.Core.Path.{_≡_};
-ghost use mathlib.Core.List.{List, _∷_, _++_};
+ghost use mathlib.Core.List.{List, _∷_};
 ghost use Prim.Native.Nat.{ℕ, _-_, _≤_};
 ghost use lib.ListN.{length};
-ghost use Rattle.text.specs.Ascii.{ascii};
 ghost use Rattle.text.specs.Compare.{same};
 ghost use Rattle.text.specs.Writing.{cap, Wrote};
 ghost use Rattle.mitex_syntax.specs.Syntax.{ClauseArgument};
@@ -14,7 +13,7 @@ ghost use Rattle.mitex_syntax.specs.Spells.{Begins, SpellsAll, SomeForest};
 ghost use Rattle.mitex_state.specs.Outcome.{labelMost};
 ghost use Rattle.mitex_state.specs.State.{carryOf};
 ghost use Rattle.mitex_state.specs.Contract.{placeOf, Agrees};
-ghost use Rattle.mitex_state.specs.Texts.{substackName};
+ghost use Rattle.mitex_state.specs.Texts.{space, labelMark, substackName};
 ghost use Rattle.mitex_state.specs.Commands.{commandOf, itemText, itemIn, labelNow, labelHeld, labelIn, labelText, typstName, otherArguments, argumentsOf};
 ghost use Rattle.mitex_state.specs.Conversion.{elementOf};
 ghost use Rattle.mitex_commands.specs.Leaves.{colorOf, markOf, writesNow, isAbsent, classOf, stackedIn};
@@ -151,7 +150,7 @@ fn item_indent(indent: usize) -> usize
 // A line feed, the indent and the mark.
 fn put_item(out: &mut [u8], at: usize, indent: usize, mark: u8) -> usize
     requires { ⌜ (at ≤ cap) × (length (now out) ≤ cap) ⌝ }
-    ensures { λ r. ⌜ Wrote at (now (out .entry)) (itemText indent (mark ∷ ascii " ")) r (now (out .exit)) ⌝ }
+    ensures { λ r. ⌜ Wrote at (now (out .entry)) (itemText indent (mark ∷ space)) r (now (out .exit)) ⌝ }
 {
     let n = item_indent(indent);
     let a = text::put(out, at, b"\n");
@@ -199,7 +198,7 @@ fn writes_now(env: LaTeXEnv) -> bool
 // A label as Typst has it.
 pub fn put_label(out: &mut [u8], at: usize, s: &[u8]) -> usize
     requires { ⌜ (at ≤ cap) × (length (now out) ≤ cap) ⌝ }
-    ensures { λ r. ⌜ Wrote at (now (out .entry)) (ascii "<" ++ (now (s .entry) ++ ascii ">")) r (now (out .exit)) ⌝ }
+    ensures { λ r. ⌜ Wrote at (now (out .entry)) (labelMark (now (s .entry))) r (now (out .exit)) ⌝ }
 {
     let a = text::put(out, at, b"<");
     let b = text::put(out, a, s);

@@ -3,7 +3,7 @@ use mathlib.Core.Path.{_≡_, refl, sym, ap, _∙_}
 use mathlib.Core.Bool.{Bool, true, false, cond}
 use mathlib.Core.List.{List, [], _∷_, _++_}
 use Prim.Native.Nat.{ℕ}
-use Rattle.text.specs.Ascii.{ascii}
+use Rattle.mitex_state.specs.Texts.{leftBracket, hash, blockEnd}
 use Rattle.mitex_state.specs.Environments.{envBegin, envEnd}
 use Rattle.mitex_state.specs.declared.LaTeXEnv.{LaTeXEnv}
 use Rattle.mitex_state.specs.declared.LaTeXEnv.the-variants.{None, Figure, Table, Itemize, Enumerate, Math, Matrix, Cases, SubStack, MathCurlyGroup}
@@ -12,7 +12,7 @@ use Rattle.mitex_environments.specs.Plain.{isPlain}
 abbrev pub classes : List (ℕ × LaTeXEnv)
 classes = (4, Math) ∷ (5, Matrix) ∷ (6, Cases) ∷ (7, Figure) ∷ (8, Table) ∷ (9, Itemize) ∷ (10, Enumerate) ∷ []
 
-begin-by : (e : LaTeXEnv) (w : List ℕ) → envBegin e w ≡ cond (isPlain e) (ascii "#" ++ (w ++ ascii "[")) []
+begin-by : (e : LaTeXEnv) (w : List ℕ) → envBegin e w ≡ cond (isPlain e) (hash ++ (w ++ leftBracket)) []
 begin-by None w = refl
 begin-by Figure w = refl
 begin-by Table w = refl
@@ -24,7 +24,7 @@ begin-by Cases w = refl
 begin-by SubStack w = refl
 begin-by MathCurlyGroup w = refl
 
-end-by : (e : LaTeXEnv) → envEnd e ≡ cond (isPlain e) (ascii "];") []
+end-by : (e : LaTeXEnv) → envEnd e ≡ cond (isPlain e) blockEnd []
 end-by None = refl
 end-by Figure = refl
 end-by Table = refl
@@ -37,14 +37,14 @@ end-by SubStack = refl
 end-by MathCurlyGroup = refl
 
 module _ (e : LaTeXEnv) {b : Bool} (is : b ≡ isPlain e) where
-  pub begin-plain : (w : List ℕ) → b ≡ true → envBegin e w ≡ ascii "#" ++ (w ++ ascii "[")
-  begin-plain w z = begin-by e w ∙ ap (λ (x : Bool). cond x (ascii "#" ++ (w ++ ascii "[")) []) (sym is ∙ z)
+  pub begin-plain : (w : List ℕ) → b ≡ true → envBegin e w ≡ hash ++ (w ++ leftBracket)
+  begin-plain w z = begin-by e w ∙ ap (λ (x : Bool). cond x (hash ++ (w ++ leftBracket)) []) (sym is ∙ z)
 
   pub begin-other : (w : List ℕ) → b ≡ false → envBegin e w ≡ []
-  begin-other w z = begin-by e w ∙ ap (λ (x : Bool). cond x (ascii "#" ++ (w ++ ascii "[")) []) (sym is ∙ z)
+  begin-other w z = begin-by e w ∙ ap (λ (x : Bool). cond x (hash ++ (w ++ leftBracket)) []) (sym is ∙ z)
 
-  pub end-plain : b ≡ true → envEnd e ≡ ascii "];"
-  end-plain z = end-by e ∙ ap (λ (x : Bool). cond x (ascii "];") []) (sym is ∙ z)
+  pub end-plain : b ≡ true → envEnd e ≡ blockEnd
+  end-plain z = end-by e ∙ ap (λ (x : Bool). cond x blockEnd []) (sym is ∙ z)
 
   pub end-other : b ≡ false → envEnd e ≡ []
-  end-other z = end-by e ∙ ap (λ (x : Bool). cond x (ascii "];") []) (sym is ∙ z)
+  end-other z = end-by e ∙ ap (λ (x : Bool). cond x blockEnd []) (sym is ∙ z)

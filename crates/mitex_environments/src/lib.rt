@@ -5,13 +5,13 @@ ghost use mathlib.Core.Bool.{false};
 ghost use mathlib.Core.List.{_++_};
 ghost use Prim.Native.Nat.{ℕ, _+_, _*_, _≤_};
 ghost use lib.ListN.{length};
-ghost use Rattle.text.specs.Ascii.{ascii};
 ghost use Rattle.text.specs.Writing.{cap, Wrote};
 ghost use Rattle.mitex_syntax.specs.Syntax.{ClauseArgument};
 ghost use Rattle.mitex_syntax.specs.Tree.{Tree, Forest, size};
 ghost use Rattle.mitex_syntax.specs.Views.{firstOf, textIn, beginOf, childrenOf};
 ghost use Rattle.mitex_syntax.specs.Spells.{Spells, SpellsAll, SomeForest};
 ghost use Rattle.mitex_state.specs.Outcome.{labelMost};
+ghost use Rattle.mitex_state.specs.Texts.{leftParen, hash};
 ghost use Rattle.mitex_state.specs.State.{labelOf};
 ghost use Rattle.mitex_state.specs.Contract.{Place, Closed, Takes};
 ghost use Rattle.mitex_state.specs.Environments.{envOf, isList, envBegin, envEnd, heldText, isCaption, captionAt};
@@ -100,7 +100,7 @@ fn is_plain(env: LaTeXEnv) -> bool
 // The call of a function in Text: its name, and what its arguments begin with.
 fn put_call(out: &mut [u8], at: usize, name: &[u8], opening: &[u8]) -> usize
     requires { ⌜ (at ≤ cap) × (length (now out) ≤ cap) ⌝ }
-    ensures { λ r. ⌜ Wrote at (now (out .entry)) (ascii "#" ++ (now (name .entry) ++ now (opening .entry))) r (now (out .exit)) ⌝ }
+    ensures { λ r. ⌜ Wrote at (now (out .entry)) (hash ++ (now (name .entry) ++ now (opening .entry))) r (now (out .exit)) ⌝ }
 {
     let a = text::put(out, at, b"#");
     let b = text::put(out, a, name);
@@ -110,7 +110,7 @@ fn put_call(out: &mut [u8], at: usize, name: &[u8], opening: &[u8]) -> usize
 // What a figure or a table begins with.
 pub fn put_hash_begin(out: &mut [u8], at: usize, name: &[u8]) -> usize
     requires { ⌜ (at ≤ cap) × (length (now out) ≤ cap) ⌝ }
-    ensures { λ r. ⌜ Wrote at (now (out .entry)) (ascii "#" ++ (now (name .entry) ++ ascii "(")) r (now (out .exit)) ⌝ }
+    ensures { λ r. ⌜ Wrote at (now (out .entry)) (hash ++ (now (name .entry) ++ leftParen)) r (now (out .exit)) ⌝ }
 {
     put_call(out, at, name, b"(")
 }

@@ -10,7 +10,6 @@ use native.Mathlib.Omega.{arith}
 use lib.ListN.{length, take, drop, drop-of-length-le}
 use lib.Seq.{take-all}
 use lib.Dec.{eqb}
-use Rattle.text.specs.Ascii.{ascii}
 use Rattle.text.specs.Compare.{same, indexOf}
 use Rattle.text.proofs.Writing.{part-rest}
 use Rattle.utf8.specs.Trim.{trim}
@@ -18,7 +17,9 @@ use Rattle.utf8.proofs.Trimming.{trim-length}
 use Rattle.mitex_syntax.specs.Syntax.{ItemCurly, ItemBracket}
 use Rattle.mitex_syntax.specs.Tree.{Tree, Forest}
 use Rattle.mitex_syntax.specs.Views.{inner, textIn, argumentWith}
-use Rattle.mitex_state.specs.Images.{extend, split, comma, equals, lengthText, keyOf, valueOf, keyText, pairText, optionText, optionsText, innerText, optionArgument, image}
+use Rattle.mitex_state.specs.Texts.{quote, commaSpace, colonSpace, imageBegin, imageEnd, widthName, heightName}
+use Rattle.mitex_state.specs.Images.{extend, split, commaByte, equalsByte, lengthText, keyOf, valueOf, keyText, pairText}
+use Rattle.mitex_state.specs.Images.{optionText, optionsText, innerText, optionArgument, image}
 
 -- ---- the first part
 
@@ -119,56 +120,57 @@ module _ (b : ℕ) (s v : List ℕ) (e : v ≡ drop (indexOf b s + 1) s) where
 
 -- key and value, as code has found them
 pub option-is :
-    (o s : List ℕ) (n : ℕ) (k v : List ℕ) → s ≡ trim o → n ≡ indexOf equals s → k ≡ trim (take n s) → v ≡ valueOf (split equals s)
+    (o s : List ℕ) (n : ℕ) (k v : List ℕ) → s ≡ trim o → n ≡ indexOf equalsByte s → k ≡ trim (take n s) → v ≡ valueOf (split equalsByte s)
     → keyText k v ≡ optionText o
 option-is o s n k v e i ek ev =
-    ap (λ x. keyText x v) (ek ∙ ap (λ m. trim (take m s)) i ∙ key-first equals s)
-    ∙ ap (keyText (keyOf (split equals s))) ev
-    ∙ ap (λ x. pairText (split equals x)) e
+    ap (λ x. keyText x v) (ek ∙ ap (λ m. trim (take m s)) i ∙ key-first equalsByte s)
+    ∙ ap (keyText (keyOf (split equalsByte s))) ev
+    ∙ ap (λ x. pairText (split equalsByte x)) e
 
 module _ (key value : List ℕ) where
   pub key-size :
-      (same key (ascii "width") || same key (ascii "height")) ≡ true
-      → ((key ++ ascii ": ") ++ lengthText value) ++ ascii ", " ≡ keyText key value
+      (same key widthName || same key heightName) ≡ true
+      → ((key ++ colonSpace) ++ lengthText value) ++ commaSpace ≡ keyText key value
   key-size e =
       let parts : (a b c d : List ℕ) → ((a ++ b) ++ c) ++ d ≡ a ++ (b ++ (c ++ d)) = λ a b c d. simp append-assoc in
-      parts key (ascii ": ") (lengthText value) (ascii ", ")
-      ∙ sym (ap (λ t. cond t (key ++ (ascii ": " ++ (lengthText value ++ ascii ", "))) []) e)
+      parts key colonSpace (lengthText value) commaSpace
+      ∙ sym (ap (λ t. cond t (key ++ (colonSpace ++ (lengthText value ++ commaSpace))) []) e)
 
-  pub key-other : (same key (ascii "width") || same key (ascii "height")) ≡ false → [] ≡ keyText key value
-  key-other e = sym (ap (λ t. cond t (key ++ (ascii ": " ++ (lengthText value ++ ascii ", "))) []) e)
+  pub key-other : (same key widthName || same key heightName) ≡ false → [] ≡ keyText key value
+  key-other e = sym (ap (λ t. cond t (key ++ (colonSpace ++ (lengthText value ++ commaSpace))) []) e)
 
 -- ---- options
 
-options-none : optionsText (split comma []) ≡ []
+options-none : optionsText (split commaByte []) ≡ []
 unfolding split optionsText same
-options-none = ap (λ s. pairText (split equals s) ++ []) trim-none ∙ ap (λ k. keyText k [] ++ []) trim-none
+options-none = ap (λ s. pairText (split equalsByte s) ++ []) trim-none ∙ ap (λ k. keyText k [] ++ []) trim-none
 
-pub options-end : (s : List ℕ) → length s ≤ 0 → [] ≡ optionsText (split comma s)
-options-end s h = sym (ap (λ r. optionsText (split comma r)) (none s h) ∙ options-none)
+pub options-end : (s : List ℕ) → length s ≤ 0 → [] ≡ optionsText (split commaByte s)
+options-end s h = sym (ap (λ r. optionsText (split commaByte r)) (none s h) ∙ options-none)
 
 -- the first option, and those behind it
 options-first :
     (s : List ℕ)
-    → optionText (take (indexOf comma s) s) ++ optionsText (split comma (drop (indexOf comma s + 1) s)) ≡ optionsText (split comma s)
+    → optionText (take (indexOf commaByte s) s) ++ optionsText (split commaByte (drop (indexOf commaByte s + 1) s))
+    ≡ optionsText (split commaByte s)
 unfolding optionsText
 options-first s =
-    elim (decLe (length s) (indexOf comma s)) [
+    elim (decLe (length s) (indexOf commaByte s)) [
       | yes le ↦
-          ap (λ r. optionText (take (indexOf comma s) s) ++ optionsText (split comma r))
-          (drop-of-length-le s {i = indexOf comma s + 1} (omega arith))
-          ∙ ap (λ r. optionText (take (indexOf comma s) s) ++ r) options-none
-          ∙ ap (λ r. optionText r ++ []) (take-all (indexOf comma s) s le)
-          ∙ sym (ap optionsText (split-none comma s le))
-      | no gt ↦ sym (ap optionsText (split-some comma s (omega arith)))
+          ap (λ r. optionText (take (indexOf commaByte s) s) ++ optionsText (split commaByte r))
+          (drop-of-length-le s {i = indexOf commaByte s + 1} (omega arith))
+          ∙ ap (λ r. optionText (take (indexOf commaByte s) s) ++ r) options-none
+          ∙ ap (λ r. optionText r ++ []) (take-all (indexOf commaByte s) s le)
+          ∙ sym (ap optionsText (split-none commaByte s le))
+      | no gt ↦ sym (ap optionsText (split-some commaByte s (omega arith)))
     ]
 
 pub options-next :
-    (s : List ℕ) (n k : ℕ) → n ≡ indexOf comma s → k ≡ min (length s) (n + 1)
-    → optionText (take n s) ++ optionsText (split comma (take (length s - k) (drop k s))) ≡ optionsText (split comma s)
+    (s : List ℕ) (n k : ℕ) → n ≡ indexOf commaByte s → k ≡ min (length s) (n + 1)
+    → optionText (take n s) ++ optionsText (split commaByte (take (length s - k) (drop k s))) ≡ optionsText (split commaByte s)
 options-next s n k e i =
-    ap (λ r. optionText (take n s) ++ optionsText (split comma r)) (part-past s n k i)
-    ∙ ap (λ m. optionText (take m s) ++ optionsText (split comma (drop (m + 1) s))) e
+    ap (λ r. optionText (take n s) ++ optionsText (split commaByte r)) (part-past s n k i)
+    ∙ ap (λ m. optionText (take m s) ++ optionsText (split commaByte (drop (m + 1) s))) e
     ∙ options-first s
 
 -- ---- arguments
@@ -177,17 +179,17 @@ pub inner-text : (o : Option Tree) → trim (inner (textIn o)) ≡ innerText o
 inner-text nothing = trim-none
 inner-text (some t) = refl
 
-options-argument : (o : Option Tree) → optionsText (split comma (innerText o)) ≡ optionArgument o
+options-argument : (o : Option Tree) → optionsText (split commaByte (innerText o)) ≡ optionArgument o
 options-argument nothing = options-none
 options-argument (some t) = refl
 
 -- the parts of the command, one after the other, with the texts of its arguments
 pub image-is :
     (f : Forest) (options path : List ℕ) → options ≡ innerText (argumentWith ItemBracket f) → path ≡ innerText (argumentWith ItemCurly f)
-    → (((ascii "#image(" ++ optionsText (split comma options)) ++ ascii "\"") ++ path) ++ ascii "\")" ≡ image f
+    → (((imageBegin ++ optionsText (split commaByte options)) ++ quote) ++ path) ++ imageEnd ≡ image f
 image-is f options path eo ep =
     let parts : (a b c d e : List ℕ) → (((a ++ b) ++ c) ++ d) ++ e ≡ a ++ (b ++ (c ++ (d ++ e))) = λ a b c d e. simp append-assoc in
-    parts (ascii "#image(") (optionsText (split comma options)) (ascii "\"") path (ascii "\")")
-    ∙ ap (λ s. ascii "#image(" ++ (optionsText (split comma s) ++ (ascii "\"" ++ (path ++ ascii "\")")))) eo
-    ∙ ap (λ l. ascii "#image(" ++ (l ++ (ascii "\"" ++ (path ++ ascii "\")")))) (options-argument (argumentWith ItemBracket f))
-    ∙ ap (λ l. ascii "#image(" ++ (optionArgument (argumentWith ItemBracket f) ++ (ascii "\"" ++ (l ++ ascii "\")")))) ep
+    parts imageBegin (optionsText (split commaByte options)) quote path imageEnd
+    ∙ ap (λ s. imageBegin ++ (optionsText (split commaByte s) ++ (quote ++ (path ++ imageEnd)))) eo
+    ∙ ap (λ l. imageBegin ++ (l ++ (quote ++ (path ++ imageEnd)))) (options-argument (argumentWith ItemBracket f))
+    ∙ ap (λ l. imageBegin ++ (optionArgument (argumentWith ItemBracket f) ++ (quote ++ (l ++ imageEnd)))) ep

@@ -5,13 +5,14 @@ ghost use mathlib.Core.Bool.{_||_};
 ghost use mathlib.Core.List.{_++_};
 ghost use Prim.Native.Nat.{_+_, _≤_, _<_, min};
 ghost use lib.ListN.{length};
-ghost use Rattle.text.specs.Ascii.{ascii};
 ghost use Rattle.text.specs.Compare.{same};
 ghost use Rattle.text.specs.Writing.{cap, Wrote};
 ghost use Rattle.mitex_syntax.specs.Tree.{Forest};
 ghost use Rattle.mitex_syntax.specs.Views.{argumentWith};
 ghost use Rattle.mitex_syntax.specs.Spells.{Begins, SomeForest};
-ghost use Rattle.mitex_state.specs.Images.{split, withoutEnd, equals, comma, ofPage, lengthText, valueOf, keyText, optionText, optionsText, innerText, image};
+ghost use Rattle.mitex_state.specs.Texts.{ofPage, widthName, heightName};
+ghost use Rattle.mitex_state.specs.Images.{split, withoutEnd, equalsByte, commaByte, lengthText, valueOf};
+ghost use Rattle.mitex_state.specs.Images.{keyText, optionText, optionsText, innerText, image};
 
 const COMMA: u8 = b',';
 
@@ -73,7 +74,7 @@ fn past(s: &[u8], n: usize) -> usize
 
 // The value of an option, which exactly one `=` gives.
 fn value_of(s: &[u8]) -> &[u8]
-    ensures { λ r. ⌜ now r ≡ valueOf (split equals (now (s .entry))) ⌝ }
+    ensures { λ r. ⌜ now r ≡ valueOf (split equalsByte (now (s .entry))) ⌝ }
 {
     let from = past(s, text::index_of(s, EQUALS));
     let v = &s[from..];
@@ -85,7 +86,7 @@ fn value_of(s: &[u8]) -> &[u8]
 
 // Whether the key is one that is written.
 fn is_size(key: &[u8]) -> bool
-    ensures { λ r. ⌜ r ≡ (same (now (key .entry)) (ascii "width") || same (now (key .entry)) (ascii "height")) ⌝ }
+    ensures { λ r. ⌜ r ≡ (same (now (key .entry)) widthName || same (now (key .entry)) heightName) ⌝ }
 {
     if text::same(key, b"width") {
         return true;
@@ -120,7 +121,7 @@ fn put_option(out: &mut [u8], at: usize, option: &[u8]) -> usize
 // The options, between commas.
 fn put_options(out: &mut [u8], at: usize, s: &[u8]) -> usize
     requires { ⌜ (at ≤ cap) × (length (now out) ≤ cap) ⌝ }
-    ensures { λ r. ⌜ Wrote at (now (out .entry)) (optionsText (split comma (now (s .entry)))) r (now (out .exit)) ⌝ }
+    ensures { λ r. ⌜ Wrote at (now (out .entry)) (optionsText (split commaByte (now (s .entry)))) r (now (out .exit)) ⌝ }
 {
     let mut rest = s;
     let mut p = at;

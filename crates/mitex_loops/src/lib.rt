@@ -5,14 +5,14 @@ ghost use mathlib.Core.List.{List, [], _++_};
 ghost use Prim.Native.Nat.{ℕ, _+_, _≤_, _<_};
 ghost use lib.ListN.{length, drop};
 ghost use lib.Dec.{eqb};
-ghost use Rattle.text.specs.Ascii.{ascii};
 ghost use Rattle.text.specs.Writing.{cap, Wrote, decimal};
 ghost use Rattle.mitex_syntax.specs.Syntax.{ClauseArgument, ClauseCommandName, ItemCurly};
 ghost use Rattle.mitex_syntax.specs.Tree.{Tree, Forest, rowsOfs, kindOf};
 ghost use Rattle.mitex_syntax.specs.Views.{childrenOf, cmdName};
 ghost use Rattle.mitex_syntax.specs.Spells.{Spells};
 ghost use Rattle.mitex_state.specs.Children.{isBlank, isDot, isSplit, isEnds, follows, othersFollow, isNamed, actOf, attachAct, ruleAct, cellAct, before, converts, behind, nextAttach, nextExterior, nextLoop, attachEnd, loopEnd};
-ghost use Rattle.mitex_state.specs.Texts.{formulaBegin, formulaEnd, dollarBegin, dollarEnd};
+ghost use Rattle.mitex_state.specs.Texts.{leftParen, rightParen, colonSpace, formulaBegin, formulaEnd};
+ghost use Rattle.mitex_state.specs.Texts.{dollarBegin, dollarEnd, blankGroup, noBase, namedArg};
 ghost use Rattle.mitex_state.specs.Groups.{groupEnv, lrBegin, lrEnd, attachLoop};
 ghost use Rattle.mitex_state.specs.Colors.{bodyEnd, bodyLoop, argumentsLoop};
 ghost use Rattle.mitex_state.specs.Contract.{placeOf, Closed};
@@ -449,7 +449,7 @@ pub fn next_loop(l: Loop, kind: u8, act: Act) -> Loop
 // The token that splits an attachment, and the bracket that the rest stands in.
 fn put_split(out: &mut [u8], at: usize, s: &[u8]) -> usize
     requires { ⌜ (at ≤ cap) × (length (now out) ≤ cap) ⌝ }
-    ensures { λ r. ⌜ Wrote at (now (out .entry)) (now (s .entry) ++ ascii "(") r (now (out .exit)) ⌝ }
+    ensures { λ r. ⌜ Wrote at (now (out .entry)) (now (s .entry) ++ leftParen) r (now (out .exit)) ⌝ }
 {
     let p = text::put(out, at, s);
     text::put(out, p, b"(")
@@ -458,7 +458,7 @@ fn put_split(out: &mut [u8], at: usize, s: &[u8]) -> usize
 // The same where no base stands before it.
 fn put_split_bare(out: &mut [u8], at: usize, s: &[u8]) -> usize
     requires { ⌜ (at ≤ cap) × (length (now out) ≤ cap) ⌝ }
-    ensures { λ r. ⌜ Wrote at (now (out .entry)) (ascii "zws" ++ (now (s .entry) ++ ascii "(")) r (now (out .exit)) ⌝ }
+    ensures { λ r. ⌜ Wrote at (now (out .entry)) (noBase ++ (now (s .entry) ++ leftParen)) r (now (out .exit)) ⌝ }
 {
     let p = text::put(out, at, b"zws");
     put_split(out, p, s)
@@ -467,7 +467,7 @@ fn put_split_bare(out: &mut [u8], at: usize, s: &[u8]) -> usize
 // The name of the n-th argument.
 fn put_name(out: &mut [u8], at: usize, n: usize) -> usize
     requires { ⌜ (at ≤ cap) × (length (now out) ≤ cap) ⌝ }
-    ensures { λ r. ⌜ Wrote at (now (out .entry)) (ascii "arg" ++ (decimal n ++ ascii ": ")) r (now (out .exit)) ⌝ }
+    ensures { λ r. ⌜ Wrote at (now (out .entry)) (namedArg ++ (decimal n ++ colonSpace)) r (now (out .exit)) ⌝ }
 {
     let p = text::put(out, at, b"arg");
     let q = text::put_decimal(out, p, n);
@@ -515,7 +515,7 @@ fn put_attach_end(out: &mut [u8], at: usize, state: Attach) -> usize
 // What a curly group in Math ends with.
 fn put_curly_end(out: &mut [u8], at: usize, blank: bool) -> usize
     requires { ⌜ (at ≤ cap) × (length (now out) ≤ cap) ⌝ }
-    ensures { λ r. ⌜ Wrote at (now (out .entry)) (cond blank (ascii "zws ") []) r (now (out .exit)) ⌝ }
+    ensures { λ r. ⌜ Wrote at (now (out .entry)) (cond blank blankGroup []) r (now (out .exit)) ⌝ }
 {
     if blank {
         return text::put(out, at, b"zws ");
@@ -678,7 +678,7 @@ pub fn close_math(
     indent: usize,
 ) -> Walked
     requires { ⌜ ((a .refusal ≡ 0 → a .at ≤ cap) × (length (now out) ≤ cap)) ⌝ }
-    ensures { λ r. ⌜ Closed a (record { mode = mode; env = env; indent = indent }) (ascii ")" ++ dollarEnd mode) (now (out .entry)) r (now (out .exit)) ⌝ }
+    ensures { λ r. ⌜ Closed a (record { mode = mode; env = env; indent = indent }) (rightParen ++ dollarEnd mode) (now (out .entry)) r (now (out .exit)) ⌝ }
 {
     match mode {
         LaTeXMode::Text => mitex_state::close(out, a, mode, env, indent, b") $"),

@@ -20,7 +20,7 @@ use Rattle.mitex_syntax.specs.Views.{cmdName, firstOf, offsetOf, childrenIn, en
 use Rattle.mitex_state.specs.Outcome.{Context, Carry, Outcome, Conv, Arm, after, andThen, closing, shift, flagged, labelled, labelMost}
 use Rattle.mitex_state.specs.Outcome.Label.{unheld}
 use Rattle.mitex_state.specs.Outcome.Outcome.{refused, done}
-use Rattle.mitex_state.specs.Tokens.{space, symbolBy, tokenOut}
+use Rattle.mitex_state.specs.Tokens.{whiteSpace, symbolBy, tokenOut}
 use Rattle.mitex_state.specs.Children.{actOf, nextLoop, before, behind, converts, turn, each}
 use Rattle.mitex_state.specs.Groups.{children, formula, curlyIn, curlyGroup, clauseLr, attachComponent}
 use Rattle.mitex_state.specs.Colors.{Model, greedyModel, argumentModel, colored, withModel, colorAlias, bodyLoop, argumentsLoop}
@@ -97,9 +97,9 @@ module _ (conv : Tree → Carry → Outcome) (keeps : (t : Tree) → Keeps (conv
 
 -- ---- tokens
 
-keeps-space : (b : Bool) (s : List ℕ) → Keeps (space b s)
-keeps-space true s c = goes (λ h. h)
-keeps-space false s c = goes (λ h. h)
+keeps-white-space : (b : Bool) (s : List ℕ) → Keeps (whiteSpace b s)
+keeps-white-space true s c = goes (λ h. h)
+keeps-white-space false s c = goes (λ h. h)
 
 keeps-symbol : (name : List ℕ) (r : Option Rule) → Keeps (symbolBy name r)
 keeps-symbol name nothing c = stops tt
@@ -108,7 +108,7 @@ keeps-symbol name (some r) c = goes (λ h. h)
 keeps-token : (x : Context) (k : ℕ) (s : List ℕ) → Keeps (tokenOut x k s)
 unfolding tokenOut
 keeps-token x k s c =
-    kept-cond (eqb k TokenWhiteSpace) (λ e. keeps-space (c .flag) s c)
+    kept-cond (eqb k TokenWhiteSpace) (λ e. keeps-white-space (c .flag) s c)
     (kept-cond (eqb k TokenLineBreak) (λ e. goes (λ h. h))
     (kept-cond (eqb k TokenError || eqb k ClauseCommandName) (λ e. stops tt)
     (kept-cond (eqb k TokenCommandSym) (λ e. keeps-symbol (drop 1 s) (getCmd (x .rules) (drop 1 s)) (flagged false c)) (goes (λ h. h)))))

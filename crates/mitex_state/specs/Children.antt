@@ -5,7 +5,6 @@ use mathlib.Core.List.{List, [], _++_}
 use Prim.Native.Nat.{ℕ, _+_}
 use lib.ListN.{drop}
 use lib.Dec.{eqb}
-use Rattle.text.specs.Ascii.{ascii}
 use Rattle.text.specs.Compare.{same}
 use Rattle.text.specs.Writing.{decimal}
 use Rattle.mitex_syntax.specs.Syntax.{ClauseArgument, ClauseCommandName, ItemCurly, ItemBegin, ItemEnd, ItemCmd, TokenWord, TokenLBrace, TokenRBrace, TokenWhiteSpace, TokenLineBreak, TokenCaret, TokenUnderscore, TokenAmpersand, ItemNewLine}
@@ -14,7 +13,9 @@ use Rattle.mitex_syntax.specs.Tree.Forest.{none, more}
 use Rattle.mitex_syntax.specs.Views.{childrenOf, cmdName}
 use Rattle.mitex_state.specs.Outcome.{Carry, Outcome, after, andThen, closing, shift}
 use Rattle.mitex_state.specs.Outcome.Outcome.{done}
-use Rattle.mitex_state.specs.Texts.{captionName, centeringName}
+use Rattle.mitex_state.specs.Texts.{leftParen, rightParen, leftBracket, rightBracket, dollar, space, comma, colonSpace, argumentEnd}
+use Rattle.mitex_state.specs.Texts.{blankGroup, noBase, namedArg, thinRule, thickRule, emptyCell, lastEmptyCell, lastCellEnd}
+use Rattle.mitex_state.specs.Texts.{tableEnd, dot, captionName, centeringName, hlineName, topruleName, midruleName, bottomruleName}
 use Rattle.mitex_state.specs.declared.Attach.{Attach}
 use Rattle.mitex_state.specs.declared.Attach.the-variants.{Bare, Based, Split}
 use Rattle.mitex_state.specs.declared.Loop.{Loop}
@@ -30,7 +31,7 @@ isBlank k = eqb k TokenWhiteSpace || (eqb k TokenLineBreak || (eqb k TokenLBrace
 
 -- the lone dot of `\left.`
 abbrev pub isDot : ℕ → List ℕ → Bool
-isDot k s = eqb k TokenWord && same s (ascii ".")
+isDot k s = eqb k TokenWord && same s dot
 
 -- the underscore or caret that splits an attachment
 abbrev pub isSplit : ℕ → Bool
@@ -66,10 +67,10 @@ attachAct Split s = Convert
 -- the rule commands, which count only outside cells
 abbrev pub ruleAct : List ℕ → Act
 ruleAct name =
-    cond (same name (ascii "hline")) ThinRule
-    (cond (same name (ascii "toprule")) ThickRule
-    (cond (same name (ascii "midrule")) ThinRule
-    (cond (same name (ascii "bottomrule")) ThickRule
+    cond (same name hlineName) ThinRule
+    (cond (same name topruleName) ThickRule
+    (cond (same name midruleName) ThinRule
+    (cond (same name bottomruleName) ThickRule
     Open)))
 
 -- outside a cell, and in one
@@ -107,20 +108,20 @@ abbrev pub before : Act → List ℕ → List ℕ
 before Skip s = []
 before Convert s = []
 before ThenSpace s = []
-before Space s = ascii " "
+before Space s = space
 before ThenComma s = []
-before InBrackets s = ascii "["
-before InDollars s = ascii "$"
-before SplitBare s = ascii "zws" ++ (s ++ ascii "(")
-before SplitBased s = s ++ ascii "("
-before (Name n) s = ascii "arg" ++ (decimal n ++ ascii ": ")
-before Empty s = ascii "[], "
-before EmptyLast s = ascii "[],\n"
-before ThinRule s = ascii "table.hline(stroke: .5pt),\n"
-before ThickRule s = ascii "table.hline(stroke: 1pt),\n"
-before Open s = ascii "["
-before Close s = ascii "], "
-before CloseLast s = ascii "],\n"
+before InBrackets s = leftBracket
+before InDollars s = dollar
+before SplitBare s = noBase ++ (s ++ leftParen)
+before SplitBased s = s ++ leftParen
+before (Name n) s = namedArg ++ (decimal n ++ colonSpace)
+before Empty s = emptyCell
+before EmptyLast s = lastEmptyCell
+before ThinRule s = thinRule
+before ThickRule s = thickRule
+before Open s = leftBracket
+before Close s = argumentEnd
+before CloseLast s = lastCellEnd
 
 -- whether the child is converted
 abbrev pub converts : Act → Bool
@@ -146,14 +147,14 @@ converts CloseLast = false
 abbrev pub behind : Act → List ℕ
 behind Skip = []
 behind Convert = []
-behind ThenSpace = ascii " "
+behind ThenSpace = space
 behind Space = []
-behind ThenComma = ascii ","
-behind InBrackets = ascii "]"
-behind InDollars = ascii "$"
+behind ThenComma = comma
+behind InBrackets = rightBracket
+behind InDollars = dollar
 behind SplitBare = []
 behind SplitBased = []
-behind (Name n) = ascii ","
+behind (Name n) = comma
 behind Empty = []
 behind EmptyLast = []
 behind ThinRule = []
@@ -209,12 +210,12 @@ nextLoop (Table exterior) k a = Table (nextExterior exterior a)
 abbrev pub attachEnd : Attach → List ℕ
 attachEnd Bare = []
 attachEnd Based = []
-attachEnd Split = ascii ")"
+attachEnd Split = rightParen
 
 -- what a loop ends with: a blank curly group in Math writes zws; a table's cell still open is left unclosed
 abbrev pub loopEnd : Loop → List ℕ
 loopEnd Plain = []
-loopEnd (Curly blank) = cond blank (ascii "zws ") []
+loopEnd (Curly blank) = cond blank blankGroup []
 loopEnd Spaced = []
 loopEnd (Attached a) = attachEnd a
 loopEnd Greedy = []
@@ -225,7 +226,7 @@ loopEnd (Arguments dollars) = []
 loopEnd (Named n) = []
 loopEnd Inside = []
 loopEnd Figure = []
-loopEnd (Table exterior) = ascii ");"
+loopEnd (Table exterior) = tableEnd
 
 -- one child
 unfoldable pub turn : (Tree → Carry → Outcome) → Act → Tree → Carry → Outcome

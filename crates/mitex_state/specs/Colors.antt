@@ -3,11 +3,10 @@
 use mathlib.Core.Bool.{Bool, true, false, _&&_, cond}
 use mathlib.Core.Option.{Option}
 use mathlib.Core.Option.Option.{none as nothing, some}
-use mathlib.Core.List.{List, [], _∷_, _++_}
+use mathlib.Core.List.{List, _++_}
 use Prim.Native.Nat.{ℕ, _+_}
 use lib.ListN.{length}
 use lib.Dec.{leb}
-use Rattle.text.specs.Ascii.{ascii}
 use Rattle.text.specs.Compare.{startsWith, endsWith}
 use Rattle.mitex_spec.specs.Rules.{Rule, aliasOr}
 use Rattle.mitex_syntax.specs.Syntax.{ClauseArgument, TokenLBracket, TokenRBracket}
@@ -15,9 +14,9 @@ use Rattle.mitex_syntax.specs.Tree.{Tree, Forest, size, textOf, textsOf}
 use Rattle.mitex_syntax.specs.Tree.Forest.{none, more}
 use Rattle.mitex_syntax.specs.Views.{offsetBy, beforeBy, fromBy, isOf, isSolid, inner}
 use Rattle.mitex_state.specs.Outcome.{Context, Carry, Outcome, Conv, after, andThen, closing, shift, inMode}
-use Rattle.mitex_state.specs.Outcome.Outcome.{refused, done}
+use Rattle.mitex_state.specs.Outcome.Outcome.{done}
 use Rattle.mitex_state.specs.Children.{each}
-use Rattle.mitex_state.specs.Texts.{mitexcolor}
+use Rattle.mitex_state.specs.Texts.{leftParen, leftBracket, rightBracket, argumentEnd, blockEnd, mitexcolor, noModel, black, colorEnd}
 use Rattle.mitex_state.specs.declared.LaTeXMode.{LaTeXMode}
 use Rattle.mitex_state.specs.declared.LaTeXMode.the-variants.{Text, Math}
 use Rattle.mitex_state.specs.declared.Loop.{Loop}
@@ -52,10 +51,7 @@ abbrev pub model : List ℕ → Rest → Model
 model w r = record { text = w; behind = r }
 
 abbrev pub inModel : List ℕ → List ℕ
-inModel m = ascii "[" ++ (m ++ ascii "], ")
-
-abbrev pub noModel : List ℕ
-noModel = ascii "none, "
+inModel m = leftBracket ++ (m ++ argumentEnd)
 
 -- `\color`: trivia is passed over; a model begins with a direct TokenLBracket and runs to a direct TokenRBracket or the end, and
 -- trivia behind it is passed over too
@@ -74,7 +70,7 @@ greedyModel o f = modelIn (seek isSolid (rest o f))
 
 -- `\textcolor` and `\colorbox`: the first argument is a model if its text begins with `[` and ends with `]`
 abbrev pub isModel : List ℕ → Bool
-isModel s = startsWith s (ascii "[") && (endsWith s (ascii "]") && leb 2 (length s))
+isModel s = startsWith s leftBracket && (endsWith s rightBracket && leb 2 (length s))
 
 abbrev pub firstModel : ℕ → Forest → Model
 firstModel o none = model noModel (rest o none)
@@ -92,19 +88,19 @@ argumentModel o f = modelFirst (seek (isOf ClauseArgument) (rest o f))
 -- ---- what is written
 
 abbrev pub bodyEnd : LaTeXMode → List ℕ
-bodyEnd Text = ascii "];"
-bodyEnd Math = ascii "]"
+bodyEnd Text = blockEnd
+bodyEnd Math = rightBracket
 
 -- the colour is one element in Text, or black; in Math each body element stands between its own dollars
 abbrev pub colored : Conv → Context → Loop → ℕ → Forest → Carry → Outcome
-colored conv x l o none c = done c (ascii "black])[" ++ bodyEnd (x .mode))
+colored conv x l o none c = done c (black ++ (colorEnd ++ bodyEnd (x .mode)))
 colored conv x l o (more t f) c =
     andThen (shift o (conv (inMode Text x) t c))
-    (λ c′. after (ascii "])[") (closing (bodyEnd (x .mode)) (each (conv x) (o + size t) l f c′)))
+    (λ c′. after colorEnd (closing (bodyEnd (x .mode)) (each (conv x) (o + size t) l f c′)))
 
 abbrev pub withModel : Conv → Context → List ℕ → Loop → Model → Carry → Outcome
 withModel conv x name l m c =
-    after (name ++ (ascii "(" ++ (m .text ++ ascii "["))) (colored conv x l (m .behind .rows) (m .behind .elements) c)
+    after (name ++ (leftParen ++ (m .text ++ leftBracket))) (colored conv x l (m .behind .rows) (m .behind .elements) c)
 
 -- a colour command that is absent from the rules or has no alias there
 abbrev pub colorAlias : Option Rule → List ℕ

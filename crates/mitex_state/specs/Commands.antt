@@ -1,26 +1,26 @@
 -- Commands, by their name without the backslash: `\item`, `\label`, `\includegraphics`, `\array`, the colours, and all others by
 -- their rule.
-use mathlib.Core.Bool.{Bool, true, false, _&&_, _||_, not, cond}
+use mathlib.Core.Bool.{Bool, cond}
 use mathlib.Core.Option.{Option}
 use mathlib.Core.Option.Option.{none as nothing, some}
-use mathlib.Core.List.{List, [], _∷_, _++_}
+use mathlib.Core.List.{List, [], _++_}
 use Prim.Native.Nat.{ℕ, _+_, _-_}
 use lib.ListN.{length, drop}
 use lib.Dec.{eqb, leb}
-use Rattle.text.specs.Ascii.{ascii}
 use Rattle.text.specs.Compare.{same, startsWith}
 use Rattle.text.specs.Writing.{spaces}
 use Rattle.utf8.specs.Trim.{trim}
 use Rattle.mitex_spec.specs.Rules.{Rule, getCmd, writtenName}
 use Rattle.mitex_syntax.specs.Syntax.{ClauseArgument, ClauseCommandName}
-use Rattle.mitex_syntax.specs.Tree.{Tree, Forest, size, kindOf, textOf}
+use Rattle.mitex_syntax.specs.Tree.{Tree, Forest}
 use Rattle.mitex_syntax.specs.Tree.Tree.{token, node}
-use Rattle.mitex_syntax.specs.Tree.Forest.{none, more}
 use Rattle.mitex_syntax.specs.Views.{firstBy, offsetBy, isOther, cmdName, firstOf, offsetOf, textIn, childrenIn, inner}
-use Rattle.mitex_state.specs.Outcome.{Context, Carry, Outcome, Conv, Arm, after, closing, shift, inMode, inEnv, labelled, labelMost}
-use Rattle.mitex_state.specs.Outcome.Label.{unheld, held}
+use Rattle.mitex_state.specs.Outcome.{Context, Carry, Outcome, Arm, after, closing, shift, inMode, inEnv, labelled, labelMost}
+use Rattle.mitex_state.specs.Outcome.Label.{held}
 use Rattle.mitex_state.specs.Outcome.Outcome.{refused, done}
-use Rattle.mitex_state.specs.Texts.{labelMark, itemName, labelName, imageName, arrayName, colorName, textcolorName, colorboxName, substackName}
+use Rattle.mitex_state.specs.Texts.{leftParen, rightParen, hash, space, semicolon, lineFeed, itemizeMark, enumerateMark, strong}
+use Rattle.mitex_state.specs.Texts.{emph, labelMark, itemName, labelName, imageName, arrayName, colorName, textcolorName}
+use Rattle.mitex_state.specs.Texts.{colorboxName, textbfName, textitName, substackName}
 use Rattle.mitex_state.specs.Children.{each}
 use Rattle.mitex_state.specs.Images.{image}
 use Rattle.mitex_state.specs.Colors.{withModel, greedyModel, argumentModel, colorAlias, bodyLoop, argumentsLoop}
@@ -38,14 +38,14 @@ use Rattle.mitex_state.specs.declared.Arguments.the-variants.{NoArgument
 -- ---- `\item`
 
 abbrev pub itemText : ℕ → List ℕ → List ℕ
-itemText indent mark = ascii "\n" ++ (spaces (indent - 2) ++ mark)
+itemText indent mark = lineFeed ++ (spaces (indent - 2) ++ mark)
 
 abbrev pub itemIn : LaTeXEnv → ℕ → Carry → Outcome
 itemIn None n c = refused 11 0
 itemIn Figure n c = refused 11 0
 itemIn Table n c = refused 11 0
-itemIn Itemize n c = done c (itemText n (ascii "- "))
-itemIn Enumerate n c = done c (itemText n (ascii "+ "))
+itemIn Itemize n c = done c (itemText n itemizeMark)
+itemIn Enumerate n c = done c (itemText n enumerateMark)
 itemIn MathEnv n c = refused 11 0
 itemIn Matrix n c = refused 11 0
 itemIn Cases n c = refused 11 0
@@ -97,14 +97,14 @@ colorArguments name conv x f c =
 -- as an ItemCmd in Text `textbf` and `textit` become `#strong` and `#emph`
 abbrev pub typstName : LaTeXMode → List ℕ → List ℕ → List ℕ
 typstName Text name written =
-    cond (same name (ascii "textbf")) (ascii "#strong") (cond (same name (ascii "textit")) (ascii "#emph") written)
+    cond (same name textbfName) strong (cond (same name textitName) emph written)
 typstName Math name written = written
 
 -- class 1: the first child that is no command name must be a node; its children are converted, not itself
 abbrev pub greedyIn : (Tree → Carry → Outcome) → ℕ → Option Tree → Carry → Outcome
 greedyIn conv o nothing c = refused 12 0
 greedyIn conv o (some (token k s)) c = refused 12 0
-greedyIn conv o (some (node k g)) c = after (ascii "(") (closing (ascii ")") (shift o (each conv 1 Greedy g c)))
+greedyIn conv o (some (node k g)) c = after leftParen (closing rightParen (shift o (each conv 1 Greedy g c)))
 
 abbrev pub isArgument : Tree → Bool
 isArgument t = isOther ClauseCommandName t
@@ -114,22 +114,22 @@ greedyArgument conv x f c = greedyIn (conv x) (1 + offsetBy isArgument f) (first
 
 -- class 2 in Math: as a function
 abbrev pub mathArguments : Arm
-mathArguments conv x f c = after (ascii "(") (closing (ascii ")") (each (conv x) 1 Separated f c))
+mathArguments conv x f c = after leftParen (closing rightParen (each (conv x) 1 Separated f c))
 
 -- class 2 otherwise: each argument as content, in Text
 abbrev pub textArguments : Arm
-textArguments conv x f c = closing (ascii ";") (each (conv (inMode Text x)) 1 Bracketed f c)
+textArguments conv x f c = closing semicolon (each (conv (inMode Text x)) 1 Bracketed f c)
 
 -- by class, mode and written name: class 0 has no arguments, class 1 a Greedy one; a name that begins with `#` takes content in Math too
 abbrev pub otherArguments : LaTeXMode → List ℕ → Arguments
 otherArguments Text w = TextArguments
-otherArguments Math w = cond (startsWith w (ascii "#")) TextArguments MathArguments
+otherArguments Math w = cond (startsWith w hash) TextArguments MathArguments
 
 abbrev pub argumentsOf : ℕ → LaTeXMode → List ℕ → Arguments
 argumentsOf k m w = cond (eqb k 0) NoArguments (cond (eqb k 1) GreedyArgument (otherArguments m w))
 
 abbrev pub argumentsBy : Arguments → Arm
-argumentsBy NoArguments conv x f c = done c (ascii " ")
+argumentsBy NoArguments conv x f c = done c space
 argumentsBy GreedyArgument conv x f c = greedyArgument conv x f c
 argumentsBy MathArguments conv x f c = mathArguments conv x f c
 argumentsBy TextArguments conv x f c = textArguments conv x f c

@@ -1,5 +1,5 @@
 -- What an element means, by levels: a level goes by the one below at the elements below. An element of n rows needs n levels.
-use mathlib.Core.Bool.{Bool, true, false, _||_, cond}
+use mathlib.Core.Bool.{true, false, cond}
 use mathlib.Core.List.{List, []}
 use Prim.Native.Nat.{ℕ, zero, suc}
 use lib.Dec.{eqb}

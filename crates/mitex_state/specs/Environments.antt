@@ -1,11 +1,10 @@
 -- Environments: lists, environments for Math, normal ones, figures and tables.
-use mathlib.Core.Bool.{Bool, true, false, _&&_, _||_, not, cond}
+use mathlib.Core.Bool.{Bool, true, false, _&&_, cond}
 use mathlib.Core.Option.{Option}
 use mathlib.Core.Option.Option.{none as nothing, some}
-use mathlib.Core.List.{List, [], _∷_, _++_}
+use mathlib.Core.List.{List, [], _++_}
 use Prim.Native.Nat.{ℕ, _+_}
 use lib.Dec.{eqb}
-use Rattle.text.specs.Ascii.{ascii}
 use Rattle.text.specs.Compare.{same}
 use Rattle.utf8.specs.Trim.{trim}
 use Rattle.mitex_spec.specs.Rules.{Rule, getEnv, writtenName}
@@ -13,10 +12,11 @@ use Rattle.mitex_syntax.specs.Syntax.{ClauseArgument, ItemBegin, ItemCmd}
 use Rattle.mitex_syntax.specs.Tree.{Tree, Forest, size, kindOf, textOf}
 use Rattle.mitex_syntax.specs.Tree.Forest.{none, more}
 use Rattle.mitex_syntax.specs.Views.{childrenOf, cmdName, firstOf, offsetOf, envName, beginOf, inner}
-use Rattle.mitex_state.specs.Outcome.{Context, Label, Carry, Outcome, Conv, Arm, after, andThen, closing, shift, inMode, inEnv, labelled}
+use Rattle.mitex_state.specs.Outcome.{Context, Label, Carry, Outcome, Arm, after, andThen, closing, shift, inMode, inEnv, labelled}
 use Rattle.mitex_state.specs.Outcome.Label.{unheld, held}
 use Rattle.mitex_state.specs.Outcome.Outcome.{refused, done}
-use Rattle.mitex_state.specs.Texts.{labelMark, captionName, dollarBegin, dollarEnd}
+use Rattle.mitex_state.specs.Texts.{leftParen, rightParen, leftBracket, hash, bodyBegin, blockEnd}
+use Rattle.mitex_state.specs.Texts.{dollarBegin, dollarEnd, labelMark, captionBegin, captionEnd, captionName}
 use Rattle.mitex_state.specs.Children.{each}
 use Rattle.mitex_state.specs.Tables.{lettersFit, tableHead, hasEnds}
 use Rattle.mitex_state.specs.declared.LaTeXMode.{LaTeXMode}
@@ -29,7 +29,7 @@ use Rattle.mitex_state.specs.declared.Loop.the-variants.{Named, Inside, 
 -- ---- lists and normal environments: a list writes no text of its own
 
 abbrev pub envBegin : LaTeXEnv → List ℕ → List ℕ
-envBegin None w = ascii "#" ++ (w ++ ascii "[")
+envBegin None w = hash ++ (w ++ leftBracket)
 envBegin FigureEnv w = []
 envBegin TableEnv w = []
 envBegin Itemize w = []
@@ -41,7 +41,7 @@ envBegin SubStack w = []
 envBegin MathCurlyGroup w = []
 
 abbrev pub envEnd : LaTeXEnv → List ℕ
-envEnd None = ascii "];"
+envEnd None = blockEnd
 envEnd FigureEnv = []
 envEnd TableEnv = []
 envEnd Itemize = []
@@ -62,8 +62,8 @@ inMath e x = inEnv e (inMode Math x)
 
 abbrev pub mathEnv : LaTeXEnv → List ℕ → Arm
 mathEnv e w conv x f c =
-    after (dollarBegin (x .mode) ++ (w ++ ascii "("))
-    (closing (ascii ")" ++ dollarEnd (x .mode))
+    after (dollarBegin (x .mode) ++ (w ++ leftParen))
+    (closing (rightParen ++ dollarEnd (x .mode))
     (andThen (shift (1 + offsetOf ItemBegin f) (each (conv (inMath e x)) 1 (Named 0) (beginOf f) c))
     (λ c′. each (conv (inMath e x)) 1 Inside f c′)))
 
@@ -97,24 +97,24 @@ lastCaption o (more t f) =
 
 -- the caption, then the children
 abbrev pub figureBody : Arm
-figureBody conv x f c = after (ascii ")[") (closing (ascii "];") (each (conv x) 1 Figure f c))
+figureBody conv x f c = after bodyBegin (closing blockEnd (each (conv x) 1 Figure f c))
 
 abbrev pub captioned : Caption → Arm
 captioned absent conv x f c = figureBody conv x f c
 captioned (bare o) conv x f c = refused 12 o
 captioned (caption o t) conv x f c =
-    after (ascii "caption: [") (andThen (closing (ascii "],") (shift o (conv x t c))) (figureBody conv x f))
+    after captionBegin (andThen (closing captionEnd (shift o (conv x t c))) (figureBody conv x f))
 
 abbrev pub figureEnv : List ℕ → Arm
 figureEnv w conv x f c =
-    after (ascii "#" ++ (w ++ ascii "(")) (captioned (lastCaption 1 f) conv (inEnv FigureEnv x) f c)
+    after (hash ++ (w ++ leftParen)) (captioned (lastCaption 1 f) conv (inEnv FigureEnv x) f c)
 
 -- ---- tables
 
 abbrev pub tableWith : List ℕ → List ℕ → Arm
 tableWith w letters conv x f c =
     cond (lettersFit letters)
-    (after (ascii "#" ++ (w ++ (ascii "(" ++ tableHead letters))) (each (conv (inEnv TableEnv x)) 1 (Table true) f c))
+    (after (hash ++ (w ++ (leftParen ++ tableHead letters))) (each (conv (inEnv TableEnv x)) 1 (Table true) f c))
     (refused 13 0)
 
 -- the first argument, its ends cut, trimmed

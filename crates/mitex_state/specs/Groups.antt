@@ -3,14 +3,13 @@ use mathlib.Core.Bool.{true, cond}
 use mathlib.Core.List.{List, []}
 use Prim.Native.Nat.{ℕ, _+_}
 use lib.ListN.{drop}
-use Rattle.text.specs.Ascii.{ascii}
 use Rattle.text.specs.Compare.{same}
 use Rattle.mitex_syntax.specs.Tree.{size, textOf}
 use Rattle.mitex_syntax.specs.Tree.Forest.{none, more}
 use Rattle.mitex_syntax.specs.Views.{isValid, isInline}
 use Rattle.mitex_state.specs.Outcome.{Arm, after, closing, inMode, inEnv}
 use Rattle.mitex_state.specs.Outcome.Outcome.{refused, done}
-use Rattle.mitex_state.specs.Texts.{formulaBegin, formulaEnd}
+use Rattle.mitex_state.specs.Texts.{rightParen, formulaBegin, formulaEnd, lrOpen, leftName, rightName}
 use Rattle.mitex_state.specs.Children.{each}
 use Rattle.mitex_state.specs.declared.LaTeXMode.{LaTeXMode}
 use Rattle.mitex_state.specs.declared.LaTeXMode.the-variants.{Text, Math}
@@ -55,10 +54,10 @@ abbrev pub curlyGroup : Arm
 curlyGroup conv x f c = curlyIn (x .mode) conv x f c
 
 abbrev pub lrBegin : List ℕ → List ℕ
-lrBegin name = cond (same name (ascii "left")) (ascii "lr(") []
+lrBegin name = cond (same name leftName) lrOpen []
 
 abbrev pub lrEnd : List ℕ → List ℕ
-lrEnd name = cond (same name (ascii "right")) (ascii ")") []
+lrEnd name = cond (same name rightName) rightParen []
 
 -- `\left` and `\right`: the first child is the name
 unfoldable pub clauseLr : Arm

@@ -6,12 +6,13 @@ use mathlib.Core.List.{List, [], _∷_, _++_}
 use Prim.Native.Nat.{ℕ, zero, suc, _-_}
 use lib.ListN.{length, take}
 use lib.Dec.{eqb}
-use Rattle.text.specs.Ascii.{ascii}
 use Rattle.text.specs.Compare.{same, endsWith}
 use Rattle.utf8.specs.Trim.{trim}
 use Rattle.mitex_syntax.specs.Syntax.{ItemCurly, ItemBracket}
 use Rattle.mitex_syntax.specs.Tree.{Tree, Forest, textOf}
 use Rattle.mitex_syntax.specs.Views.{inner, argumentWith}
+use Rattle.mitex_state.specs.Texts.{quote, commaSpace, colonSpace, imageBegin, imageEnd}
+use Rattle.mitex_state.specs.Texts.{ofPage, widthName, heightName, textwidth, textheight}
 
 -- the parts of a text between the bytes b
 abbrev pub extend : ℕ → List (List ℕ) → List (List ℕ)
@@ -30,20 +31,11 @@ stripped (suc n) p v = cond (endsWith v p) (stripped n p (take (length v - lengt
 abbrev pub withoutEnd : List ℕ → List ℕ → List ℕ
 withoutEnd p v = stripped (length v) p v
 
-abbrev pub comma : ℕ
-comma = 44
+abbrev pub commaByte : ℕ
+commaByte = 44
 
-abbrev pub equals : ℕ
-equals = 61
-
-abbrev pub textwidth : List ℕ
-textwidth = ascii "\\textwidth"
-
-abbrev pub textheight : List ℕ
-textheight = ascii "\\textheight"
-
-abbrev pub ofPage : List ℕ
-ofPage = ascii " * 100%"
+abbrev pub equalsByte : ℕ
+equalsByte = 61
 
 -- a length: a share of the page, or as it stands
 abbrev pub lengthText : List ℕ → List ℕ
@@ -65,13 +57,13 @@ valueOf (k ∷ v ∷ w ∷ ps) = []
 
 abbrev pub keyText : List ℕ → List ℕ → List ℕ
 keyText key value =
-    cond (same key (ascii "width") || same key (ascii "height")) (key ++ (ascii ": " ++ (lengthText value ++ ascii ", "))) []
+    cond (same key widthName || same key heightName) (key ++ (colonSpace ++ (lengthText value ++ commaSpace))) []
 
 abbrev pub pairText : List (List ℕ) → List ℕ
 pairText ps = keyText (keyOf ps) (valueOf ps)
 
 abbrev pub optionText : List ℕ → List ℕ
-optionText option = pairText (split equals (trim option))
+optionText option = pairText (split equalsByte (trim option))
 
 unfoldable pub optionsText : List (List ℕ) → List ℕ
 optionsText [] = []
@@ -84,10 +76,10 @@ innerText (some t) = trim (inner (textOf t))
 
 abbrev pub optionArgument : Option Tree → List ℕ
 optionArgument nothing = []
-optionArgument (some t) = optionsText (split comma (trim (inner (textOf t))))
+optionArgument (some t) = optionsText (split commaByte (trim (inner (textOf t))))
 
 -- the first argument in brackets has the options, the first in braces the path
 abbrev pub image : Forest → List ℕ
 image f =
-    ascii "#image("
-    ++ (optionArgument (argumentWith ItemBracket f) ++ (ascii "\"" ++ (innerText (argumentWith ItemCurly f) ++ ascii "\")")))
+    imageBegin
+    ++ (optionArgument (argumentWith ItemBracket f) ++ (quote ++ (innerText (argumentWith ItemCurly f) ++ imageEnd)))

@@ -14,7 +14,8 @@ use Rattle.mitex_syntax.specs.Spells.{Spells, SpellsAll}
 use Rattle.mitex_state.specs.Outcome.{Carry, Outcome, shift}
 use Rattle.mitex_state.specs.Outcome.Outcome.{refused}
 use Rattle.mitex_state.specs.Children.{each}
-use Rattle.mitex_state.specs.Colors.{Model, inModel, noModel}
+use Rattle.mitex_state.specs.Texts.{noModel}
+use Rattle.mitex_state.specs.Colors.{Model, inModel}
 use Rattle.mitex_state.specs.Commands.{isArgument, greedyIn}
 use Rattle.mitex_state.specs.Environments.{lastCaption}
 use Rattle.mitex_state.specs.Environments.Caption.{absent, bare, caption}

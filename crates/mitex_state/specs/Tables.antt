@@ -4,8 +4,9 @@ use mathlib.Core.List.{List, [], _∷_, _++_}
 use Prim.Native.Nat.{ℕ, _+_, _-_}
 use lib.ListN.{length, getD}
 use lib.Dec.{eqb, leb}
-use Rattle.text.specs.Ascii.{ascii}
 use Rattle.text.specs.Writing.{decimal}
+use Rattle.mitex_state.specs.Texts.{lineFeed, columnsBegin, alignBegin, alignLeft}
+use Rattle.mitex_state.specs.Texts.{alignCenter, alignRight, alignEnd, vlineBegin, vlineEnd}
 
 -- l, c, r and |
 abbrev pub isColumn : ℕ → Bool
@@ -25,7 +26,7 @@ columns (b ∷ s) = cond (isColumn b) (1 + columns s) (columns s)
 
 abbrev pub alignment : ℕ → List ℕ
 alignment b =
-    cond (eqb b 108) (ascii "left, ") (cond (eqb b 99) (ascii "center, ") (cond (eqb b 114) (ascii "right, ") []))
+    cond (eqb b 108) alignLeft (cond (eqb b 99) alignCenter (cond (eqb b 114) alignRight []))
 
 unfoldable pub alignments : List ℕ → List ℕ
 alignments [] = []
@@ -35,14 +36,14 @@ alignments (b ∷ s) = alignment b ++ alignments s
 unfoldable pub vlines : ℕ → List ℕ → List ℕ
 vlines n [] = []
 vlines n (b ∷ s) =
-    cond (isLine b) (ascii "table.vline(stroke: .5pt, x: " ++ (decimal n ++ (ascii "), " ++ vlines n s)))
+    cond (isLine b) (vlineBegin ++ (decimal n ++ (vlineEnd ++ vlines n s)))
     (vlines (cond (isColumn b) (n + 1) n) s)
 
 abbrev pub tableHead : List ℕ → List ℕ
 tableHead letters =
-    ascii "stroke: none,\ncolumns: "
+    columnsBegin
     ++ (decimal (columns letters)
-    ++ (ascii ",\nalign: (" ++ (alignments letters ++ (ascii "),\n" ++ (vlines 0 letters ++ ascii "\n")))))
+    ++ (alignBegin ++ (alignments letters ++ (alignEnd ++ (vlines 0 letters ++ lineFeed)))))
 
 -- an argument of 2 bytes or more with one-byte ends
 abbrev pub hasEnds : List ℕ → Bool

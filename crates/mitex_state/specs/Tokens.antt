@@ -12,14 +12,14 @@ use Rattle.mitex_spec.specs.Rules.{Rule, getCmd, writtenName}
 use Rattle.mitex_syntax.specs.Syntax.{TokenError, ClauseCommandName, TokenWord, TokenWhiteSpace, TokenLineBreak, TokenTilde, TokenAmpersand, ItemNewLine, TokenCommandSym}
 use Rattle.mitex_state.specs.Outcome.{Context, Carry, Outcome, flagged}
 use Rattle.mitex_state.specs.Outcome.Outcome.{refused, done}
-use Rattle.mitex_state.specs.Texts.{escape, tilde, ampersand, newLine}
+use Rattle.mitex_state.specs.Texts.{space, escape, tilde, ampersand, newLine}
 use Rattle.mitex_state.specs.declared.LaTeXMode.{LaTeXMode}
 use Rattle.mitex_state.specs.declared.LaTeXMode.the-variants.{Text, Math}
 
 -- each character and a space
 unfoldable pub spaced : List (List ℕ) → List ℕ
 spaced [] = []
-spaced (c ∷ cs) = c ++ (32 ∷ spaced cs)
+spaced (c ∷ cs) = c ++ (space ++ spaced cs)
 
 -- a word; in Math each character and a space
 abbrev pub word : LaTeXMode → List ℕ → List ℕ
@@ -36,9 +36,9 @@ tokenText x k s =
     (escape k))))
 
 -- white space: with the flag set it clears it and writes nothing
-abbrev pub space : Bool → List ℕ → Carry → Outcome
-space true s c = done (flagged false c) []
-space false s c = done c s
+abbrev pub whiteSpace : Bool → List ℕ → Carry → Outcome
+whiteSpace true s c = done (flagged false c) []
+whiteSpace false s c = done c s
 
 -- a command symbol like `\alpha`: its name, which must be a command in the rules
 abbrev pub symbolBy : List ℕ → Option Rule → Carry → Outcome
@@ -51,7 +51,7 @@ commandSym x s c = symbolBy (drop 1 s) (getCmd (x .rules) (drop 1 s)) c
 -- every token but white space clears the flag first; a line break then sets it
 unfoldable pub tokenOut : Context → ℕ → List ℕ → Carry → Outcome
 tokenOut x k s c =
-    cond (eqb k TokenWhiteSpace) (space (c .flag) s c)
+    cond (eqb k TokenWhiteSpace) (whiteSpace (c .flag) s c)
     (cond (eqb k TokenLineBreak) (done (flagged true c) (s ++ spaces (x .indent)))
     (cond (eqb k TokenError || eqb k ClauseCommandName) (refused 7 0)
     (cond (eqb k TokenCommandSym) (commandSym x s (flagged false c))

@@ -5,8 +5,8 @@ ghost use lib.ListN.{length};
 ghost use Rattle.text.specs.Writing.{cap};
 ghost use Rattle.mitex_state.specs.Outcome.{flagged, labelled, labelMost, stepOf};
 ghost use Rattle.mitex_state.specs.Outcome.Label.{held, unheld};
-ghost use Rattle.mitex_state.specs.State.{carryOf, newOf, placed, withMode, enteredEnv, exitedEnv, Carried};
-ghost use Rattle.mitex_state.specs.Contract.{Place, Went, Declined, Closed};
+ghost use Rattle.mitex_state.specs.State.{carryOf, newOf, withMode, enteredEnv, exitedEnv, Carried};
+ghost use Rattle.mitex_state.specs.Contract.{Went, Declined, Closed};
 
 // The mode of the text that is written.
 pub enum LaTeXMode {

@@ -8,10 +8,10 @@ use native.Mathlib.Numerals.{add-one}
 use lib.ListN.{length, take, drop, getD, drop-of-length-le}
 use lib.Seq.{drop-cons}
 use borrow.Author.Tests.{eqb-true}
-use Rattle.text.specs.Ascii.{ascii}
 use Rattle.text.specs.Writing.{decimal}
 use Rattle.text.proofs.Compare.{by-test}
 use Rattle.text.proofs.Writing.{take-more}
+use Rattle.mitex_state.specs.Texts.{vlineBegin, vlineEnd}
 use Rattle.mitex_state.specs.Tables.{isColumn, isLine, lettersFit, columns, alignment, alignments, vlines}
 use Rattle.mitex_tables.specs.Letters.{counted, vline}
 
@@ -42,7 +42,8 @@ vlines-cons n b s =
     by-test (isLine b)
     (λ e.
     let z : isColumn b ≡ false = ap isColumn (eqb-true b 124 e) in
-    rw (e, z) (sym (append-assoc (ascii "table.vline(stroke: .5pt, x: ") (decimal n ++ ascii "), ") (vlines n s) ∙ ap (λ l. ascii "table.vline(stroke: .5pt, x: " ++ l) (append-assoc (decimal n) (ascii "), ") (vlines n s)))))
+    rw (e, z) (sym (append-assoc vlineBegin (decimal n ++ vlineEnd) (vlines n s)
+    ∙ ap (λ l. vlineBegin ++ l) (append-assoc (decimal n) vlineEnd (vlines n s)))))
     (λ e. rw e)
 
 -- ---- letters after letters

@@ -3,17 +3,17 @@
 use mathlib.Core.Bool.{cond}
 use mathlib.Core.List.{List, [], _++_}
 use Prim.Native.Nat.{ℕ, _+_}
-use Rattle.text.specs.Ascii.{ascii}
 use Rattle.text.specs.Writing.{decimal}
+use Rattle.mitex_state.specs.Texts.{columnsBegin, alignBegin, vlineBegin, vlineEnd}
 use Rattle.mitex_state.specs.Tables.{isColumn, isLine, columns, alignments}
 
 abbrev pub counted : ℕ → ℕ → ℕ
 counted n b = cond (isColumn b) (n + 1) n
 
 abbrev pub vline : ℕ → ℕ → List ℕ
-vline n b = cond (isLine b) (ascii "table.vline(stroke: .5pt, x: " ++ (decimal n ++ ascii "), ")) []
+vline n b = cond (isLine b) (vlineBegin ++ (decimal n ++ vlineEnd)) []
 
 -- the head of a table up to the words for the letters
 abbrev pub columnsPart : List ℕ → List ℕ
 columnsPart letters =
-    ascii "stroke: none,\ncolumns: " ++ (decimal (columns letters) ++ (ascii ",\nalign: (" ++ alignments letters))
+    columnsBegin ++ (decimal (columns letters) ++ (alignBegin ++ alignments letters))

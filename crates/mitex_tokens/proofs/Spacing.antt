@@ -8,6 +8,7 @@ use Rattle.text.specs.Writing.{cap, Wrote}
 use Rattle.text.proofs.Writing.{wrote-as, wrote-nil, wrote-then, wrote-long}
 use Rattle.utf8.specs.Chars.{chars, charLen}
 use Rattle.utf8.proofs.Chars.{charLen-first}
+use Rattle.mitex_state.specs.Texts.{space}
 use Rattle.mitex_state.specs.Tokens.{spaced}
 
 pub wrote-few : {at : ℕ} {out w : List ℕ} {p : ℕ} {out′ : List ℕ} → Wrote at out w p out′ → length out ≤ cap → length out′ ≤ cap
@@ -22,25 +23,25 @@ pub record Partly (at : ℕ) (out₀ s : List ℕ) (p : ℕ) (out t : List ℕ) 
 pub spaced-start : (at : ℕ) (out s : List ℕ) → at ≤ cap → Partly at out s at out s
 spaced-start at out s h = record { text = []; wrote = wrote-nil at out h; rest = refl }
 
-spaced-step : (t : List ℕ) → 0 < length t → spaced (chars t) ≡ (take (charLen t) t ++ (32 ∷ [])) ++ spaced (chars (drop (charLen t) t))
+spaced-step : (t : List ℕ) → 0 < length t → spaced (chars t) ≡ (take (charLen t) t ++ space) ++ spaced (chars (drop (charLen t) t))
 unfolding spaced
 spaced-step t h =
-    ap spaced (charLen-first t h .parts) ∙ sym (append-assoc (take (charLen t) t) (32 ∷ []) (spaced (chars (drop (charLen t) t))))
+    ap spaced (charLen-first t h .parts) ∙ sym (append-assoc (take (charLen t) t) space (spaced (chars (drop (charLen t) t))))
 
 module _ {at : ℕ} {out₀ s : List ℕ} {p : ℕ} {out t : List ℕ} (m : Partly at out₀ s p out t) where
   -- a character and a space more
   pub spaced-more :
       {n p₁ p₂ : ℕ} {out₁ out₂ : List ℕ} → length out₀ ≤ cap → 0 < length t → n ≡ charLen t → Wrote p out (take n t) p₁ out₁
-      → Wrote p₁ out₁ (32 ∷ []) p₂ out₂ → Partly at out₀ s p₂ out₂ (drop n t)
+      → Wrote p₁ out₁ space p₂ out₂ → Partly at out₀ s p₂ out₂ (drop n t)
   spaced-more {n} {p₁} {p₂} {out₁} {out₂} long some e w v =
       record {
-        text = m .text ++ (take n t ++ (32 ∷ []));
+        text = m .text ++ (take n t ++ space);
         wrote = wrote-then long (m .wrote) (wrote-then (wrote-few (m .wrote) long) w v);
         rest =
             m .rest
             ∙ ap (λ (l : List ℕ). m .text ++ l)
-            (subst (λ (k : ℕ). spaced (chars t) ≡ (take k t ++ (32 ∷ [])) ++ spaced (chars (drop k t))) (sym e) (spaced-step t some))
-            ∙ sym (append-assoc (m .text) (take n t ++ (32 ∷ [])) (spaced (chars (drop n t))));
+            (subst (λ (k : ℕ). spaced (chars t) ≡ (take k t ++ space) ++ spaced (chars (drop k t))) (sym e) (spaced-step t some))
+            ∙ sym (append-assoc (m .text) (take n t ++ space) (spaced (chars (drop n t))));
       }
 
   pub spaced-all : length t ≡ 0 → Wrote at out₀ (spaced (chars s)) p out

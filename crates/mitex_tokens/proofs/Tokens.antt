@@ -16,7 +16,7 @@ use Rattle.mitex_syntax.specs.Syntax.{TokenApostrophe, TokenComma, TokenSlash, 
 use Rattle.mitex_state.specs.Outcome.{Context, Carry, flagged}
 use Rattle.mitex_state.specs.Outcome.Outcome.{refused, done}
 use Rattle.mitex_state.specs.Texts.{escape, ampersand, newLine}
-use Rattle.mitex_state.specs.Tokens.{tokenText, space, symbolBy, commandSym, tokenOut}
+use Rattle.mitex_state.specs.Tokens.{tokenText, whiteSpace, symbolBy, commandSym, tokenOut}
 use Rattle.mitex_state.specs.declared.LaTeXEnv.{LaTeXEnv}
 use Rattle.mitex_state.specs.declared.LaTeXEnv.the-variants.{None, Figure, Table, Itemize, Enumerate, Math, Matrix, Cases, SubStack, MathCurlyGroup}
 use Rattle.mitex_tokens.specs.Lines.{linesOf, columnText, lineText, escapeOf}
@@ -96,7 +96,7 @@ other-text x k s a b c d =
 -- ---- outcomes
 
 module _ (x : Context) (s : List ℕ) (c : Carry) where
-  pub token-space : (k : ℕ) → k ≡ TokenWhiteSpace → tokenOut x k s c ≡ space (c .flag) s c
+  pub token-space : (k : ℕ) → k ≡ TokenWhiteSpace → tokenOut x k s c ≡ whiteSpace (c .flag) s c
   unfolding tokenOut
   token-space k e = ap (λ (n : ℕ). tokenOut x n s c) e
 

@@ -4,7 +4,7 @@ use mathlib.Core.Bool.{cond}
 use mathlib.Core.List.{List, [], _∷_}
 use Prim.Native.Nat.{ℕ}
 use lib.Dec.{eqb}
-use Rattle.text.specs.Ascii.{ascii}
+use Rattle.mitex_state.specs.Texts.{comma, columnMark, matrixColumn, lineMark, matrixLine}
 use Rattle.mitex_state.specs.declared.LaTeXEnv.{LaTeXEnv}
 use Rattle.mitex_state.specs.declared.LaTeXEnv.the-variants.{None, Figure, Table, Itemize, Enumerate, Math, Matrix, Cases, SubStack, MathCurlyGroup}
 use Rattle.mitex_tokens.specs.declared.Lines.{Lines}
@@ -24,16 +24,16 @@ linesOf MathCurlyGroup = Joined
 
 -- between two columns
 abbrev pub columnText : Lines → List ℕ
-columnText Plain = ascii "&"
-columnText Rows = ascii "zws ,"
-columnText Commas = ascii "&"
-columnText Joined = ascii "&"
+columnText Plain = columnMark
+columnText Rows = matrixColumn
+columnText Commas = columnMark
+columnText Joined = columnMark
 
 -- between two lines
 abbrev pub lineText : Lines → List ℕ
-lineText Plain = ascii "\\ "
-lineText Rows = ascii "zws ;"
-lineText Commas = ascii ","
+lineText Plain = lineMark
+lineText Rows = matrixLine
+lineText Commas = comma
 lineText Joined = []
 
 -- a backslash and the byte; 0 is none

@@ -16,7 +16,7 @@ ghost use Rattle.mitex_state.specs.Outcome.Outcome.{done};
 ghost use Rattle.mitex_state.specs.State.{contextOf, carryOf};
 ghost use Rattle.mitex_state.specs.Contract.{placeOf, Agrees};
 ghost use Rattle.mitex_state.specs.Texts.{escape, tilde, ampersand, newLine};
-ghost use Rattle.mitex_state.specs.Tokens.{spaced, word, tokenText, space, commandSym, tokenOut};
+ghost use Rattle.mitex_state.specs.Tokens.{spaced, word, tokenText, whiteSpace, commandSym, tokenOut};
 ghost use Rattle.mitex_tokens.specs.Lines.{linesOf, escapeOf};
 use mitex_spec::Found;
 use mitex_state::Converter;
@@ -204,7 +204,7 @@ pub fn put_token_text(
 // White space: with the flag set it clears it and writes nothing.
 fn convert_space(out: &mut [u8], at: usize, s: &[u8], c: Converter) -> Walked
     requires { ⌜ (at ≤ cap) × (length (now out) ≤ cap) × (c .«label_len» ≤ labelMost) ⌝ }
-    ensures { λ r. ⌜ ((row : ℕ) → Agrees r (placeOf c) row at (now (out .entry)) (now (out .exit)) (space (c .«skip_next_space») (now (s .entry)) (carryOf c))) ⌝ }
+    ensures { λ r. ⌜ ((row : ℕ) → Agrees r (placeOf c) row at (now (out .entry)) (now (out .exit)) (whiteSpace (c .«skip_next_space») (now (s .entry)) (carryOf c))) ⌝ }
 {
     if c.skip_next_space {
         return mitex_state::went(c.with_flag(false), at);

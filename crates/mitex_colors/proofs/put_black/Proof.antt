@@ -2,8 +2,8 @@
 use mathlib.Core.Path.{ap, sym}
 use mathlib.Core.List.{_++_}
 use borrow.Author.Needs.{needs}
-use Rattle.text.specs.Ascii.{ascii}
 use Rattle.text.proofs.Writing.{wrote-as}
+use Rattle.mitex_state.specs.Texts.{black, colorEnd}
 use Rattle.mitex_state.specs.Colors.{bodyEnd}
 use Rattle.mitex_colors.proofs.put_black.Statement.{statement}
 use Rattle.mitex_colors.proofs.put_black.Tie as tie
@@ -30,13 +30,17 @@ same-length : tie.Need-same-length
 same-length c = search needs
 
 returns : tie.Need-returns
-returns c = wrote-as (sym (ap (λ m. ascii "black])[" ++ bodyEnd m) (c .before .before .before .before .before .enum-told .given .1))) (c .before .before .put .ensures)
+returns c =
+    wrote-as (sym (ap (λ m. black ++ (colorEnd ++ bodyEnd m)) (c .before .before .before .before .before .enum-told .given .1)))
+    (c .before .before .put .ensures)
 
 same-length-2 : tie.Need-same-length-2
 same-length-2 c = search needs
 
 returns-2 : tie.Need-returns-2
-returns-2 c = wrote-as (sym (ap (λ m. ascii "black])[" ++ bodyEnd m) (c .before .before .before .before .before .enum-told2 .given .1))) (c .before .before .put2 .ensures)
+returns-2 c =
+    wrote-as (sym (ap (λ m. black ++ (colorEnd ++ bodyEnd m)) (c .before .before .before .before .before .enum-told2 .given .1)))
+    (c .before .before .put2 .ensures)
 
 pub put-black-spec : {M : Type 1} → statement M
 put-black-spec =

@@ -2,8 +2,8 @@
 use mathlib.Core.Path.{sym, ap, _∙_}
 use mathlib.Core.Bool.{_||_}
 use borrow.Author.Needs.{needs}
-use Rattle.text.specs.Ascii.{ascii}
 use Rattle.text.specs.Compare.{same}
+use Rattle.mitex_state.specs.Texts.{heightName}
 use Rattle.mitex_images.proofs.is_size.Statement.{statement}
 use Rattle.mitex_images.proofs.is_size.Tie as tie
 
@@ -16,7 +16,7 @@ same-requires c κs = search needs
 returns : tie.Need-returns
 returns c =
     let at = c .before in
-    let key = at .before .before .before .args .key .now in ap (λ t. t || same key (ascii "height")) (sym (c .if1 .taken) ∙ at .same .ensures)
+    let key = at .before .before .before .args .key .now in ap (λ t. t || same key heightName) (sym (c .if1 .taken) ∙ at .same .ensures)
 
 slice-aggregate-same-2 : tie.Need-slice-aggregate-same-2
 slice-aggregate-same-2 c = search needs
@@ -29,7 +29,7 @@ returns-2 c =
     let other = c .before .before in
     let at = other .before in
     let key = at .before .before .before .args .key .now in
-    c .same2 .ensures ∙ ap (λ t. t || same key (ascii "height")) (sym (other .if1 .left) ∙ at .same .ensures)
+    c .same2 .ensures ∙ ap (λ t. t || same key heightName) (sym (other .if1 .left) ∙ at .same .ensures)
 
 pub is-size-spec : {M : Type 1} → statement M
 is-size-spec =

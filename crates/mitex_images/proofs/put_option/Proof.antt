@@ -6,13 +6,13 @@ use borrow.Author.Needs.{needs}
 use lib.ListN.{length}
 use lib.Seq.{length-take-le}
 use Rattle.text.proofs.Writing.{wrote-as}
-use Rattle.mitex_state.specs.Images.{equals}
+use Rattle.mitex_state.specs.Images.{equalsByte}
 use Rattle.mitex_images.proofs.Splitting.{index-most, option-is}
 use Rattle.mitex_images.proofs.put_option.Statement.{statement}
 use Rattle.mitex_images.proofs.put_option.Tie as tie
 
 within : (c : tie.After-index-of) → c .index-of .result ≤ length (c .before .trim .result .now)
-within c = omega (arith, c .index-of .ensures, index-most equals (c .before .trim .result .now))
+within c = omega (arith, c .index-of .ensures, index-most equalsByte (c .before .trim .result .now))
 
 trim-requires : tie.Need-trim-requires
 trim-requires c κs = search needs

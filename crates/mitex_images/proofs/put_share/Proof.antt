@@ -3,7 +3,7 @@ use mathlib.Core.Path.{ap}
 use mathlib.Core.List.{_++_}
 use borrow.Author.Needs.{needs}
 use Rattle.text.proofs.Writing.{wrote-as, wrote-then}
-use Rattle.mitex_state.specs.Images.{ofPage}
+use Rattle.mitex_state.specs.Texts.{ofPage}
 use Rattle.mitex_images.proofs.put_share.Statement.{statement}
 use Rattle.mitex_images.proofs.put_share.Tie as tie
 

@@ -5,7 +5,7 @@ use native.Mathlib.Omega.{arith}
 use borrow.Author.Needs.{needs}
 use lib.ListN.{length, take, drop}
 use Rattle.text.specs.Compare.{indexOf}
-use Rattle.mitex_state.specs.Images.{equals}
+use Rattle.mitex_state.specs.Images.{equalsByte}
 use Rattle.mitex_images.proofs.Splitting.{index-most, part-past, value-one, value-more}
 use Rattle.mitex_images.proofs.value_of.Statement.{statement}
 use Rattle.mitex_images.proofs.value_of.Tie as tie
@@ -13,7 +13,7 @@ use Rattle.mitex_images.proofs.value_of.Tie as tie
 behind :
     (c : tie.After-past)
     → let s = c .before .before .before .args .s .now in
-    take (length s - c .past .result) (drop (c .past .result) s) ≡ drop (indexOf equals s + 1) s
+    take (length s - c .past .result) (drop (c .past .result) s) ≡ drop (indexOf equalsByte s + 1) s
 behind c =
     let s = c .before .before .before .args .s .now in
     part-past s _ _ (c .past .ensures) ∙ ap (λ n. drop (n + 1) s) (c .before .index-of .ensures)
@@ -22,7 +22,7 @@ index-of-requires : tie.Need-index-of-requires
 index-of-requires c κs = search needs
 
 past-requires : tie.Need-past-requires
-past-requires c κs = omega (arith, c .index-of .ensures, index-most equals (c .before .before .args .s .now))
+past-requires c κs = omega (arith, c .index-of .ensures, index-most equalsByte (c .before .before .args .s .now))
 
 sub-v : tie.Need-sub-v
 sub-v c = search needs
@@ -43,7 +43,7 @@ returns : tie.Need-returns
 returns c =
     let at = c .before .before in
     let e = behind (at .before .before) in
-    value-more equals _ _ e (omega (arith, at .index-of2 .ensures, c .before .if1 .taken))
+    value-more equalsByte _ _ e (omega (arith, at .index-of2 .ensures, c .before .if1 .taken))
 
 trim-requires : tie.Need-trim-requires
 trim-requires c κs = search needs
@@ -52,7 +52,7 @@ returns-2 : tie.Need-returns-2
 returns-2 c =
     let at = c .before .before in
     let e = behind (at .before .before) in
-    c .trim .ensures ∙ value-one equals _ _ e (omega (arith, at .index-of2 .ensures, c .before .if1 .left))
+    c .trim .ensures ∙ value-one equalsByte _ _ e (omega (arith, at .index-of2 .ensures, c .before .if1 .left))
 
 pub value-of-spec : {M : Type 1} → statement M
 value-of-spec =

@@ -1,8 +1,7 @@
 -- `mitex_loops::close_math` meets its contract: each mode is computed.
 use mathlib.Core.Path.{ap, sym}
 use mathlib.Core.List.{_++_}
-use Rattle.text.specs.Ascii.{ascii}
-use Rattle.mitex_state.specs.Texts.{dollarEnd}
+use Rattle.mitex_state.specs.Texts.{rightParen, dollarEnd}
 use Rattle.mitex_loops.proofs.Closing.{closed-as}
 use borrow.Author.Needs.{needs}
 use Rattle.mitex_loops.proofs.close_math.Statement.{statement}
@@ -30,13 +29,17 @@ same-length : tie.Need-same-length
 same-length c = search needs
 
 returns : tie.Need-returns
-returns c = closed-as (sym (ap (λ m. ascii ")" ++ dollarEnd m) (c .before .before .before .before .before .enum-told .given .1))) (c .before .before .close .ensures)
+returns c =
+    closed-as (sym (ap (λ m. rightParen ++ dollarEnd m) (c .before .before .before .before .before .enum-told .given .1)))
+    (c .before .before .close .ensures)
 
 same-length-2 : tie.Need-same-length-2
 same-length-2 c = search needs
 
 returns-2 : tie.Need-returns-2
-returns-2 c = closed-as (sym (ap (λ m. ascii ")" ++ dollarEnd m) (c .before .before .before .before .before .enum-told2 .given .1))) (c .before .before .close2 .ensures)
+returns-2 c =
+    closed-as (sym (ap (λ m. rightParen ++ dollarEnd m) (c .before .before .before .before .before .enum-told2 .given .1)))
+    (c .before .before .close2 .ensures)
 
 pub close-math-spec : {M : Type 1} → statement M
 close-math-spec =

@@ -2,9 +2,9 @@
 use mathlib.Core.Path.{ap, _∙_}
 use mathlib.Core.List.{_++_}
 use borrow.Author.Needs.{needs}
-use Rattle.text.specs.Ascii.{ascii}
 use Rattle.text.specs.Writing.{decimal}
 use Rattle.text.proofs.Writing.{wrote-as, wrote-then}
+use Rattle.mitex_state.specs.Texts.{columnsBegin, alignBegin}
 use Rattle.mitex_state.specs.Tables.{columns, alignments}
 use Rattle.mitex_tables.proofs.Letters.{columns-parts}
 use Rattle.mitex_tables.proofs.put_columns.Statement.{statement}
@@ -45,8 +45,8 @@ returns c =
     let s = start .args .letters .now in
     let n = number .before .columns in
     wrote-as
-    (columns-parts (ascii "stroke: none,\ncolumns: ") (decimal (n .result)) (ascii ",\nalign: (") (alignments s)
-    ∙ ap (λ m. ascii "stroke: none,\ncolumns: " ++ (decimal m ++ (ascii ",\nalign: (" ++ alignments s))) (n .ensures .0))
+    (columns-parts columnsBegin (decimal (n .result)) alignBegin (alignments s)
+    ∙ ap (λ m. columnsBegin ++ (decimal m ++ (alignBegin ++ alignments s))) (n .ensures .0))
     (wrote-then h (wrote-then h (wrote-then h (first .put .ensures) (number .put-decimal .ensures)) (align .put2 .ensures)) (words .put-alignments .ensures))
 
 pub put-columns-spec : {M : Type 1} → statement M

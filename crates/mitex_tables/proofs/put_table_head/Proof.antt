@@ -1,8 +1,8 @@
 -- `put_table_head`: four parts, one after the other; the first is four itself (`head-parts`).
 use borrow.Author.Needs.{needs}
-use Rattle.text.specs.Ascii.{ascii}
 use Rattle.text.specs.Writing.{decimal}
 use Rattle.text.proofs.Writing.{wrote-as, wrote-then}
+use Rattle.mitex_state.specs.Texts.{lineFeed, columnsBegin, alignBegin, alignEnd}
 use Rattle.mitex_state.specs.Tables.{columns, alignments, vlines}
 use Rattle.mitex_tables.proofs.Letters.{head-parts}
 use Rattle.mitex_tables.proofs.put_table_head.Statement.{statement}
@@ -39,7 +39,7 @@ returns c =
     let h = start .pre .1 in
     let s = start .args .letters .now in
     wrote-as
-    (head-parts (ascii "stroke: none,\ncolumns: ") (decimal (columns s)) (ascii ",\nalign: (") (alignments s) (ascii "),\n") (vlines 0 s) (ascii "\n"))
+    (head-parts columnsBegin (decimal (columns s)) alignBegin (alignments s) alignEnd (vlines 0 s) lineFeed)
     (wrote-then h (wrote-then h (wrote-then h (first .put-columns .ensures) (close .put .ensures)) (lines .put-vlines .ensures)) (last .put2 .ensures))
 
 pub put-table-head-spec : {M : Type 1} → statement M

@@ -1,7 +1,7 @@
 -- `mitex_tokens::convert_space` meets its contract: by the flag.
 use mathlib.Core.Path.{ap, refl}
 use Rattle.text.proofs.Writing.{wrote-nil}
-use Rattle.mitex_state.specs.Tokens.{space}
+use Rattle.mitex_state.specs.Tokens.{whiteSpace}
 use Rattle.mitex_state.specs.State.{carryOf}
 use Rattle.mitex_state.proofs.Agreeing.{agrees-as, agrees-carried, agrees-done}
 use borrow.Author.Needs.{needs}
@@ -19,7 +19,7 @@ returns : tie.Need-returns
 returns c =
     let c₁ = c .before in
     let c₂ = c₁ .before .before .before .before in
-    λ row. agrees-as (ap (λ b. space b (c₂ .args .s .now) (carryOf (c₂ .args .c))) (c .before .before .if1 .taken))
+    λ row. agrees-as (ap (λ b. whiteSpace b (c₂ .args .s .now) (carryOf (c₂ .args .c))) (c .before .before .if1 .taken))
     (agrees-carried (c₁ .with-flag .result) (c .went .ensures) (c₁ .with-flag .ensures) refl (c₂ .pre .2) (wrote-nil _ _ (c₂ .pre .0)))
 
 put-requires : tie.Need-put-requires
@@ -36,7 +36,7 @@ returns-2 c =
     let c₁ = c .before .before .before in
     let c₂ = c₁ .before .before in
     let c₃ = c₂ .before .before .before in
-    λ row. agrees-as (ap (λ b. space b (c₃ .args .s .now) (carryOf (c₃ .args .c))) (c₂ .if1 .left))
+    λ row. agrees-as (ap (λ b. whiteSpace b (c₃ .args .s .now) (carryOf (c₃ .args .c))) (c₂ .if1 .left))
     (agrees-done (c₃ .args .c) (c .went2 .ensures) refl refl (c₃ .pre .2) (c₁ .put .ensures))
 
 pub convert-space-spec : {M : Type 1} → statement M

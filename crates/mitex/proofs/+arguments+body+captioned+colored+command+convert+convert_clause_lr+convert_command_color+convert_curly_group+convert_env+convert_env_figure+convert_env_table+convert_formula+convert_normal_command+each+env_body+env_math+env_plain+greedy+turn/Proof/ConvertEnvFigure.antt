@@ -1,8 +1,8 @@
 -- The needs of `convert_env_figure`.
 use Rattle.mitex_state.specs.State.{contextOf, carryOf}
 use Rattle.mitex_state.specs.Conversion.{convert as meaning}
-use Rattle.text.specs.Ascii.{ascii}
 use Rattle.mitex_state.specs.Outcome.{after, inEnv}
+use Rattle.mitex_state.specs.Texts.{leftParen, hash}
 use mathlib.Core.List.{_++_}
 use Rattle.mitex_state.specs.Environments.{lastCaption, captioned as captionedArm}
 use Rattle.mitex_state.specs.declared.LaTeXEnv.the-variants.{Figure as FigureEnv}
@@ -102,7 +102,7 @@ convert-env-figure-returns t c =
     let c₇ = c₆ .before .before in
     λ rs ready f sp n h.
     agrees-as
-    (ap (after (ascii "#" ++ (c₇ .args .name .now ++ ascii "(")))
+    (ap (after (hash ++ (c₇ .args .name .now ++ leftParen)))
     (sym
     (closing-nil
     (captionedArm (lastCaption 1 f) (meaning n) (inEnv FigureEnv (contextOf rs (c₇ .args .c))) f (carryOf (c₇ .args .c))))))
