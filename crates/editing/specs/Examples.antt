@@ -11,7 +11,8 @@ use Rattle.text.specs.Compare.{same}
 use Rattle.mitex_state.specs.Outcome.{Carry, Outcome, flagged, labelled}
 use Rattle.mitex_state.specs.Outcome.Label.{unheld, held}
 use Rattle.mitex_state.specs.Outcome.Outcome.{done, refused as declined}
-use Rattle.ledger.specs.Ledger.{labelBytes, encodeCarry, encodeRow, decodeRow, allZero, marksFit, rowFits, fits, moveRow, sameCarry}
+use Rattle.mitex_state.specs.Keeping.{labelBytes}
+use Rattle.ledger.specs.Ledger.{encodeCarry, encodeRow, decodeRow, allZero, marksFit, rowFits, fits, moveRow, sameCarry}
 use Rattle.editing.specs.Walk.{Checked, Converter, walk, walkUntil}
 use Rattle.editing.specs.Walk.Checked.{bad, good}
 use Rattle.editing.specs.Edit.{Answer, Result, roomForText, room, settle, conversion, convertDocument, editFits, textAfter, ledgerAfter, write, again, edit}

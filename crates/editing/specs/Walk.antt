@@ -7,7 +7,8 @@ use mathlib.Core.List.{List, [], _∷_}
 use Prim.Native.Nat.{ℕ, suc, _+_}
 use Rattle.mitex_state.specs.Outcome.{Carry, Outcome}
 use Rattle.mitex_state.specs.Outcome.Outcome.{refused, done}
-use Rattle.ledger.specs.Ledger.{Short, sameCarry, Piece}
+use Rattle.mitex_state.specs.Keeping.{Short}
+use Rattle.ledger.specs.Ledger.{sameCarry, Piece}
 
 -- a tree file checked: refused with a number and a row, or its blocks
 pub data Checked (Block : Type 0) : Type 0 where

@@ -10,7 +10,8 @@ use Rattle.text.proofs.Compare.{same-refl, same-true}
 use Rattle.mitex_state.specs.Outcome.{Label, Carry}
 use Rattle.mitex_state.specs.Outcome.Label.{unheld, held}
 use Rattle.mitex_state.specs.State.{labelOf}
-use Rattle.ledger.specs.Ledger.{isHeld, labelBytes, sameLabel, sameCarry}
+use Rattle.mitex_state.specs.Keeping.{labelBytes}
+use Rattle.ledger.specs.Ledger.{isHeld, sameLabel, sameCarry}
 
 beq-true : (a b : Bool) → Bool·beq a b ≡ true → a ≡ b
 beq-true true true e = refl

@@ -6,8 +6,9 @@ use Prim.Native.Nat.{ℕ}
 use Rattle.mitex_state.specs.Outcome.{Label, Carry, flagged, labelled}
 use Rattle.mitex_state.specs.Outcome.Label.{unheld, held}
 use Rattle.mitex_state.specs.State.{carryOf, Carried}
+use Rattle.mitex_state.specs.Keeping.{labelBytes}
 use Rattle.mitex_state.specs.declared.Converter.{Converter}
-use Rattle.ledger.specs.Ledger.{isHeld, labelBytes}
+use Rattle.ledger.specs.Ledger.{isHeld}
 
 label-held : (a : Label) {b : List ℕ} → isHeld a ≡ true → b ≡ labelBytes a → held b ≡ a
 label-held unheld h e = absurd (false≢true h)

@@ -15,7 +15,8 @@ use Rattle.text.specs.Numbers.{fourAt}
 use Rattle.text.proofs.Numbers.{fourAt-drop}
 use Rattle.mitex_state.specs.Outcome.{labelMost}
 use Rattle.mitex_state.specs.State.{labelOf}
-use Rattle.ledger.specs.Ledger.{rowSize, isHeld, labelBytes, Short, decodeRow, rowAt, allZero, marksFit, rowFits}
+use Rattle.mitex_state.specs.Keeping.{labelBytes, Short}
+use Rattle.ledger.specs.Ledger.{rowSize, isHeld, decodeRow, rowAt, allZero, marksFit, rowFits}
 
 isHeld-labelOf : (b : Bool) (n : ℕ) (l : List ℕ) → isHeld (labelOf b n l) ≡ b
 isHeld-labelOf true n l = refl

@@ -15,7 +15,8 @@ use Rattle.text.proofs.Numbers.{fourAt-four}
 use Rattle.mitex_state.specs.Outcome.{Label, Carry, labelMost}
 use Rattle.mitex_state.specs.Outcome.Label.{unheld, held}
 use Rattle.mitex_state.specs.State.{labelOf}
-use Rattle.ledger.specs.Ledger.{Row, rowSize, mark, isHeld, labelBytes, Short, encodeCarry, encodeRow, encodeRows, decodeRow, decodeRows, allZero, marksFit, rowFits, rowsFit, fits, moveRow, moveRows, Piece, written, rowsFrom}
+use Rattle.mitex_state.specs.Keeping.{labelBytes, Short}
+use Rattle.ledger.specs.Ledger.{Row, rowSize, mark, isHeld, encodeCarry, encodeRow, encodeRows, decodeRow, decodeRows, allZero, marksFit, rowFits, rowsFit, fits, moveRow, moveRows, Piece, written, rowsFrom}
 
 -- rows that can be written
 pub record Encodable (r : Row) : Type 0 where

@@ -13,8 +13,9 @@ use Rattle.text.specs.Numbers.{four}
 use Rattle.text.proofs.Writing.{sets-append}
 use Rattle.mitex_state.specs.Outcome.{labelMost}
 use Rattle.mitex_state.specs.State.{labelOf, carryOf}
+use Rattle.mitex_state.specs.Keeping.{labelBytes, Short}
 use Rattle.mitex_state.specs.declared.Converter.{Converter}
-use Rattle.ledger.specs.Ledger.{Row, rowSize, mark, isHeld, labelBytes, Short, encodeCarry, encodeRow, HasRow, rowAt, decodeRow, moveRow}
+use Rattle.ledger.specs.Ledger.{Row, rowSize, mark, isHeld, encodeCarry, encodeRow, HasRow, rowAt, decodeRow, moveRow}
 use Rattle.ledger.proofs.Rows.{encodeRow-length}
 
 -- ---- zeros, from a place to the next

@@ -17,6 +17,7 @@ use Rattle.text.specs.Compare.{same}
 use Rattle.mitex_state.specs.Outcome.{Label, Carry, labelMost}
 use Rattle.mitex_state.specs.Outcome.Label.{unheld, held}
 use Rattle.mitex_state.specs.State.{labelOf}
+use Rattle.mitex_state.specs.Keeping.{labelBytes}
 
 abbrev pub rowSize : ℕ
 rowSize = 8 + labelMost
@@ -34,14 +35,6 @@ mark false = 0
 abbrev pub isHeld : Label → Bool
 isHeld unheld = false
 isHeld (held b) = true
-
-abbrev pub labelBytes : Label → List ℕ
-labelBytes unheld = []
-labelBytes (held b) = b
-
--- a label that has room in a row
-abbrev pub Short : Carry → Type 0
-Short c = length (labelBytes (c .label)) ≤ labelMost
 
 -- a row behind its length
 unfoldable pub encodeCarry : Carry → List ℕ

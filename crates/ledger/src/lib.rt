@@ -15,7 +15,8 @@ ghost use lib.Seq.{sets};
 ghost use Rattle.text.specs.Compare.{same};
 ghost use Rattle.mitex_state.specs.Outcome.{labelMost};
 ghost use Rattle.mitex_state.specs.State.{carryOf, Carried};
-ghost use Rattle.ledger.specs.Ledger.{rowSize, mark, isHeld, labelBytes, encodeRow, HasRow, RowFits, rowAt, allZero, marksFit, rowFits, fits, Movable, moveRow, moveRows, sameLabel, sameCarry};
+ghost use Rattle.mitex_state.specs.Keeping.{labelBytes};
+ghost use Rattle.ledger.specs.Ledger.{rowSize, mark, isHeld, encodeRow, HasRow, RowFits, rowAt, allZero, marksFit, rowFits, fits, Movable, moveRow, moveRows, sameLabel, sameCarry};
 
 // The bytes of a row.
 pub const ROW_SIZE: usize = 8 + LABEL_MOST;

@@ -18,7 +18,7 @@ use Rattle.mitex_syntax.specs.Tree.{Tree, Forest, size, sizes, textOf, textsOf}
 use Rattle.mitex_syntax.specs.Tree.Tree.{token, node}
 use Rattle.mitex_syntax.specs.Tree.Forest.{none, more}
 use Rattle.mitex_syntax.specs.Spells.{SpellsAll}
-use Rattle.mitex_syntax.specs.Views.{isOf, envName, textIn, inner, firstBy, firstOf, childrenOf, childrenIn, beginOf}
+use Rattle.mitex_syntax.specs.Views.{isOf, envName, textIn, inner, firstBy, firstOf, childrenOf, childrenIn, beginOf, goodEnds}
 use Rattle.mitex_syntax.proofs.Trees.{size-more, length-rowss}
 use Rattle.mitex_state.specs.Outcome.{Context, Carry, Outcome, Conv, after, closing, inEnv, stepOf}
 use Rattle.mitex_state.specs.Outcome.Outcome.{refused}
@@ -26,7 +26,7 @@ use Rattle.mitex_state.specs.Texts.{leftParen, hash}
 use Rattle.mitex_state.specs.Contract.{Place, Agrees}
 use Rattle.mitex_state.specs.Contract.Agrees.{declines, accepts}
 use Rattle.mitex_state.specs.Children.{each}
-use Rattle.mitex_state.specs.Tables.{hasEnds, lettersFit, tableHead}
+use Rattle.mitex_state.specs.Tables.{lettersFit, tableHead}
 use Rattle.mitex_state.specs.Environments.{Caption, isCaption, captionAt, orLater, lastCaption, captioned, tableBy, tableWith, envOf, envWith, envBy, environment}
 use Rattle.mitex_state.specs.Environments.Caption.{absent, bare, caption}
 use Rattle.mitex_state.specs.Parts.{CaptionStands, CaptionFound}
@@ -116,20 +116,20 @@ captioned-as k conv x f c e = ap (λ (p : Caption). captioned p conv x f c) e
 -- ---- tables
 
 pub table-bad :
-    (o : Option Tree) (w s : List ℕ) (conv : Conv) (x : Context) (f : Forest) (c : Carry) → s ≡ textIn o → hasEnds s ≡ false
+    (o : Option Tree) (w s : List ℕ) (conv : Conv) (x : Context) (f : Forest) (c : Carry) → s ≡ textIn o → goodEnds s ≡ false
     → tableBy w o conv x f c ≡ refused 12 0
 table-bad nothing w s conv x f c e h = refl
 table-bad (some t) w s conv x f c e h =
-    ap (λ (b : Bool). cond b (tableWith w (trim (inner (textIn (some t)))) conv x f c) (refused 12 0)) (ap hasEnds (sym e) ∙ h)
+    ap (λ (b : Bool). cond b (tableWith w (trim (inner (textIn (some t)))) conv x f c) (refused 12 0)) (ap goodEnds (sym e) ∙ h)
 
 pub table-letters :
-    (o : Option Tree) (w s l : List ℕ) (conv : Conv) (x : Context) (f : Forest) (c : Carry) → s ≡ textIn o → hasEnds s ≡ true
+    (o : Option Tree) (w s l : List ℕ) (conv : Conv) (x : Context) (f : Forest) (c : Carry) → s ≡ textIn o → goodEnds s ≡ true
     → l ≡ trim (inner s) → tableBy w o conv x f c ≡ tableWith w l conv x f c
 table-letters nothing w s l conv x f c e h i =
-    let z : _≡_ {A = Bool} false true = ap hasEnds (sym e) ∙ h in
+    let z : _≡_ {A = Bool} false true = ap goodEnds (sym e) ∙ h in
     let y : _≡_ {A = ℕ} 0 1 = cc in absurd (omega arith)
 table-letters (some t) w s l conv x f c e h i =
-    ap (λ (b : Bool). cond b (tableWith w (trim (inner (textIn (some t)))) conv x f c) (refused 12 0)) (ap hasEnds (sym e) ∙ h)
+    ap (λ (b : Bool). cond b (tableWith w (trim (inner (textIn (some t)))) conv x f c) (refused 12 0)) (ap goodEnds (sym e) ∙ h)
     ∙ ap (λ (r : List ℕ). tableWith w (trim (inner r)) conv x f c) (sym e)
     ∙ ap (λ (r : List ℕ). tableWith w r conv x f c) (sym i)
 

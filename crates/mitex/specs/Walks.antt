@@ -5,12 +5,12 @@ use mathlib.Core.List.{List}
 use lib.ListN.{length}
 use Rattle.text.specs.Writing.{cap}
 use Rattle.mitex_spec.specs.Rules.{Rule, getCmd}
-use Rattle.mitex_spec.specs.Index.{Ready, SomeRules}
+use Rattle.mitex_spec.specs.Index.{Ready}
 use Rattle.mitex_syntax.specs.Tree.{Tree, Forest, size, sizes}
-use Rattle.mitex_syntax.specs.Spells.{Spells, SpellsAll, SomeTree}
-use Rattle.mitex_state.specs.Outcome.{Context, Carry, Outcome, Arm, labelMost}
+use Rattle.mitex_syntax.specs.Spells.{Spells, SpellsAll}
+use Rattle.mitex_state.specs.Outcome.{Arm, labelMost}
 use Rattle.mitex_state.specs.State.{contextOf, carryOf}
-use Rattle.mitex_state.specs.Contract.{Place, placeOf, Agrees}
+use Rattle.mitex_state.specs.Contract.{placeOf, Agrees}
 use Rattle.mitex_state.specs.Children.{turn, each}
 use Rattle.mitex_state.specs.Colors.{Model, colored, withModel, colorAlias}
 use Rattle.mitex_state.specs.Environments.{lastCaption, captioned}

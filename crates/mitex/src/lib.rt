@@ -3,7 +3,7 @@
 // and the text of a node's children, and the row of the node itself.
 ghost use mathlib.Core.Path.{_≡_};
 ghost use Prim.Native.Nat.{_+_, _≤_};
-ghost use lib.ListN.{length, drop};
+ghost use lib.ListN.{length};
 ghost use Rattle.text.specs.Writing.{cap};
 ghost use Rattle.mitex_spec.specs.Index.{SomeRules};
 ghost use Rattle.mitex_syntax.specs.Spells.{SomeTree};

@@ -8,11 +8,11 @@ use native.Mathlib.Omega.{arith}
 use lib.Dec.{eqb}
 use Rattle.mitex_syntax.specs.Syntax.{ItemBegin, TokenCommandSym}
 use Rattle.mitex_syntax.specs.Tree.{Tree, Forest}
-use Rattle.mitex_syntax.specs.Views.{firstBy, isOf, childrenOf, childrenIn, firstTokens, kindIn, cmdName}
+use Rattle.mitex_syntax.specs.Views.{firstBy, isOf, childrenOf, childrenIn, firstTokens, kindIn, cmdName, goodEnds}
 use Rattle.mitex_syntax.specs.Places.{Placed, partAt}
 use Rattle.mitex_syntax.specs.Places.Placed.{missing, there}
 use Rattle.mitex_syntax.specs.declared.Place.{Place}
-use Rattle.mitex_parser.specs.Shape.{isSome, slashed, goodEnds, endsIn, argumentsFit, cmdFits, envFits}
+use Rattle.mitex_parser.specs.Shape.{isSome, slashed, endsIn, argumentsFit, cmdFits, envFits}
 use Rattle.mitex_parser.specs.Parts.{isThere}
 
 module _ {p : Tree → Bool} {f : Forest} {rows text : List ℕ} {i : ℕ} where

@@ -15,8 +15,8 @@ use Rattle.mitex_syntax.specs.Syntax.{ItemBracket, ItemCurly, ClauseArgument, C
 use Rattle.mitex_syntax.specs.Tree.{Tree, Forest, size, sizes}
 use Rattle.mitex_syntax.specs.Tree.Tree.{token, node}
 use Rattle.mitex_syntax.specs.Tree.Forest.{none, more}
-use Rattle.mitex_syntax.specs.Views.{firstOf, kindIn, textIn, cmdName, beginOf, firstTokens, argumentWith}
-use Rattle.mitex_parser.specs.Shape.{slashed, goodEnds, labelName, includegraphicsName, colorName, symFits, lrFits, isSome, allNodes, endsIn, imageFits, argumentsFit, nodeFits, orElse, unless, lowest, lowests, Shaped, ShapedAll}
+use Rattle.mitex_syntax.specs.Views.{firstOf, kindIn, textIn, cmdName, beginOf, firstTokens, argumentWith, goodEnds}
+use Rattle.mitex_parser.specs.Shape.{slashed, labelName, includegraphicsName, colorName, symFits, lrFits, isSome, allNodes, endsIn, imageFits, argumentsFit, nodeFits, orElse, unless, lowest, lowests, Shaped, ShapedAll}
 use Rattle.mitex_parser.proofs.Grow.{no-some}
 use Rattle.mitex_parser.proofs.Rows.{and-split, T-is}
 

@@ -3,17 +3,17 @@
 use mathlib.Core.Bool.{Bool, true, false, _&&_, _||_, not, cond}
 use mathlib.Core.Option.{Option}
 use mathlib.Core.Option.Option.{none as nothing, some}
-use Prim.Native.Nat.{ℕ, _+_, _-_}
+use Prim.Native.Nat.{ℕ, _+_}
 use mathlib.Core.List.{List}
-use lib.ListN.{length, getD}
-use lib.Dec.{T, eqb, leb}
+use lib.ListN.{getD}
+use lib.Dec.{T, eqb}
 use Rattle.text.specs.Ascii.{ascii}
 use Rattle.text.specs.Compare.{same}
 use Rattle.mitex_syntax.specs.Syntax.{ClauseArgument, ItemBracket, ItemCurly, ClauseLR, ItemBegin, ItemEnd, TokenCommandSym, ItemCmd, ItemEnv}
 use Rattle.mitex_syntax.specs.Tree.{Tree, Forest, size, textOf}
 use Rattle.mitex_syntax.specs.Tree.Tree.{token, node}
 use Rattle.mitex_syntax.specs.Tree.Forest.{none, more}
-use Rattle.mitex_syntax.specs.Views.{firstOf, kindIn, textIn, cmdName, beginOf, firstTokens, argumentWith}
+use Rattle.mitex_syntax.specs.Views.{firstOf, kindIn, textIn, cmdName, beginOf, firstTokens, argumentWith, goodEnds}
 
 abbrev pub backslash : ℕ
 backslash = 92
@@ -21,14 +21,6 @@ backslash = 92
 -- the text begins with a backslash
 abbrev pub slashed : List ℕ → Bool
 slashed s = eqb (getD s 0 0) backslash
-
--- one-byte characters are at most this
-abbrev pub oneByte : ℕ
-oneByte = 127
-
--- the text has 2 bytes or more, both ends one-byte characters
-abbrev pub goodEnds : List ℕ → Bool
-goodEnds s = leb 2 (length s) && (leb (getD s 0 0) oneByte && leb (getD s (length s - 1) 0) oneByte)
 
 -- the commands whose arguments have rules
 abbrev pub labelName : List ℕ

@@ -2,7 +2,7 @@
 -- how many they are. A row has the length of the rule's name (2 bytes), that of its alias (2; 65,535 is no alias), its
 -- class (1) and three zeros. Names and aliases fill the text area in the order of the rows. `rulesOf` reads a file,
 -- `fileOfRules` writes one; proofs/RuleFile.antt says that each undoes the other (`rules-file`, `file-rules`).
-use mathlib.Core.Bool.{Bool, true, false, _&&_, cond}
+use mathlib.Core.Bool.{Bool, true, _&&_, cond}
 use mathlib.Core.Option.{Option}
 use mathlib.Core.Option.Option.{none, some}
 use Prim.Native.Nat.{ℕ, zero, suc, _+_, _*_, _-_}

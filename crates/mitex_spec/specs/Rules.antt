@@ -1,5 +1,5 @@
 -- The rules of a conversion: what `get_cmd` and `get_env` of mitex-spec answer.
-use mathlib.Core.Bool.{Bool, true, false, cond}
+use mathlib.Core.Bool.{cond}
 use mathlib.Core.Option.{Option}
 use mathlib.Core.Option.Option.{none, some}
 use Prim.Native.Nat.{ℕ}

@@ -16,7 +16,7 @@ use Rattle.mitex_syntax.specs.Syntax.{TokenError, ClauseArgument, ClauseCommand
 use Rattle.mitex_syntax.specs.Tree.{Tree, Forest, size, kindOf, textOf}
 use Rattle.mitex_syntax.specs.Tree.Tree.{token, node}
 use Rattle.mitex_syntax.specs.Tree.Forest.{none, more}
-use Rattle.mitex_syntax.specs.Views.{cmdName, firstOf, offsetOf, childrenIn, envName, beginOf, inner, isValid, firstBy}
+use Rattle.mitex_syntax.specs.Views.{cmdName, firstOf, offsetOf, childrenIn, envName, beginOf, inner, isValid, firstBy, goodEnds}
 use Rattle.mitex_state.specs.Outcome.{Context, Carry, Outcome, Conv, Arm, after, andThen, closing, shift, flagged, labelled, labelMost}
 use Rattle.mitex_state.specs.Outcome.Label.{unheld}
 use Rattle.mitex_state.specs.Outcome.Outcome.{refused, done}
@@ -25,7 +25,7 @@ use Rattle.mitex_state.specs.Children.{actOf, nextLoop, before, behind, 
 use Rattle.mitex_state.specs.Groups.{children, formula, curlyIn, curlyGroup, clauseLr, attachComponent}
 use Rattle.mitex_state.specs.Colors.{Model, greedyModel, argumentModel, colored, withModel, colorAlias, bodyLoop, argumentsLoop}
 use Rattle.mitex_state.specs.Commands.{itemIn, labelNow, labelHeld, labelIn, typstName, isArgument, greedyIn, argumentsOf, argumentsBy, stackEnv, written, normalBy, commandOf, commandBy}
-use Rattle.mitex_state.specs.Tables.{lettersFit, hasEnds}
+use Rattle.mitex_state.specs.Tables.{lettersFit}
 use Rattle.mitex_state.specs.Environments.{Caption, absent, bare, caption, lastCaption, mathEnv, captioned, tableBy, takeLabel, envOf, plainEnv, envBody, isList, envBy}
 use Rattle.mitex_state.specs.Conversion.{elementOf, armBy, step, convert, levels, startContext, blocksFrom}
 use Rattle.mitex_state.specs.Keeping.{Short, isWalkNumber, Kept, Keeps}
@@ -235,7 +235,7 @@ module _ (conv : Conv) (h : KeepsConv conv) (x : Context) (f : Forest) where
   keeps-table : (w : List ℕ) (t : Option Tree) → Keeps (tableBy w t conv x f)
   keeps-table w nothing c = stops tt
   keeps-table w (some t) c =
-      kept-cond (hasEnds (textOf t))
+      kept-cond (goodEnds (textOf t))
       (λ e. kept-cond (lettersFit (trim (inner (textOf t)))) (λ e′. kept-after _ (keeps-each (conv _) (h _) 1 _ f c)) (stops tt))
       (stops tt)
 

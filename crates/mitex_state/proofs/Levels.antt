@@ -14,7 +14,7 @@ use Rattle.mitex_syntax.specs.Syntax.{ClauseArgument, ItemBegin}
 use Rattle.mitex_syntax.specs.Tree.{Tree, Forest, size, sizes, kindOf, textOf}
 use Rattle.mitex_syntax.specs.Tree.Tree.{token, node}
 use Rattle.mitex_syntax.specs.Tree.Forest.{none, more}
-use Rattle.mitex_syntax.specs.Views.{cmdName, firstOf, offsetOf, childrenIn, envName, beginOf, inner, isValid, firstBy}
+use Rattle.mitex_syntax.specs.Views.{cmdName, firstOf, offsetOf, childrenIn, envName, beginOf, inner, isValid, firstBy, goodEnds}
 use Rattle.mitex_syntax.proofs.Trees.{size-some, size-node, size-more}
 use Rattle.mitex_state.specs.Outcome.{Context, Carry, Outcome, Conv, Arm, after, andThen, closing, shift, inMode, inEnv, flagged}
 use Rattle.mitex_state.specs.Outcome.Outcome.{refused, done}
@@ -22,7 +22,7 @@ use Rattle.mitex_state.specs.Children.{actOf, nextLoop, before, behind, 
 use Rattle.mitex_state.specs.Groups.{groupEnv, curlyIn, clauseLr}
 use Rattle.mitex_state.specs.Colors.{Model, greedyModel, argumentModel, colored, withModel, colorAlias, bodyLoop, argumentsLoop}
 use Rattle.mitex_state.specs.Commands.{isArgument, greedyIn, typstName, argumentsOf, argumentsBy, stackEnv, normalBy, commandOf, commandBy}
-use Rattle.mitex_state.specs.Tables.{lettersFit, hasEnds}
+use Rattle.mitex_state.specs.Tables.{lettersFit}
 use Rattle.mitex_state.specs.Environments.{Caption, absent, bare, caption, lastCaption, mathEnv, captioned, tableBy, isList, takeLabel, envOf, envBody, envBy}
 use Rattle.mitex_state.specs.Conversion.{elementOf, armBy, step, convert}
 use Rattle.mitex_state.specs.declared.LaTeXMode.{LaTeXMode}
@@ -155,7 +155,7 @@ module _ (n : ℕ) (conv conv′ : Conv) (agree : (x : Context) → Same n (conv
   same-table : (w : List ℕ) (t : Option Tree) → SameArm (tableBy w t)
   same-table w nothing x f c h = refl
   same-table w (some t) x f c h =
-      if-holds (hasEnds (textOf t)) (refused 12 0)
+      if-holds (goodEnds (textOf t)) (refused 12 0)
       (if-holds (lettersFit (trim (inner (textOf t)))) (refused 13 0) (ap (after _) (loops (inEnv TableEnv x) 1 _ f c h)))
 
   same-body : (e : LaTeXEnv) (w : List ℕ) → SameArm (envBody e w)

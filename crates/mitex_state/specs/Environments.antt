@@ -11,14 +11,14 @@ use Rattle.mitex_spec.specs.Rules.{Rule, getEnv, writtenName}
 use Rattle.mitex_syntax.specs.Syntax.{ClauseArgument, ItemBegin, ItemCmd}
 use Rattle.mitex_syntax.specs.Tree.{Tree, Forest, size, kindOf, textOf}
 use Rattle.mitex_syntax.specs.Tree.Forest.{none, more}
-use Rattle.mitex_syntax.specs.Views.{childrenOf, cmdName, firstOf, offsetOf, envName, beginOf, inner}
+use Rattle.mitex_syntax.specs.Views.{childrenOf, cmdName, firstOf, offsetOf, envName, beginOf, inner, goodEnds}
 use Rattle.mitex_state.specs.Outcome.{Context, Label, Carry, Outcome, Arm, after, andThen, closing, shift, inMode, inEnv, labelled}
 use Rattle.mitex_state.specs.Outcome.Label.{unheld, held}
 use Rattle.mitex_state.specs.Outcome.Outcome.{refused, done}
 use Rattle.mitex_state.specs.Texts.{leftParen, rightParen, leftBracket, hash, bodyBegin, blockEnd}
 use Rattle.mitex_state.specs.Texts.{dollarBegin, dollarEnd, labelMark, captionBegin, captionEnd, captionName}
 use Rattle.mitex_state.specs.Children.{each}
-use Rattle.mitex_state.specs.Tables.{lettersFit, tableHead, hasEnds}
+use Rattle.mitex_state.specs.Tables.{lettersFit, tableHead}
 use Rattle.mitex_state.specs.declared.LaTeXMode.{LaTeXMode}
 use Rattle.mitex_state.specs.declared.LaTeXMode.the-variants.{Text, Math}
 use Rattle.mitex_state.specs.declared.LaTeXEnv.{LaTeXEnv}
@@ -120,7 +120,7 @@ tableWith w letters conv x f c =
 -- the first argument, its ends cut, trimmed
 abbrev pub tableBy : List ℕ → Option Tree → Arm
 tableBy w nothing conv x f c = refused 12 0
-tableBy w (some t) conv x f c = cond (hasEnds (textOf t)) (tableWith w (trim (inner (textOf t))) conv x f c) (refused 12 0)
+tableBy w (some t) conv x f c = cond (goodEnds (textOf t)) (tableWith w (trim (inner (textOf t))) conv x f c) (refused 12 0)
 
 abbrev pub tableEnv : List ℕ → Arm
 tableEnv w conv x f c = tableBy w (firstOf ClauseArgument (beginOf f)) conv x f c

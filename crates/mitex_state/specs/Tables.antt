@@ -1,9 +1,8 @@
 -- The head of a table: its column letters l, c, r and |, and the lines that are written for them.
 use mathlib.Core.Bool.{Bool, true, _&&_, _||_, cond}
 use mathlib.Core.List.{List, [], _∷_, _++_}
-use Prim.Native.Nat.{ℕ, _+_, _-_}
-use lib.ListN.{length, getD}
-use lib.Dec.{eqb, leb}
+use Prim.Native.Nat.{ℕ, _+_}
+use lib.Dec.{eqb}
 use Rattle.text.specs.Writing.{decimal}
 use Rattle.mitex_state.specs.Texts.{lineFeed, columnsBegin, alignBegin, alignLeft}
 use Rattle.mitex_state.specs.Texts.{alignCenter, alignRight, alignEnd, vlineBegin, vlineEnd}
@@ -44,7 +43,3 @@ tableHead letters =
     columnsBegin
     ++ (decimal (columns letters)
     ++ (alignBegin ++ (alignments letters ++ (alignEnd ++ (vlines 0 letters ++ lineFeed)))))
-
--- an argument of 2 bytes or more with one-byte ends
-abbrev pub hasEnds : List ℕ → Bool
-hasEnds s = leb 2 (length s) && (leb (getD s 0 0) 127 && leb (getD s (length s - 1) 0) 127)

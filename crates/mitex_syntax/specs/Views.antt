@@ -4,8 +4,8 @@ use mathlib.Core.Option.{Option}
 use mathlib.Core.Option.Option.{none as nothing, some}
 use Prim.Native.Nat.{ℕ, _+_, _-_}
 use mathlib.Core.List.{List, []}
-use lib.ListN.{length, take, drop}
-use lib.Dec.{eqb}
+use lib.ListN.{length, take, drop, getD}
+use lib.Dec.{eqb, leb}
 use Rattle.text.specs.Ascii.{ascii}
 use Rattle.text.specs.Compare.{same}
 use Rattle.mitex_syntax.specs.Syntax.{ClauseArgument, ClauseCommandName, ItemBegin, TokenDollar, TokenBeginMath, TokenEndMath, isTrivia}
@@ -155,3 +155,11 @@ isValid f = dollarEnds f || mathEnds f
 -- a text without its first and its last byte
 abbrev pub inner : List ℕ → List ℕ
 inner s = take (length s - 2) (drop 1 s)
+
+-- one-byte characters are at most this
+abbrev pub oneByte : ℕ
+oneByte = 127
+
+-- the text has 2 bytes or more, both ends one-byte characters
+abbrev pub goodEnds : List ℕ → Bool
+goodEnds s = leb 2 (length s) && (leb (getD s 0 0) oneByte && leb (getD s (length s - 1) 0) oneByte)

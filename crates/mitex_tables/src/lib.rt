@@ -4,7 +4,8 @@ ghost use mathlib.Core.Bool.{_||_};
 ghost use Prim.Native.Nat.{_+_, _≤_, _<_};
 ghost use lib.ListN.{length};
 ghost use Rattle.text.specs.Writing.{cap, Wrote};
-ghost use Rattle.mitex_state.specs.Tables.{isColumn, isLine, lettersFit, columns, alignment, alignments, vlines, tableHead, hasEnds};
+ghost use Rattle.mitex_syntax.specs.Views.{goodEnds};
+ghost use Rattle.mitex_state.specs.Tables.{isColumn, isLine, lettersFit, columns, alignment, alignments, vlines, tableHead};
 ghost use Rattle.mitex_tables.specs.Letters.{counted, vline, columnsPart};
 
 // ---- the letters
@@ -80,7 +81,7 @@ pub fn columns(s: &[u8]) -> usize
 
 // Whether an argument has 2 bytes or more and one-byte ends, which can be cut off.
 pub fn has_ends(s: &[u8]) -> bool
-    ensures { λ r. ⌜ r ≡ hasEnds (now (s .entry)) ⌝ }
+    ensures { λ r. ⌜ r ≡ goodEnds (now (s .entry)) ⌝ }
 {
     if s.len() < 2 {
         return false;

@@ -1,6 +1,5 @@
 // Replays tree files and compares what the check answers. Standard input holds the cases, one after the other: the number of the
 // refusal (0: accepted), its row and the file's length, each in four bytes, and the file.
-ghost use mathlib.Core.Path.{_≡_};
 ghost use Prim.Native.Nat.{_+_, _≤_, _<_};
 use mitex_parser::Checked;
 use mitex_parser::check_tree;

@@ -1,7 +1,7 @@
 -- A place that is there has the text that `endsIn` asks; one that is not leaves it free.
 use mathlib.Core.Path.{sym, ap, _∙_}
 use Rattle.mitex_syntax.proofs.Places.{place-inside}
-use Rattle.mitex_parser.specs.Shape.{goodEnds}
+use Rattle.mitex_syntax.specs.Views.{goodEnds}
 use Rattle.mitex_parser.proofs.Rules.{place-ends, place-free}
 use borrow.Author.Needs.{needs}
 use Rattle.mitex_parser.proofs.bracket_fits.Statement.{statement}

@@ -1,7 +1,7 @@
 -- The text at the place of the first argument is what `goodEnds` is asked (`place-text`).
 use mathlib.Core.Path.{ap, _∙_}
 use Rattle.mitex_syntax.proofs.Places.{place-text, place-inside}
-use Rattle.mitex_parser.specs.Shape.{goodEnds}
+use Rattle.mitex_syntax.specs.Views.{goodEnds}
 use borrow.Author.Needs.{needs}
 use Rattle.mitex_parser.proofs.label_fits.Statement.{statement}
 use Rattle.mitex_parser.proofs.label_fits.Tie as tie

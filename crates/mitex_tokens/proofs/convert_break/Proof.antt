@@ -3,7 +3,6 @@ use mathlib.Core.Path.{refl}
 use Rattle.text.proofs.Writing.{wrote-then}
 use Rattle.mitex_state.proofs.Agreeing.{agrees-carried}
 use borrow.Author.Needs.{needs}
-use borrow.Author.Needs.{needs}
 use Rattle.mitex_tokens.proofs.convert_break.Statement.{statement}
 use Rattle.mitex_tokens.proofs.convert_break.Tie as tie
 

@@ -5,7 +5,6 @@ use Rattle.mitex_state.specs.Tokens.{whiteSpace}
 use Rattle.mitex_state.specs.State.{carryOf}
 use Rattle.mitex_state.proofs.Agreeing.{agrees-as, agrees-carried, agrees-done}
 use borrow.Author.Needs.{needs}
-use borrow.Author.Needs.{needs}
 use Rattle.mitex_tokens.proofs.convert_space.Statement.{statement}
 use Rattle.mitex_tokens.proofs.convert_space.Tie as tie
 

@@ -8,19 +8,23 @@ use Rattle.mitex_state.specs.Tokens.{symbolBy}
 use Rattle.mitex_state.specs.State.{carryOf}
 use Rattle.mitex_state.proofs.Agreeing.{agrees-as, agrees-here}
 use Rattle.mitex_tokens.proofs.Tokens.{alias-inside, symbol-absent, symbol-aliased, symbol-plain}
-use borrow.Author.Needs.{needs}
 use Rattle.mitex_spec.specs.Rules.{getCmd}
 use Rattle.mitex_state.specs.Outcome.{flagged}
 use borrow.Author.Needs.{needs}
 use Rattle.mitex_tokens.proofs.convert_symbol.Statement.{statement}
 use Rattle.mitex_tokens.proofs.convert_symbol.Tie as tie
 
+-- the function's entry
+abbrev start : tie.After-found → tie.Start
+start c = let l = c .before .before .before .before in l .before .before .before .before
+
 -- the alias lies in the rule file
-inside-here : (c : tie.After-found) → c .found .given .0 .1 .0 + c .found .given .0 .1 .1 .0 ≤ length (c .before .before .before .before .before .before .before .before .args .rules .now)
+inside-here :
+    (c : tie.After-found) → c .found .given .0 .1 .0 + c .found .given .0 .1 .1 .0 ≤ length (start c .args .rules .now)
 inside-here c =
-    let c₁ = c .before .before .before .before .before in
-    let c₂ = c₁ .before .before .before in
-    let g = c₂ .pre .1 in alias-inside (carryOf (c₂ .args .c)) (c .before .before .get-cmd .ensures (g .rules) (g .ready .decodes)) (c .found .given .1)
+    let s = start c in
+    let g = s .pre .1 in
+    alias-inside (carryOf (s .args .c)) (c .before .before .get-cmd .ensures (g .rules) (g .ready .decodes)) (c .found .given .1)
 
 past-first-requires : tie.Need-past-first-requires
 past-first-requires c κs = search needs

@@ -3,7 +3,6 @@ use mathlib.Core.Path.{refl}
 use Rattle.mitex_state.specs.State.{contextOf}
 use Rattle.mitex_state.proofs.Agreeing.{agrees-carried}
 use borrow.Author.Needs.{needs}
-use borrow.Author.Needs.{needs}
 use Rattle.mitex_tokens.proofs.convert_text.Statement.{statement}
 use Rattle.mitex_tokens.proofs.convert_text.Tie as tie
 

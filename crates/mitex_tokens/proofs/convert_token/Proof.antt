@@ -4,7 +4,6 @@ use Rattle.mitex_state.specs.State.{carryOf, contextOf}
 use Rattle.mitex_state.proofs.Agreeing.{agrees-as, agrees-here}
 use Rattle.mitex_tokens.proofs.Tokens.{token-break, token-error, token-name, token-other, token-space, token-symbol}
 use borrow.Author.Needs.{needs}
-use borrow.Author.Needs.{needs}
 use Rattle.mitex_tokens.proofs.convert_token.Statement.{statement}
 use Rattle.mitex_tokens.proofs.convert_token.Tie as tie
 

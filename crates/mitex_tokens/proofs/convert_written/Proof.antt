@@ -2,7 +2,6 @@
 use mathlib.Core.Path.{refl}
 use Rattle.mitex_state.proofs.Agreeing.{agrees-carried}
 use borrow.Author.Needs.{needs}
-use borrow.Author.Needs.{needs}
 use Rattle.mitex_tokens.proofs.convert_written.Statement.{statement}
 use Rattle.mitex_tokens.proofs.convert_written.Tie as tie
 

@@ -4,7 +4,6 @@ use Rattle.text.proofs.Writing.{wrote-as}
 use Rattle.mitex_tokens.specs.Lines.{columnText}
 use Rattle.mitex_tokens.proofs.Tokens.{column-text}
 use borrow.Author.Needs.{needs}
-use borrow.Author.Needs.{needs}
 use Rattle.mitex_tokens.proofs.put_ampersand.Statement.{statement}
 use Rattle.mitex_tokens.proofs.put_ampersand.Tie as tie
 

@@ -5,7 +5,6 @@ use Rattle.mitex_state.specs.Texts.{escape}
 use Rattle.mitex_tokens.specs.Lines.{escapeOf}
 use Rattle.mitex_tokens.proofs.Tokens.{some-escape}
 use borrow.Author.Needs.{needs}
-use borrow.Author.Needs.{needs}
 use Rattle.mitex_tokens.proofs.put_escape.Statement.{statement}
 use Rattle.mitex_tokens.proofs.put_escape.Tie as tie
 

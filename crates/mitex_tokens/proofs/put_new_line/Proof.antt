@@ -4,7 +4,6 @@ use Rattle.text.proofs.Writing.{wrote-as, wrote-nil}
 use Rattle.mitex_tokens.specs.Lines.{lineText}
 use Rattle.mitex_tokens.proofs.Tokens.{line-text}
 use borrow.Author.Needs.{needs}
-use borrow.Author.Needs.{needs}
 use Rattle.mitex_tokens.proofs.put_new_line.Statement.{statement}
 use Rattle.mitex_tokens.proofs.put_new_line.Tie as tie
 

@@ -5,7 +5,6 @@ use Rattle.mitex_state.specs.Texts.{ampersand, newLine, tilde}
 use Rattle.mitex_state.specs.Tokens.{tokenText, word}
 use Rattle.mitex_tokens.proofs.Tokens.{other-text}
 use borrow.Author.Needs.{needs}
-use borrow.Author.Needs.{needs}
 use Rattle.mitex_tokens.proofs.put_token_text.Statement.{statement}
 use Rattle.mitex_tokens.proofs.put_token_text.Tie as tie
 

@@ -3,7 +3,6 @@ use mathlib.Core.Path.{ap, sym}
 use Rattle.text.proofs.Writing.{wrote-as}
 use Rattle.mitex_state.specs.Tokens.{word}
 use borrow.Author.Needs.{needs}
-use borrow.Author.Needs.{needs}
 use Rattle.mitex_tokens.proofs.put_word.Statement.{statement}
 use Rattle.mitex_tokens.proofs.put_word.Tie as tie
 

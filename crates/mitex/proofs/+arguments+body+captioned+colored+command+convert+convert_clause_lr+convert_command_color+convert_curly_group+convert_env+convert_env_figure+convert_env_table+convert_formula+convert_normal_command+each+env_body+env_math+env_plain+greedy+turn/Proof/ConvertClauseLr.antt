@@ -10,12 +10,8 @@ use Rattle.mitex_state.specs.Conversion.{convert as meaning}
 use Rattle.mitex_state.proofs.Agreeing.{agrees-as, agrees-done, agrees-after}
 use Rattle.mitex.proofs.Walking.{rest-rows, agrees-closed, loops-at, loops-good, room-part}
 use Rattle.mitex_state.specs.declared.Loop.the-variants.{Spaced}
-use Rattle.mitex.proofs.Walking.{loops-at, loops-good, room-part}
 use Rattle.mitex.proofs.Arms.{apart, head-spans, lr-none, lr-more, Apart, loops-row}
 use Rattle.mitex_syntax.proofs.Trees.{no-left, size-more}
-use Rattle.mitex.proofs.Arms.{loops-row}
-use Rattle.mitex_syntax.proofs.Trees.{size-more}
-use lib.ListN.{length-drop}
 use lib.Seq.{length-take-le}
 use Prim.Native.Nat.{ℕ, _+_, _/_, _<_}
 use Rattle.mitex.proofs.convert_clause_lr.Reads as convert-clause-lr
@@ -23,18 +19,26 @@ use Rattle.mitex.proofs.+arguments+body+captioned+colored+command+conve
 use Rattle.mitex.proofs.each.Reads as each
 use Rattle.mitex.proofs.+arguments+body+captioned+colored+command+convert+convert_clause_lr+convert_command_color+convert_curly_group+convert_env+convert_env_figure+convert_env_table+convert_formula+convert_normal_command+each+env_body+env_math+env_plain+greedy+turn.Proof.Setup.{convert-clause-lr-at, convert-clause-lr-calls}
 
--- where there are rows
-some-rows :
-    (t : ℕ) (c : convert-clause-lr-lts.Else1 (convert-clause-lr-calls t) (convert-clause-lr-at t) convert-clause-lr.Post)
-    → 0 < length (c .before .before .before .before .before .before .args .rows .now)
+-- a place where there are rows
+abbrev Here : ℕ → Type 0
+Here t = convert-clause-lr-lts.Else1 (convert-clause-lr-calls t) (convert-clause-lr-at t) convert-clause-lr.Post
+
+-- the function's entry
+abbrev start : (t : ℕ) → Here t → convert-clause-lr-lts.Start (convert-clause-lr-calls t) (convert-clause-lr-at t) convert-clause-lr.Post
+start t c = let l = c .before .before .before in l .before .before .before
+
+some-rows : (t : ℕ) (c : Here t) → 0 < length (start t c .args .rows .now)
 some-rows t c = omega (arith, c .if1 .left)
 
 -- the name and what stands behind it
 apart-here :
     (t : ℕ) (c : convert-clause-lr-lts.After-span-at (convert-clause-lr-calls t) (convert-clause-lr-at t) convert-clause-lr.Post)
-    → Apart (c .before .before .before .before .before .before .before .pre .1 .1 .1 .forest) (c .before .before .before .before .before .before .before .args .rows .now) (c .before .before .before .before .before .before .before .args .text .now) (c .span-at .result .rows) (c .span-at .result .text)
+    → let s = start t (c .before) in
+    Apart (s .pre .1 .1 .1 .forest) (s .args .rows .now) (s .args .text .now) (c .span-at .result .rows) (c .span-at .result .text)
 apart-here t c =
-    apart (c .before .before .before .before .before .before .before .pre .1 .1 .1 .spells) (some-rows t (c .before)) (c .before .before .before .before .before .before .before .pre .1 .0 .few) (c .before .before .before .before .before .before .before .pre .1 .0 .short) _ _ (c .span-at .ensures .0) (c .span-at .ensures .1)
+    let s = start t (c .before) in
+    apart (s .pre .1 .1 .1 .spells) (some-rows t (c .before)) (s .pre .1 .0 .few) (s .pre .1 .0 .short) _ _ (c .span-at .ensures .0)
+    (c .span-at .ensures .1)
 
 pub convert-clause-lr-went-requires : (t : ℕ) → convert-clause-lr-lts.Need-went-requires (convert-clause-lr-calls t) (convert-clause-lr-at t) convert-clause-lr.Post
 convert-clause-lr-went-requires t c κs = search needs
