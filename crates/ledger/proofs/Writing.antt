@@ -4,11 +4,10 @@ use mathlib.Core.Path.{_≡_, refl, sym, ap, _∙_}
 use mathlib.Core.Bool.{Bool, true, false, cond}
 use mathlib.Core.List.{List, [], _∷_, _++_, append-assoc, append-nil}
 use Prim.Native.Nat.{ℕ, _+_, _*_, _-_, _≤_, _<_}
-use native.Mathlib.Numerals.{add-one}
 use native.Mathlib.Omega.{arith}
 use native.Mathlib.Nat.{zero-add}
-use lib.ListN.{length, take, drop, set, replicate, length-append, length-take, length-drop, take-append-drop, replicate-append-replicate, drop-of-length-le}
-use lib.Seq.{sets, sets-eq, length-sets, take-suc-set, take-all, take-at, drop-at, drop-drop, length-take-le}
+use lib.ListN.{length, take, drop, replicate, length-append, length-take, length-drop, take-append-drop, drop-of-length-le}
+use lib.Seq.{sets, sets-eq, length-sets, take-at, drop-at, drop-drop, length-take-le}
 use Rattle.text.specs.Numbers.{four}
 use Rattle.text.proofs.Writing.{sets-append}
 use Rattle.mitex_state.specs.Outcome.{labelMost}
@@ -17,18 +16,6 @@ use Rattle.mitex_state.specs.Keeping.{labelBytes, Short}
 use Rattle.mitex_state.specs.declared.Converter.{Converter}
 use Rattle.ledger.specs.Ledger.{Row, rowSize, mark, isHeld, encodeCarry, encodeRow, HasRow, rowAt, decodeRow, moveRow}
 use Rattle.ledger.proofs.Rows.{encodeRow-length}
-
--- ---- zeros, from a place to the next
-
-pub zeros-more : (out : List ℕ) (i : ℕ) → i < length out → take i out ≡ replicate i 0 → take (i + 1) (set out i 0) ≡ replicate (i + 1) 0
-zeros-more out i h e =
-    ap (λ n. take n (set out i 0)) (add-one i)
-    ∙ take-suc-set out i 0 h
-    ∙ ap (λ x. x ++ (0 ∷ [])) e
-    ∙ replicate-append-replicate i 1 0
-
-pub zeros-all : (out : List ℕ) (i n : ℕ) → length out ≡ n → length out ≤ i → i ≤ length out → take i out ≡ replicate i 0 → out ≡ replicate n 0
-zeros-all out i n l lo hi e = let q : i ≡ n = omega arith in sym (take-all i out lo) ∙ e ∙ ap (λ k. replicate k 0) q
 
 -- ---- bytes stored from a place on
 

@@ -1,6 +1,7 @@
 // The ledger: a row of 128 bytes for each block, read and written. specs/Ledger.antt has the layout.
 use mitex_state::Converter;
 use mitex_state::LABEL_MOST;
+use text::clear;
 use text::put;
 use text::read_u32;
 use text::same;
@@ -201,17 +202,6 @@ fn held_len(held: bool, len: usize) -> usize
         return len;
     }
     0
-}
-
-// All bytes zero.
-pub fn clear(out: &mut [u8])
-    ensures { λ _. ⌜ now (out .exit) ≡ replicate (length (now (out .entry))) 0 ⌝ }
-{
-    let mut i = 0;
-    while i < out.len() {
-        out[i] = 0;
-        i += 1;
-    }
 }
 
 // The label's bytes that count, padded with zeros.

@@ -2,3 +2,4 @@ pub mod Numbers
 pub mod Compare
 pub mod Writing
 pub mod Decimal
+pub mod Moving

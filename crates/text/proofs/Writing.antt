@@ -7,8 +7,9 @@ use Prim.Native.Nat.{ℕ, suc, _+_, _-_, _/_, _%_, _≤_, _<_, min}
 use native.Mathlib.Decide.{decLe}
 use native.Mathlib.Numerals.{add-one}
 use native.Mathlib.Omega.{arith}
-use lib.ListN.{length, take, drop, getD, set, length-append, length-drop, take-append-drop, replicate-append-replicate, length-replicate, getD-replicate}
-use lib.Seq.{sets, length-sets, set-out, take-suc, take-all, length-take-le}
+use lib.ListN.{length, take, drop, getD, set, replicate, length-append, length-drop, take-append-drop}
+use lib.ListN.{replicate-append-replicate, length-replicate, getD-replicate}
+use lib.Seq.{sets, length-sets, set-out, take-suc, take-suc-set, take-all, length-take-le}
 use Rattle.text.specs.Numbers.{four}
 use Rattle.text.specs.Writing.{cap, Wrote, spaces}
 
@@ -132,3 +133,16 @@ sets-four {a} {b} {c} {d} out i n ea eb ec ed =
     let s₂ : i + 2 ≡ suc (suc i) = omega arith in
     let s₃ : i + 3 ≡ suc (suc (suc i)) = omega arith in
     cc
+
+-- ---- zeros, from a place to the next
+
+pub zeros-more : (out : List ℕ) (i : ℕ) → i < length out → take i out ≡ replicate i 0 → take (i + 1) (set out i 0) ≡ replicate (i + 1) 0
+zeros-more out i h e =
+    ap (λ n. take n (set out i 0)) (add-one i)
+    ∙ take-suc-set out i 0 h
+    ∙ ap (λ x. x ++ (0 ∷ [])) e
+    ∙ replicate-append-replicate i 1 0
+
+pub zeros-all :
+    (out : List ℕ) (i n : ℕ) → length out ≡ n → length out ≤ i → i ≤ length out → take i out ≡ replicate i 0 → out ≡ replicate n 0
+zeros-all out i n l lo hi e = let q : i ≡ n = omega arith in sym (take-all i out lo) ∙ e ∙ ap (λ k. replicate k 0) q

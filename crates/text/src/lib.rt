@@ -3,7 +3,7 @@ ghost use mathlib.Core.Path.{_≡_};
 ghost use mathlib.Core.Logic.{_⊎_};
 ghost use mathlib.Core.List.{[], _∷_};
 ghost use Prim.Native.Nat.{_+_, _-_, _≤_, _<_, min, _%_};
-ghost use lib.ListN.{length};
+ghost use lib.ListN.{length, take, drop, replicate};
 ghost use lib.Seq.{sets};
 ghost use Rattle.text.specs.Numbers.{four, twoAt, fourAt};
 ghost use Rattle.text.specs.Compare.{same, precedes, startsWith, endsWith, indexOf};
@@ -224,4 +224,52 @@ pub fn put_decimal(out: &mut [u8], at: usize, n: usize) -> usize
     i -= 1;
     digits[i] = 48 + low_byte(m);
     put(out, at, &digits[i..])
+}
+
+// ---- clearing and moving
+
+// All bytes zero.
+pub fn clear(out: &mut [u8])
+    ensures { λ _. ⌜ now (out .exit) ≡ replicate (length (now (out .entry))) 0 ⌝ }
+{
+    let mut i = 0;
+    while i < out.len() {
+        out[i] = 0;
+        i += 1;
+    }
+}
+
+// `n` bytes moved down from `old` to `new`, the lowest first.
+fn move_down(out: &mut [u8], old: usize, new: usize, n: usize)
+    requires { ⌜ (new ≤ old) × (old + n ≤ length (now out)) ⌝ }
+    ensures { λ _. ⌜ now (out .exit) ≡ sets (now (out .entry)) new (take n (drop old (now (out .entry)))) ⌝ }
+{
+    let mut i = 0;
+    while i < n {
+        out[new + i] = out[old + i];
+        i += 1;
+    }
+}
+
+// `n` bytes moved up from `old` to `new`, the highest first.
+fn move_up(out: &mut [u8], old: usize, new: usize, n: usize)
+    requires { ⌜ (old ≤ new) × (new + n ≤ length (now out)) ⌝ }
+    ensures { λ _. ⌜ now (out .exit) ≡ sets (now (out .entry)) new (take n (drop old (now (out .entry)))) ⌝ }
+{
+    let mut i = n;
+    while 0 < i {
+        i -= 1;
+        out[new + i] = out[old + i];
+    }
+}
+
+// `n` bytes moved from `old` to `new`; the two parts may overlap.
+pub fn move_bytes(out: &mut [u8], old: usize, new: usize, n: usize)
+    requires { ⌜ (old + n ≤ length (now out)) × (new + n ≤ length (now out)) ⌝ }
+    ensures { λ _. ⌜ now (out .exit) ≡ sets (now (out .entry)) new (take n (drop old (now (out .entry)))) ⌝ }
+{
+    if new < old {
+        return move_down(out, old, new, n);
+    }
+    move_up(out, old, new, n)
 }

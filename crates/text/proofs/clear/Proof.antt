@@ -3,9 +3,9 @@ use native.Mathlib.Omega.{arith}
 use mathlib.Core.Path.{_≡_, refl}
 use Prim.Native.Nat.{_-_, _≤_}
 use lib.ListN.{length, take, replicate, length-set}
-use Rattle.ledger.proofs.Writing.{zeros-more, zeros-all}
-use Rattle.ledger.proofs.clear.Statement.{statement}
-use Rattle.ledger.proofs.clear.Tie as tie
+use Rattle.text.proofs.Writing.{zeros-more, zeros-all}
+use Rattle.text.proofs.clear.Statement.{statement}
+use Rattle.text.proofs.clear.Tie as tie
 
 abbrev Inv-loop : tie.InvT-loop
 Inv-loop out₀ i₀ out i = (i ≤ length out) × (length out ≡ length out₀) × (take i out ≡ replicate i 0)
@@ -26,13 +26,18 @@ loop-less : tie.Need-loop-less Inv-loop μ-loop
 loop-less c = omega arith
 
 loop-again : tie.Need-loop-again Inv-loop μ-loop
-loop-again c = (simp length-set (omega arith), simp length-set (omega arith), zeros-more (c .before .loop .out) (c .before .loop .i) (c .loop-test .taken) (c .before .loop .inv .2))
+loop-again c =
+    let loop = c .before .loop in
+    let z = zeros-more (loop .out) (loop .i) (c .loop-test .taken) (loop .inv .2) in
+    (simp length-set (omega arith), simp length-set (omega arith), z)
 
 same-length : tie.Need-same-length Inv-loop μ-loop
 same-length c = c .before .loop .inv .1
 
 returns : tie.Need-returns Inv-loop μ-loop
-returns c = zeros-all (c .before .loop .out) (c .before .loop .i) _ (c .before .loop .inv .1) (c .loop-test .left) (c .before .loop .inv .0) (c .before .loop .inv .2)
+returns c =
+    let loop = c .before .loop in
+    zeros-all (loop .out) (loop .i) _ (loop .inv .1) (c .loop-test .left) (loop .inv .0) (loop .inv .2)
 
 pub clear-spec : {M : Type 1} → statement M
 clear-spec =

@@ -1,0 +1,76 @@
+-- The invariant: the bytes from i on have moved. The one before is still the entry's, as it stands below them (`moved-up`).
+use native.Mathlib.Omega.{arith}
+use mathlib.Core.Path.{_≡_, refl}
+use Prim.Native.Nat.{_+_, _-_, _≤_}
+use lib.ListN.{length, take, drop}
+use lib.Seq.{sets}
+use Rattle.text.proofs.Writing.{sets-long}
+use Rattle.text.proofs.Moving.{moved-up, moved-none, moved-all-up}
+use Rattle.text.proofs.move_up.Statement.{statement}
+use Rattle.text.proofs.move_up.Tie as tie
+
+abbrev Inv-loop : tie.InvT-loop
+Inv-loop out₀ old new n i₀ out i = (i ≤ n) × (length out ≡ length out₀) × (out ≡ sets out₀ (new + i) (drop i (take n (drop old out₀))))
+
+abbrev μ-loop : tie.MeasureT-loop
+μ-loop out₀ old new n i₀ out i = i
+
+loop-holds : tie.Need-loop-holds Inv-loop μ-loop
+loop-holds c =
+    let args = c .args in
+    (omega arith, refl, moved-none (args .out .now) (args .old) (args .new) (args .n) (omega arith))
+
+sub-i : tie.Need-sub-i Inv-loop μ-loop
+sub-i c = omega arith
+
+add-out : tie.Need-add-out Inv-loop μ-loop
+add-out c = omega arith
+
+slice-read-out : tie.Need-slice-read-out Inv-loop μ-loop
+slice-read-out c = omega arith
+
+add-out-2 : tie.Need-add-out-2 Inv-loop μ-loop
+add-out-2 c = omega arith
+
+slice-write-out : tie.Need-slice-write-out Inv-loop μ-loop
+slice-write-out c = omega arith
+
+loop-less : tie.Need-loop-less Inv-loop μ-loop
+loop-less c = omega arith
+
+loop-again : tie.Need-loop-again Inv-loop μ-loop
+loop-again c =
+    let c₁ = c .before .before in
+    let args = c₁ .before .args in
+    let loop = c₁ .loop in
+    let moves = moved-up (args .out .now) (args .old) (args .new) (args .n) (omega arith) (loop .out) (loop .i) in
+    let e = moves (c₁ .before .pre .0) (c .before .loop-test .taken) (loop .inv .0) (loop .inv .2) in
+    let w = drop (loop .i - 1) (take (args .n) (drop (args .old) (args .out .now))) in
+    (omega arith, sets-long (args .out .now) _ (args .new + (loop .i - 1)) w e, e)
+
+same-length : tie.Need-same-length Inv-loop μ-loop
+same-length c = c .before .loop .inv .1
+
+returns : tie.Need-returns Inv-loop μ-loop
+returns c =
+    let c₁ = c .before in
+    let args = c₁ .before .args in
+    let loop = c₁ .loop in
+    moved-all-up (args .out .now) (args .old) (args .new) (args .n) (omega arith) (loop .out) (loop .i) (c .loop-test .left) (loop .inv .2)
+
+pub move-up-spec : {M : Type 1} → statement M
+move-up-spec =
+    tie.close
+    (tie.spec
+    Inv-loop
+    μ-loop
+    loop-holds
+    sub-i
+    add-out
+    slice-read-out
+    add-out-2
+    slice-write-out
+    loop-less
+    loop-again
+    same-length
+    returns)
