@@ -1,1 +1,1 @@
-pub mod Manuscript
+pub mod Demand

@@ -41,9 +41,9 @@ abbrev pub byRules : Option (List Rule) → List ℕ → Checked Tree
 byRules nothing tree = bad 2 0
 byRules (some rules) tree = byTree (checkTree tree)
 
-abbrev pub byMode : Option LaTeXMode → List ℕ → List ℕ → Checked Tree
-byMode nothing file tree = bad 1 0
-byMode (some m) file tree = byRules (rulesOf file) tree
+abbrev pub byMode : Option LaTeXMode → Option (List Rule) → List ℕ → Checked Tree
+byMode nothing rules tree = bad 1 0
+byMode (some m) rules tree = byRules rules tree
 
 -- the rules and the mode that are left; where there are none, nothing is converted
 abbrev pub rulesIn : Option (List Rule) → List Rule
@@ -54,12 +54,19 @@ abbrev pub modeIn : Option LaTeXMode → LaTeXMode
 modeIn nothing = Text
 modeIn (some m) = m
 
-abbrev pub block : ℕ → List ℕ → Carry → Tree → Outcome
-block mode file c t = convert levels (startContext (rulesIn (rulesOf file)) (modeIn (modeOf mode))) t c
+abbrev pub block : LaTeXMode → List Rule → Carry → Tree → Outcome
+block m rules c t = convert levels (startContext rules m) t c
+
+abbrev pub manuscriptIn : Option LaTeXMode → Option (List Rule) → Converter
+manuscriptIn mode rules =
+    record { Block = Tree; check = byMode mode rules; convert = block (modeIn mode) (rulesIn rules); rows = size }
 
 abbrev pub manuscript : ℕ → List ℕ → Converter
-manuscript mode file =
-    record { Block = Tree; check = byMode (modeOf mode) file; convert = block mode file; rows = size }
+manuscript mode file = manuscriptIn (modeOf mode) (rulesOf file)
+
+-- past refusals 1 and 2
+abbrev pub blocksIn : LaTeXMode → List Rule → Converter
+blocksIn m rules = manuscriptIn (some m) (some rules)
 
 -- pieces put together: the text of all, and the carry behind the last
 abbrev pub lastCarry : Carry → List Piece → Carry

@@ -1,4 +1,5 @@
--- What the theorem over lists of edits asks of the converter of blocks holds of this one, and so does the theorem.
+-- What the theorem over lists of edits asks of a converter of blocks holds of this one; and its blocks one after the other are the
+-- document.
 use mathlib.Core.Path.{_≡_, refl, sym, subst, _∙_}
 use mathlib.Core.Logic.{_≢_}
 use mathlib.Core.Bool.{Bool, true, false, cond}
@@ -8,7 +9,6 @@ use mathlib.Core.Option.Option.{none as nothing, some}
 use Prim.Native.Nat.{ℕ, _+_, _≤_}
 use native.Mathlib.Omega.{arith}
 use Rattle.mitex_spec.specs.Rules.{Rule}
-use Rattle.mitex_spec.specs.RuleFile.{rulesOf}
 use Rattle.mitex_syntax.specs.Tree.{Tree, Forest, size}
 use Rattle.mitex_syntax.specs.Tree.Tree.{node}
 use Rattle.mitex_syntax.specs.Tree.Forest.{none, more}
@@ -29,9 +29,7 @@ use Rattle.mitex_state.proofs.Keeping as Keeping
 use Rattle.editing.specs.Walk.{Checked, KeepsShort, NeverSix, Walk, onto, next, walk}
 use Rattle.editing.specs.Walk.Checked.{bad, good}
 use Rattle.editing.specs.Walk.Walk.{stopped, pieces}
-use Rattle.editing.specs.Run.{Kept, Edit, Holds, Allowed, Demand3}
-use Rattle.editing.proofs.Demand as Demand
-use Rattle.edit.specs.Manuscript.{modeOf, listed, byTree, byRules, byMode, rulesIn, modeIn, block, manuscript, together}
+use Rattle.blocks.specs.Manuscript.{listed, byTree, byRules, byMode, rulesIn, modeIn, block, manuscriptIn, together}
 
 -- what a check that refuses does not say
 abbrev Not6 : Checked Tree → Type 0
@@ -55,29 +53,23 @@ unfolding checkTree
 rules-not6 nothing tree = λ e. omega arith
 rules-not6 (some rules) tree = tree-not6 (decode tree)
 
-mode-not6 : (o : Option LaTeXMode) (file tree : List ℕ) → Not6 (byMode o file tree)
-mode-not6 nothing file tree = λ e. omega arith
-mode-not6 (some m) file tree = rules-not6 (rulesOf file) tree
+mode-not6 : (o : Option LaTeXMode) (rules : Option (List Rule)) (tree : List ℕ) → Not6 (byMode o rules tree)
+mode-not6 nothing rules tree = λ e. omega arith
+mode-not6 (some m) rules tree = rules-not6 rules tree
 
 of-bad : (r : Checked Tree) (n row : ℕ) → r ≡ bad n row → Not6 r → n ≢ 6
 of-bad r n row e h = subst Not6 e h
 
-module _ (mode : ℕ) (file : List ℕ) where
-  pub never-six : NeverSix (manuscript mode file)
+module _ (mode : Option LaTeXMode) (rules : Option (List Rule)) where
+  pub never-six : NeverSix (manuscriptIn mode rules)
   never-six =
       record {
-        checked = λ tree n row e. of-bad (byMode (modeOf mode) file tree) n row e (mode-not6 (modeOf mode) file tree);
+        checked = λ tree n row e. of-bad (byMode mode rules tree) n row e (mode-not6 mode rules tree);
         block = λ c t n row e. Keeping.never-six _ _ t c n row e;
       }
 
-  pub keeps-short : KeepsShort (manuscript mode file)
+  pub keeps-short : KeepsShort (manuscriptIn mode rules)
   keeps-short c c′ t w h e = Keeping.keeps-short _ _ t c c′ w e h
-
-  -- demand 3 of this product: from buffers that hold an accepted conversion, after every list of edits, refused ones included
-  pub demand-3 :
-      (t l tree : List ℕ) (s : Kept) → Holds (manuscript mode file) t l tree s → (es : List Edit) → Allowed (manuscript mode file) t l tree es
-      → Demand3 (manuscript mode file) t l tree s es
-  demand-3 t l tree s ho es al = Demand.demand-3 (manuscript mode file) keeps-short t l tree s ho es al
 
   -- ---- the blocks one after the other are the document
 
@@ -92,17 +84,17 @@ module _ (mode : ℕ) (file : List ℕ) where
 
   -- what Convert writes is the meaning of the whole document, from the state past its root
   pub walk-blocks :
-      (f : Forest) (r : ℕ) (c : Carry) → together c (walk (manuscript mode file) c r (listed f))
-      ≡ blocksFrom (rulesIn (rulesOf file)) (modeIn (modeOf mode)) r f c
+      (f : Forest) (r : ℕ) (c : Carry) → together c (walk (manuscriptIn mode rules) c r (listed f))
+      ≡ blocksFrom (rulesIn rules) (modeIn mode) r f c
   unfolding walk
   walk-blocks none r c = sym (plain-none _ r c)
   walk-blocks (more t f) r c =
-      next-together (block mode file c t) c r (λ c′. walk (manuscript mode file) c′ (r + size t) (listed f))
-      ∙ andThen-same (shift r (block mode file c t)) _ _ (λ c′. walk-blocks f (r + size t) c′)
+      next-together (block (modeIn mode) (rulesIn rules) c t) c r (λ c′. walk (manuscriptIn mode rules) c′ (r + size t) (listed f))
+      ∙ andThen-same (shift r (block (modeIn mode) (rulesIn rules) c t)) _ _ (λ c′. walk-blocks f (r + size t) c′)
       ∙ sym (plain-more _ r t f c)
 
   -- and so of the root from a new converter
   pub walk-root :
-      (f : Forest) → size (node ScopeRoot f) ≤ levels → together startCarry (walk (manuscript mode file) startCarry 1 (listed f))
-      ≡ convert levels (startContext (rulesIn (rulesOf file)) (modeIn (modeOf mode))) (node ScopeRoot f) newCarry
-  walk-root f h = walk-blocks f 1 startCarry ∙ sym (root-blocks (rulesIn (rulesOf file)) (modeIn (modeOf mode)) f h)
+      (f : Forest) → size (node ScopeRoot f) ≤ levels → together startCarry (walk (manuscriptIn mode rules) startCarry 1 (listed f))
+      ≡ convert levels (startContext (rulesIn rules) (modeIn mode)) (node ScopeRoot f) newCarry
+  walk-root f h = walk-blocks f 1 startCarry ∙ sym (root-blocks (rulesIn rules) (modeIn mode) f h)

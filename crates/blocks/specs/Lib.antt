@@ -1,1 +1,2 @@
 pub mod Manuscript
+pub mod Passes

@@ -1,0 +1,153 @@
+// Passes over the blocks of a document, one block a turn: one that measures, up to the last block or up to the first whose carry is
+// that of its kept row, and one that writes what was measured.
+use ledger::same_carry;
+use ledger::write_row;
+use mitex_state::Converter;
+use mitex_state::Walked;
+use mitex_state::went;
+use mitex_syntax::span_at;
+ghost use mathlib.Core.Path.{_≡_};
+ghost use mathlib.Core.Bool.{true, _&&_};
+ghost use Prim.Native.Nat.{ℕ, _≤_, _<_};
+ghost use lib.ListN.{length};
+ghost use Rattle.text.specs.Writing.{cap};
+ghost use Rattle.mitex_state.specs.Outcome.{labelMost};
+ghost use Rattle.mitex_state.specs.State.{carryOf};
+ghost use Rattle.ledger.specs.Ledger.{RowFits, rowAt, sameCarry};
+ghost use Rattle.blocks.specs.Passes.{Given, Whole, Pieced, SomeBlocks, Steps, Stands, Measures, Writes};
+
+// Where a pass stands: the next block, the bytes of rows and of text before it, and what the walk over the block before answered.
+pub struct Standing {
+    pub block: usize,
+    pub i: usize,
+    pub j: usize,
+    pub walked: Walked,
+}
+
+// Behind the blocks before a named one, by their rows alone.
+pub fn stand_at(rows: &[u8], block: usize, at: usize, converter: Converter) -> Standing
+    requires { ⌜ SomeBlocks (now rows) block ⌝ }
+    ensures { λ r. ⌜ Stands (now (rows .entry)) block at converter r ⌝ }
+{
+    let mut i = 0;
+    let mut j = 0;
+    let mut k = 0;
+    while k < block {
+        let n = span_at(rows, i);
+        i += n.rows;
+        j += n.text;
+        k += 1;
+    }
+    let walked = went(converter, at);
+    Standing {
+        block,
+        i,
+        j,
+        walked,
+    }
+}
+
+// The next block, converted. The root is row 0, so the first block stands at row 1.
+pub fn step<'a>(
+    out: &mut [u8],
+    rows: &[u8],
+    text: &'a [u8],
+    rules: &'a [u8],
+    index: &[u32],
+    s: Standing,
+) -> Standing
+    requires { ⌜ Given (now rules) (now index) (now rows) (now text) s ⌝ }
+    requires { ⌜ (s .i < length (now rows)) × (s .block < cap) × (length (now out) ≤ cap) ⌝ }
+    ensures { λ r. ⌜ Steps (now (rules .entry)) (now (index .entry)) (now (rows .entry)) (now (text .entry)) s (now (out .entry)) r (now (out .exit)) ⌝ }
+{
+    let i = s.i;
+    let j = s.j;
+    let n = span_at(rows, i);
+    let e = i + n.rows;
+    let u = j + n.text;
+    let before = s.walked;
+    let walked = mitex::convert(
+        out,
+        before.at,
+        &rows[i..e],
+        &text[j..u],
+        1 + i / 8,
+        rules,
+        index,
+        before.converter,
+    );
+    Standing {
+        block: s.block + 1,
+        i: e,
+        j: u,
+        walked,
+    }
+}
+
+// Whether an edit stops behind block `i`: the carry is that of the kept row.
+fn met(kept: &[u8], edits: bool, i: usize, converter: Converter) -> bool
+    requires { ⌜ (edits ≡ true → RowFits i (now kept)) × (converter .«label_len» ≤ labelMost) ⌝ }
+    ensures { λ r. ⌜ r ≡ edits && sameCarry (carryOf converter) ((rowAt i (now (kept .entry))) .carry) ⌝ }
+{
+    if edits {
+        return same_carry(kept, i, converter);
+    }
+    false
+}
+
+// Blocks measured from a standing on: up to the last, or in an edit up to the first whose carry is that of its kept row.
+pub fn measure<'a>(
+    rows: &[u8],
+    text: &'a [u8],
+    rules: &'a [u8],
+    index: &[u32],
+    kept: &[u8],
+    edits: bool,
+    from: Standing,
+    blocks: usize,
+) -> Standing
+    requires { ⌜ Whole (now rules) (now index) (now rows) (now text) from blocks ⌝ }
+    requires { ⌜ (edits ≡ true → (i : ℕ) → i < blocks → RowFits i (now kept)) ⌝ }
+    ensures { λ r. ⌜ Measures (now (rules .entry)) (now (index .entry)) (now (rows .entry)) (now (text .entry)) from blocks edits (now (kept .entry)) r ⌝ }
+{
+    let mut s = from;
+    while s.block < blocks {
+        let k = s.block;
+        let mut none = [0u8; 0];
+        let next = step(&mut none, rows, text, rules, index, s);
+        s = next;
+        let walked = next.walked;
+        if walked.refusal != 0 {
+            return next;
+        }
+        if met(kept, edits, k, walked.converter) {
+            return next;
+        }
+    }
+    s
+}
+
+// Blocks written from a standing up to one that was measured, with their rows.
+pub fn write_blocks<'a>(
+    out: &mut [u8],
+    ledger: &mut [u8],
+    rows: &[u8],
+    text: &'a [u8],
+    rules: &'a [u8],
+    index: &[u32],
+    from: Standing,
+    to: usize,
+)
+    requires { ⌜ Pieced (now rules) (now index) (now rows) (now text) from to (now ledger) ⌝ }
+    requires { ⌜ length (now out) ≤ cap ⌝ }
+    ensures { λ _. ⌜ Writes (now (rules .entry)) (now (index .entry)) (now (rows .entry)) (now (text .entry)) from to (now (out .entry)) (now (ledger .entry)) (now (out .exit)) (now (ledger .exit)) ⌝ }
+{
+    let mut s = from;
+    while s.block < to {
+        let k = s.block;
+        let next = step(out, rows, text, rules, index, s);
+        let walked = next.walked;
+        write_row(ledger, k, walked.at, walked.converter);
+        s = next;
+    }
+}
