@@ -1,1 +1,6 @@
 pub mod Demand
+pub mod Files
+pub mod Starting
+pub mod Settling
+pub mod Splicing
+pub mod Again

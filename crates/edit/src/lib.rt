@@ -1,1 +1,416 @@
-// No code yet: the converter of blocks over which Convert and Edit are meant.
+// Convert and Edit, for any caller with any bytes: the files are checked, the blocks measured, and only then anything is written.
+use blocks::Standing;
+use blocks::measure;
+use blocks::stand_at;
+use blocks::write_blocks;
+use ledger::ROW_SIZE;
+use ledger::ledger_fits;
+use ledger::move_rows;
+use ledger::row_carry;
+use ledger::row_end;
+use mitex_parser::Checked;
+use mitex_parser::check_tree;
+use mitex_spec::check_rules;
+use mitex_state::Converter;
+use mitex_state::LaTeXMode;
+use text::clear;
+use text::move_bytes;
+ghost use mathlib.Core.Path.{_≡_};
+ghost use Prim.Native.Nat.{ℕ, _+_, _-_, _≤_, _<_, min};
+ghost use lib.ListN.{length, take, drop, replicate};
+ghost use lib.Seq.{sets};
+ghost use Rattle.text.specs.Writing.{cap};
+ghost use Rattle.mitex_spec.specs.RuleFile.{rulesOf};
+ghost use Rattle.mitex_parser.specs.Check.{checkTree, answerOf as treeAnswer};
+ghost use Rattle.mitex_state.specs.State.{newOf, Carried};
+ghost use Rattle.mitex_state.specs.Conversion.{startCarry};
+ghost use Rattle.ledger.specs.Ledger.{HasRow, RowFits};
+ghost use Rattle.editing.specs.Edit.{textMost, editFits};
+ghost use Rattle.editing.specs.Calls.{Converts, Edits};
+ghost use Rattle.blocks.specs.Manuscript.{modeOf, manuscript};
+ghost use Rattle.edit.specs.Calls.{saidOf, answerOf, openTree, opened, Indexed, Document, ConvertsBlocks, EndsBefore, CarriesBefore, Measured, oldEnd, Overwrites, Splices, EditsBlocks};
+
+// A text buffer counts as at most so many bytes.
+const TEXT_MOST: usize = 4294967295;
+
+// Rules that a rule file has at most.
+const RULES_MOST: usize = 8192;
+
+// Convert's answer: a refusal's number and row, or the text's length and the count of blocks.
+pub enum Converted {
+    Refused { number: u8, row: usize },
+    Done { length: usize, blocks: usize },
+}
+
+// Edit's answer: a refusal's number and row, or the new length, the growth, and the count of blocks converted again.
+pub enum Edited {
+    Refused {
+        number: u8,
+        row: usize,
+    },
+    Done {
+        length: usize,
+        growth: i64,
+        count: usize,
+    },
+}
+
+// What refusals 1 to 5 leave: a mode, where the tree file's rows begin, and how many blocks there are.
+pub enum Opened {
+    Shut {
+        number: u8,
+        row: usize,
+    },
+    Open {
+        mode: LaTeXMode,
+        start: usize,
+        blocks: usize,
+    },
+}
+
+// ---- the files
+
+// Refusals 3 to 5.
+fn open_tree(mode: LaTeXMode, tree: &[u8]) -> Opened
+    ensures { λ r. ⌜ r ≡ openTree mode (treeAnswer (checkTree (now (tree .entry)))) ⌝ }
+{
+    match check_tree(tree) {
+        Checked::Refused { number, row } => Opened::Shut { number, row },
+        Checked::Whole {
+            start,
+            rows: _,
+            blocks,
+        } => Opened::Open {
+            mode,
+            start,
+            blocks,
+        },
+    }
+}
+
+// Refusals 1 to 5; where there is none the index is that of the rules.
+fn open(mode: u8, rules: &[u8], tree: &[u8], index: &mut [u32]) -> Opened
+    requires { ⌜ length (now index) ≡ 8192 ⌝ }
+    ensures answer { λ r. ⌜ r ≡ opened (modeOf mode) (rulesOf (now (rules .entry))) (treeAnswer (checkTree (now (tree .entry)))) ⌝ }
+    ensures index { λ r. ⌜ Indexed r (now (rules .entry)) (now (index .exit)) ⌝ }
+{
+    if 1 < mode {
+        return Opened::Shut { number: 1, row: 0 };
+    }
+    if !check_rules(rules, index) {
+        return Opened::Shut { number: 2, row: 0 };
+    }
+    if mode == 0 {
+        return open_tree(LaTeXMode::Text, tree);
+    }
+    open_tree(LaTeXMode::Math, tree)
+}
+
+// ---- what both begin with
+
+// A new converter past the root: its flag is cleared.
+fn opening(mode: LaTeXMode) -> Converter
+    ensures { λ r. ⌜ Carried (newOf mode) startCarry r ⌝ }
+{
+    Converter::new(mode).with_flag(false)
+}
+
+// The text buffer as far as it counts.
+fn text_room(out: &[u8]) -> usize
+    ensures { λ r. ⌜ r ≡ min (length (now (out .entry))) textMost ⌝ }
+{
+    if TEXT_MOST < out.len() {
+        return TEXT_MOST;
+    }
+    out.len()
+}
+
+// ---- Convert
+
+// The blocks of a document, measured and then written: the text, and a row for each.
+fn convert_blocks<'a>(
+    rows: &[u8],
+    text: &'a [u8],
+    rules: &'a [u8],
+    index: &[u32],
+    mode: LaTeXMode,
+    blocks: usize,
+    out: &mut [u8],
+    ledger: &mut [u8],
+) -> Converted
+    requires { ⌜ Document (now rules) (now index) (now rows) (now text) blocks ⌝ }
+    ensures { λ r. ⌜ ConvertsBlocks (now (rules .entry)) (now (index .entry)) (now (rows .entry)) (now (text .entry)) mode blocks (now (out .entry)) (now (ledger .entry)) r (now (out .exit)) (now (ledger .exit)) ⌝ }
+{
+    let from = stand_at(rows, 0, 0, opening(mode));
+    let m = measure(rows, text, rules, index, ledger, false, from, blocks);
+    let walked = m.walked;
+    if walked.refusal != 0 {
+        return Converted::Refused {
+            number: walked.refusal,
+            row: walked.row,
+        };
+    }
+    let at = walked.at;
+    if text_room(out) < at {
+        return Converted::Refused { number: 15, row: 0 };
+    }
+    if ledger.len() / ROW_SIZE < blocks {
+        return Converted::Refused { number: 15, row: 0 };
+    }
+    write_blocks(
+        &mut out[..at],
+        ledger,
+        rows,
+        text,
+        rules,
+        index,
+        from,
+        blocks,
+    );
+    Converted::Done { length: at, blocks }
+}
+
+// A tree file converted from its start, for mode 0 (text) or 1 (math): the text and a ledger row for each block are written.
+pub fn convert<'a>(
+    mode: u8,
+    rules: &'a [u8],
+    tree: &'a [u8],
+    text: &mut [u8],
+    ledger: &mut [u8],
+) -> Converted
+    ensures { λ r. ⌜ Converts (manuscript mode (now (rules .entry))) (now (tree .entry)) (now (text .entry)) (now (ledger .entry)) (saidOf r) (now (text .exit)) (now (ledger .exit)) ⌝ }
+{
+    let mut index = [0u32; RULES_MOST];
+    match open(mode, rules, tree, &mut index) {
+        Opened::Shut { number, row } => Converted::Refused { number, row },
+        Opened::Open {
+            mode: m,
+            start,
+            blocks,
+        } => {
+            let from = start + 8;
+            let end = tree.len() - 8;
+            convert_blocks(
+                &tree[from..end],
+                &tree[..start],
+                rules,
+                &index,
+                m,
+                blocks,
+                text,
+                ledger,
+            )
+        }
+    }
+}
+
+// `convert_text` of the Rust.
+pub fn convert_text<'a>(
+    rules: &'a [u8],
+    tree: &'a [u8],
+    text: &mut [u8],
+    ledger: &mut [u8],
+) -> Converted
+    ensures { λ r. ⌜ Converts (manuscript 0 (now (rules .entry))) (now (tree .entry)) (now (text .entry)) (now (ledger .entry)) (saidOf r) (now (text .exit)) (now (ledger .exit)) ⌝ }
+{
+    convert(0, rules, tree, text, ledger)
+}
+
+// `convert_math` of the Rust.
+pub fn convert_math<'a>(
+    rules: &'a [u8],
+    tree: &'a [u8],
+    text: &mut [u8],
+    ledger: &mut [u8],
+) -> Converted
+    ensures { λ r. ⌜ Converts (manuscript 1 (now (rules .entry))) (now (tree .entry)) (now (text .entry)) (now (ledger .entry)) (saidOf r) (now (text .exit)) (now (ledger .exit)) ⌝ }
+{
+    convert(1, rules, tree, text, ledger)
+}
+
+// ---- Edit
+
+// Where block `k` begins, by the row before it.
+fn end_before(ledger: &[u8], k: usize) -> usize
+    requires { ⌜ (0 < k → HasRow (k - 1) (now ledger)) ⌝ }
+    ensures { λ r. ⌜ EndsBefore (now (ledger .entry)) k r × (r < cap) ⌝ }
+{
+    if k == 0 {
+        return 0;
+    }
+    row_end(ledger, k - 1)
+}
+
+// The converter with which block `k` begins, by the row before it.
+fn carry_before(ledger: &[u8], k: usize, mode: LaTeXMode) -> Converter
+    requires { ⌜ (0 < k → RowFits (k - 1) (now ledger)) ⌝ }
+    ensures { λ r. ⌜ CarriesBefore (now (ledger .entry)) k mode r ⌝ }
+{
+    if k == 0 {
+        return opening(mode);
+    }
+    row_carry(ledger, k - 1, opening(mode))
+}
+
+// Refusal 6: whether the block exists, the kept text is in the buffer, and the ledger fits.
+fn edit_fits(blocks: usize, block: usize, kept: usize, text: &[u8], ledger: &[u8]) -> bool
+    ensures { λ r. ⌜ r ≡ editFits blocks block kept (now (text .entry)) (now (ledger .entry)) ⌝ }
+{
+    if blocks <= block {
+        return false;
+    }
+    if text.len() < kept {
+        return false;
+    }
+    ledger_fits(ledger, blocks, kept)
+}
+
+// Zeros from `from` to `to`, where that is behind it.
+fn clear_between(out: &mut [u8], from: usize, to: usize)
+    requires { ⌜ to ≤ length (now out) ⌝ }
+    ensures { λ _. ⌜ now (out .exit) ≡ sets (now (out .entry)) from (replicate (to - from) 0) ⌝ }
+{
+    if from < to {
+        clear(&mut out[from..to]);
+    }
+}
+
+// The tail moved, the blocks that were measured written before it, zeros where the text shrank; then the rows behind them moved.
+fn overwrite<'a>(
+    rows: &[u8],
+    text: &'a [u8],
+    rules: &'a [u8],
+    index: &[u32],
+    blocks: usize,
+    kept: usize,
+    from: Standing,
+    m: Standing,
+    old: usize,
+    out: &mut [u8],
+    ledger: &mut [u8],
+)
+    requires { ⌜ Measured (now rules) (now index) (now rows) (now text) blocks kept from m (now out) (now ledger) ⌝ }
+    requires { ⌜ (old ≡ oldEnd blocks m (now ledger)) × (m .walked .at + (kept - old) ≤ length (now out)) × (m .walked .at + (kept - old) < cap) ⌝ }
+    ensures { λ _. ⌜ Overwrites (now (rules .entry)) (now (index .entry)) (now (rows .entry)) (now (text .entry)) blocks kept from m (now (out .entry)) (now (ledger .entry)) (now (out .exit)) (now (ledger .exit)) ⌝ }
+{
+    let walked = m.walked;
+    let at = walked.at;
+    let tail = kept - old;
+    let to = m.block;
+    move_bytes(out, old, at, tail);
+    write_blocks(&mut out[..at], ledger, rows, text, rules, index, from, to);
+    clear_between(out, at + tail, kept);
+    move_rows(ledger, to, blocks, old, at);
+}
+
+// The blocks that were measured, in the place of the kept ones, where there is room for the new text.
+fn splice<'a>(
+    rows: &[u8],
+    text: &'a [u8],
+    rules: &'a [u8],
+    index: &[u32],
+    blocks: usize,
+    kept: usize,
+    from: Standing,
+    m: Standing,
+    out: &mut [u8],
+    ledger: &mut [u8],
+) -> Edited
+    requires { ⌜ Measured (now rules) (now index) (now rows) (now text) blocks kept from m (now out) (now ledger) ⌝ }
+    ensures { λ r. ⌜ Splices (now (rules .entry)) (now (index .entry)) (now (rows .entry)) (now (text .entry)) blocks kept from m (now (out .entry)) (now (ledger .entry)) r (now (out .exit)) (now (ledger .exit)) ⌝ }
+{
+    let old = end_before(ledger, m.block);
+    let walked = m.walked;
+    let new = walked.at + (kept - old);
+    if text_room(out) < new {
+        return Edited::Refused { number: 15, row: 0 };
+    }
+    overwrite(
+        rows,
+        text,
+        rules,
+        index,
+        blocks,
+        kept,
+        from,
+        m,
+        old,
+        out,
+        ledger,
+    );
+    Edited::Done {
+        length: new,
+        growth: new as i64 - kept as i64,
+        count: m.block - from.block,
+    }
+}
+
+// The named block and those behind it converted again, up to the first whose carry is that of its kept row.
+fn edit_blocks<'a>(
+    rows: &[u8],
+    text: &'a [u8],
+    rules: &'a [u8],
+    index: &[u32],
+    mode: LaTeXMode,
+    blocks: usize,
+    block: usize,
+    kept: usize,
+    out: &mut [u8],
+    ledger: &mut [u8],
+) -> Edited
+    requires { ⌜ Document (now rules) (now index) (now rows) (now text) blocks ⌝ }
+    ensures { λ r. ⌜ EditsBlocks (now (rules .entry)) (now (index .entry)) (now (rows .entry)) (now (text .entry)) mode blocks block kept (now (out .entry)) (now (ledger .entry)) r (now (out .exit)) (now (ledger .exit)) ⌝ }
+{
+    if !edit_fits(blocks, block, kept, out, ledger) {
+        return Edited::Refused { number: 6, row: 0 };
+    }
+    let at = end_before(ledger, block);
+    let from = stand_at(rows, block, at, carry_before(ledger, block, mode));
+    let m = measure(rows, text, rules, index, ledger, true, from, blocks);
+    let walked = m.walked;
+    if walked.refusal != 0 {
+        return Edited::Refused {
+            number: walked.refusal,
+            row: walked.row,
+        };
+    }
+    splice(rows, text, rules, index, blocks, kept, from, m, out, ledger)
+}
+
+// An edit of block `block`: `tree` is the new tree file, `kept` the text's length before; text and ledger are those that were kept.
+pub fn edit<'a>(
+    mode: u8,
+    rules: &'a [u8],
+    tree: &'a [u8],
+    block: usize,
+    kept: usize,
+    text: &mut [u8],
+    ledger: &mut [u8],
+) -> Edited
+    ensures { λ r. ⌜ Edits (manuscript mode (now (rules .entry))) (now (tree .entry)) block kept (now (text .entry)) (now (ledger .entry)) (answerOf r) (now (text .exit)) (now (ledger .exit)) ⌝ }
+{
+    let mut index = [0u32; RULES_MOST];
+    match open(mode, rules, tree, &mut index) {
+        Opened::Shut { number, row } => Edited::Refused { number, row },
+        Opened::Open {
+            mode: m,
+            start,
+            blocks,
+        } => {
+            let from = start + 8;
+            let end = tree.len() - 8;
+            edit_blocks(
+                &tree[from..end],
+                &tree[..start],
+                rules,
+                &index,
+                m,
+                blocks,
+                block,
+                kept,
+                text,
+                ledger,
+            )
+        }
+    }
+}

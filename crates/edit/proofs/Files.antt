@@ -1,0 +1,193 @@
+-- What the checks of the files leave, and what that says of Convert and Edit: a refusal of theirs is the refusal of the call (`shut`);
+-- else the call is about the document that the rows and the text spell (`document`, `opened-as`).
+use mathlib.Core.Path.{_≡_, refl, sym, ap, subst, _∙_}
+use mathlib.Core.Option.{Option}
+use mathlib.Core.Option.Option.{none as nothing, some}
+use mathlib.Core.List.{List}
+use Prim.Native.Nat.{ℕ, zero, suc, _+_, _-_, _≤_, _<_}
+use native.Mathlib.Omega.{arith}
+use lib.ListN.{length, take, drop, length-take, length-drop}
+use Rattle.text.specs.Numbers.{Bytes}
+use Rattle.mitex_spec.specs.Rules.{Rule}
+use Rattle.mitex_spec.specs.RuleFile.{rulesOf}
+use Rattle.mitex_spec.specs.Index.{Ready, SomeRules}
+use Rattle.mitex_syntax.proofs.Trees.{size-some}
+use Rattle.mitex_parser.specs.Check.{Verdict, checkTree, blocksOf, answerOf}
+use Rattle.mitex_parser.specs.Check.Verdict.{refused as unfit, accepted}
+use Rattle.mitex_parser.specs.declared.Checked.{Checked}
+use Rattle.mitex_parser.specs.declared.Checked.the-variants.{Whole, Refused}
+use Rattle.mitex_parser.proofs.Bridge.{Answered, answered, accepted-says, answer-blocks}
+use Rattle.mitex_state.specs.declared.LaTeXMode.{LaTeXMode}
+use Rattle.mitex_state.specs.declared.LaTeXMode.the-variants.{Text, Math}
+use Rattle.editing.specs.Walk.{Converter}
+use Rattle.editing.specs.Walk.{Checked as Blocks}
+use Rattle.editing.specs.Walk.Checked.{bad, good}
+use Rattle.editing.specs.Edit.{Result, settle, fromCheck, conversion, convertDocument, editChecked, edit}
+use Rattle.editing.specs.Edit.Answer.{refused}
+use Rattle.editing.specs.Calls.{Gives, Converts, Edits}
+use Rattle.blocks.specs.Manuscript.{modeOf, listed, byTree, byRules, byMode, manuscriptIn, manuscript, blocksIn}
+use Rattle.edit.specs.Calls.{saidOf, answerOf as saidEdited, openTree, openRules, opened, Indexed, Document, ConvertsBlocks, EditsBlocks}
+use Rattle.edit.specs.declared.Converted.{Converted}
+use Rattle.edit.specs.declared.Converted.the-variants.{Refused as NotConverted}
+use Rattle.edit.specs.declared.Edited.{Edited}
+use Rattle.edit.specs.declared.Edited.the-variants.{Refused as NotEdited}
+use Rattle.edit.specs.declared.Opened.{Opened}
+use Rattle.edit.specs.declared.Opened.the-variants.{Shut, Open}
+
+-- ---- the mode
+
+pub mode-none : (n : ℕ) → 1 < n → modeOf n ≡ nothing
+mode-none zero h = absurd (omega arith)
+mode-none (suc zero) h = absurd (omega arith)
+mode-none (suc (suc n)) h = refl
+
+pub mode-text : (n : ℕ) → n ≡ 0 → modeOf n ≡ some Text
+mode-text n e = ap modeOf e
+
+pub mode-math : (n : ℕ) → n ≤ 1 → (n ≡ 0 → ⊥) → modeOf n ≡ some Math
+mode-math zero h z = absurd (z refl)
+mode-math (suc zero) h z = refl
+mode-math (suc (suc n)) h z = absurd (omega arith)
+
+-- ---- what the code opens
+
+pub opened-in :
+    (o : Option LaTeXMode) (p : Option (List Rule)) (v : Checked) {m : LaTeXMode} {rs : List Rule} → o ≡ some m → p ≡ some rs
+    → openTree m v ≡ opened o p v
+opened-in o p v {m} e f = sym (ap (λ x. opened x p v) e ∙ ap (λ x. opened (some m) x v) f)
+
+pub opened-no-mode : (o : Option LaTeXMode) (p : Option (List Rule)) (v : Checked) → o ≡ nothing → Shut 1 0 ≡ opened o p v
+opened-no-mode o p v e = sym (ap (λ x. opened x p v) e)
+
+pub opened-no-rules : (n : ℕ) (p : Option (List Rule)) (v : Checked) → n ≤ 1 → p ≡ nothing → Shut 2 0 ≡ opened (modeOf n) p v
+opened-no-rules zero p v h e = sym (ap (λ x. openRules Text x v) e)
+opened-no-rules (suc zero) p v h e = sym (ap (λ x. openRules Math x v) e)
+opened-no-rules (suc (suc n)) p v h e = absurd (omega arith)
+
+pub indexed : (r : Opened) {rules index : List ℕ} → SomeRules rules index → Indexed r rules index
+indexed (Shut number row) s = tt
+indexed (Open m start blocks) s = s
+
+-- ---- refused
+
+shut-tree : (m : LaTeXMode) (v : Verdict) {n row : ℕ} → openTree m (answerOf v) ≡ Shut n row → byTree v ≡ bad n row
+shut-tree m (unfit k r) e = cc
+shut-tree m (accepted t) e = let z : _≡_ {A = ℕ} 0 1 = cc in absurd (omega arith)
+
+shut-rules : (m : LaTeXMode) (p : Option (List Rule)) (tree : List ℕ) {n row : ℕ} → openRules m p (answerOf (checkTree tree)) ≡ Shut n row → byRules p tree ≡ bad n row
+shut-rules m nothing tree e = cc
+shut-rules m (some rs) tree e = shut-tree m (checkTree tree) e
+
+shut-mode :
+    (o : Option LaTeXMode) (p : Option (List Rule)) (tree : List ℕ) {n row : ℕ} → opened o p (answerOf (checkTree tree)) ≡ Shut n row
+    → byMode o p tree ≡ bad n row
+shut-mode nothing p tree e = cc
+shut-mode (some m) p tree e = shut-rules m p tree e
+
+-- ---- opened
+
+-- what is open: the mode, and the answer of the tree's check
+pub record Opens (o : Option LaTeXMode) (v : Checked) (m : LaTeXMode) (start n : ℕ) : Type 0 where
+  pub mode-is : o ≡ some m
+  pub rows : ℕ
+  pub checked : v ≡ Whole start rows n
+
+opens-tree : (m : LaTeXMode) (v : Checked) {k : LaTeXMode} {start n : ℕ} → openTree m v ≡ Open k start n → Opens (some m) v k start n
+opens-tree m (Refused number row) e = let z : _≡_ {A = ℕ} 0 1 = cc in absurd (omega arith)
+opens-tree m (Whole s r b) {k} {start} {n} e =
+    record { mode-is = cc; rows = r; checked = let x : s ≡ start = cc in let y : b ≡ n = cc in λ i. Whole (x i) r (y i) }
+
+pub opens : (o : Option LaTeXMode) (p : Option (List Rule)) (v : Checked) {k : LaTeXMode} {start n : ℕ} → opened o p v ≡ Open k start n → Opens o v k start n
+opens nothing p v e = let z : _≡_ {A = ℕ} 0 1 = cc in absurd (omega arith)
+opens (some m) nothing v e = let z : _≡_ {A = ℕ} 0 1 = cc in absurd (omega arith)
+opens (some m) (some rs) v e = opens-tree m v e
+
+module _ (mode : ℕ) (file tree : List ℕ) where
+  pub shut : {n row : ℕ} → opened (modeOf mode) (rulesOf file) (answerOf (checkTree tree)) ≡ Shut n row → (manuscript mode file) .check tree ≡ bad n row
+  shut e = shut-mode (modeOf mode) (rulesOf file) tree e
+
+  module _ {index : List ℕ} {m : LaTeXMode} {start n : ℕ} (o : Opens (modeOf mode) (answerOf (checkTree tree)) m start n) (rules : SomeRules file index) where
+    abbrev there : Answered tree start (o .rows) n
+    there = answered tree start (o .rows) n (o .checked)
+
+    -- the file has a root's row and a trailer behind its text
+    pub long : Bytes tree → start + 16 ≤ length tree
+    long by =
+        let a = accepted-says tree by (there .tree) (there .is) in
+        omega (arith, a .whole, there .start-is, size-some (there .tree))
+
+    abbrev pub document :
+        Bytes tree → (end : ℕ) → end + 8 ≡ length tree
+        → Document file index (take (end - (start + 8)) (drop (start + 8) tree)) (take start tree) n
+    document by end e =
+        let b = answer-blocks tree by start (o .rows) n there end e in
+        record {
+          rs = rules .rules;
+          ready = rules .ready;
+          blocks = blocksOf (there .tree);
+          spells = b .spells;
+          many = sym (there .blocks-are);
+          most = omega (arith, b .few, there .blocks-are);
+          few = omega (arith, b .short, length-take (end - (start + 8)) (drop (start + 8) tree), length-drop (start + 8) tree);
+          short = omega (arith, b .short, length-take start tree);
+        }
+
+    -- a call over the checked tree is one over the blocks
+    pub opened-as :
+        (call : (𝓒 : Converter) → Blocks (𝓒 .Block) → Result)
+        → call (manuscript mode file) ((manuscript mode file) .check tree) ≡ call (blocksIn m (rules .rules)) (good (listed (blocksOf (there .tree))))
+    opened-as call =
+        ap (λ x. call (manuscriptIn x (rulesOf file)) (byMode x (rulesOf file) tree)) (o .mode-is)
+        ∙ ap (λ x. call (manuscriptIn (some m) x) (byRules x tree)) (rules .ready .decodes)
+        ∙ ap (λ v. call (blocksIn m (rules .rules)) (byTree v)) (there .is)
+
+    -- ---- the calls
+
+    pub converts :
+        (by : Bytes tree) (end : ℕ) (e : end + 8 ≡ length tree) (r : Converted) {out ledger out′ ledger′ : List ℕ}
+        → ConvertsBlocks file index (take (end - (start + 8)) (drop (start + 8) tree)) (take start tree) m n out ledger r out′ ledger′
+        → Converts (manuscript mode file) tree out ledger (saidOf r) out′ ledger′
+    unfolding convertDocument conversion
+    converts by end e r {out} {ledger} {out′} {ledger′} g =
+        record {
+          gives =
+              subst (λ (x : Result). Gives x (saidOf r) out′ ledger′) (sym (opened-as (λ 𝓒 v. settle (fromCheck 𝓒 v) out ledger)))
+              (g (document by end e));
+        }
+
+    pub edits :
+        (by : Bytes tree) (end : ℕ) (e : end + 8 ≡ length tree) (r : Edited) {k kept : ℕ} {out ledger out′ ledger′ : List ℕ}
+        → EditsBlocks file index (take (end - (start + 8)) (drop (start + 8) tree)) (take start tree) m n k kept out ledger r out′ ledger′
+        → Edits (manuscript mode file) tree k kept out ledger (saidEdited r) out′ ledger′
+    unfolding edit
+    edits by end e r {k} {kept} {out} {ledger} {out′} {ledger′} g =
+        record {
+          gives =
+              subst (λ (x : Result). Gives x (saidEdited r) out′ ledger′) (sym (opened-as (λ 𝓒 v. editChecked 𝓒 v k kept out ledger)))
+              (g (document by end e));
+        }
+
+  -- refused by the checks
+  pub converts-shut :
+      {v : Opened} {k row : ℕ} {out ledger : List ℕ} → v ≡ opened (modeOf mode) (rulesOf file) (answerOf (checkTree tree)) → v ≡ Shut k row
+      → Converts (manuscript mode file) tree out ledger (saidOf (NotConverted k row)) out ledger
+  unfolding convertDocument conversion settle
+  converts-shut {v} {k} {row} {out} {ledger} e f =
+      record {
+        gives =
+            subst (λ (x : Result). Gives x (refused k row) out ledger)
+            (sym (ap (λ x. settle (fromCheck (manuscript mode file) x) out ledger) (shut (sym e ∙ f))))
+            (record { answer = refl; bytes = refl; rows = refl });
+      }
+
+  pub edits-shut :
+      {v : Opened} {n row k kept : ℕ} {out ledger : List ℕ} → v ≡ opened (modeOf mode) (rulesOf file) (answerOf (checkTree tree)) → v ≡ Shut n row
+      → Edits (manuscript mode file) tree k kept out ledger (saidEdited (NotEdited n row)) out ledger
+  unfolding edit
+  edits-shut {v} {n} {row} {k} {kept} {out} {ledger} e f =
+      record {
+        gives =
+            subst (λ (x : Result). Gives x (refused n row) out ledger)
+            (sym (ap (λ x. editChecked (manuscript mode file) x k kept out ledger) (shut (sym e ∙ f))))
+            (record { answer = refl; bytes = refl; rows = refl });
+      }
