@@ -1,5 +1,6 @@
--- What the checks of the files leave, and what that says of Convert and Edit: a refusal of theirs is the refusal of the call (`shut`);
--- else the call is about the document that the rows and the text spell (`document`, `opened-as`).
+-- What the checks of the files leave, and what that says of Convert and Edit: a refusal of theirs is that of the call (`converts-shut`,
+-- `edits-shut`);
+-- else the call is about the document that the rows and the text spell (`document`, `converts`, `edits`).
 use mathlib.Core.Path.{_≡_, refl, sym, ap, subst, _∙_}
 use mathlib.Core.Option.{Option}
 use mathlib.Core.Option.Option.{none as nothing, some}
@@ -102,92 +103,111 @@ opens nothing p v e = let z : _≡_ {A = ℕ} 0 1 = cc in absurd (omega arith)
 opens (some m) nothing v e = let z : _≡_ {A = ℕ} 0 1 = cc in absurd (omega arith)
 opens (some m) (some rs) v e = opens-tree m v e
 
-module _ (mode : ℕ) (file tree : List ℕ) where
-  pub shut : {n row : ℕ} → opened (modeOf mode) (rulesOf file) (answerOf (checkTree tree)) ≡ Shut n row → (manuscript mode file) .check tree ≡ bad n row
-  shut e = shut-mode (modeOf mode) (rulesOf file) tree e
+-- the files are open: the tree file's bytes, the answer of its check, and the index of the rules
+pub record Reads (mode : ℕ) (file tree index : List ℕ) (m : LaTeXMode) (start n : ℕ) : Type 0 where
+  pub bytes : Bytes tree
+  pub opens : Opens (modeOf mode) (answerOf (checkTree tree)) m start n
+  pub rules : SomeRules file index
 
-  module _ {index : List ℕ} {m : LaTeXMode} {start n : ℕ} (o : Opens (modeOf mode) (answerOf (checkTree tree)) m start n) (rules : SomeRules file index) where
-    abbrev there : Answered tree start (o .rows) n
-    there = answered tree start (o .rows) n (o .checked)
+pub reads :
+    {mode : ℕ} {file tree index : List ℕ} {m : LaTeXMode} {start n : ℕ} {v : Opened} → Bytes tree
+    → v ≡ opened (modeOf mode) (rulesOf file) (answerOf (checkTree tree)) → Indexed v file index → v ≡ Open m start n
+    → Reads mode file tree index m start n
+reads {mode} {file} {tree} {index} by e ix f =
+    record {
+      bytes = by;
+      opens = opens (modeOf mode) (rulesOf file) (answerOf (checkTree tree)) (sym e ∙ f);
+      rules = subst (λ (r : Opened). Indexed r file index) f ix;
+    }
 
-    -- the file has a root's row and a trailer behind its text
-    pub long : Bytes tree → start + 16 ≤ length tree
-    long by =
-        let a = accepted-says tree by (there .tree) (there .is) in
-        omega (arith, a .whole, there .start-is, size-some (there .tree))
+module _ {mode : ℕ} {file tree index : List ℕ} {m : LaTeXMode} {start n : ℕ} (o : Reads mode file tree index m start n) where
+  abbrev pub there : Answered tree start (o .opens .rows) n
+  there = answered tree start (o .opens .rows) n (o .opens .checked)
 
-    abbrev pub document :
-        Bytes tree → (end : ℕ) → end + 8 ≡ length tree
-        → Document file index (take (end - (start + 8)) (drop (start + 8) tree)) (take start tree) n
-    document by end e =
-        let b = answer-blocks tree by start (o .rows) n there end e in
-        record {
-          rs = rules .rules;
-          ready = rules .ready;
-          blocks = blocksOf (there .tree);
-          spells = b .spells;
-          many = sym (there .blocks-are);
-          most = omega (arith, b .few, there .blocks-are);
-          few = omega (arith, b .short, length-take (end - (start + 8)) (drop (start + 8) tree), length-drop (start + 8) tree);
-          short = omega (arith, b .short, length-take start tree);
-        }
+  -- the file has a root's row and a trailer behind its text
+  pub long : start + 16 ≤ length tree
+  long =
+      let a = accepted-says tree (o .bytes) (there .tree) (there .is) in
+      omega (arith, a .whole, there .start-is, size-some (there .tree))
 
-    -- a call over the checked tree is one over the blocks
-    pub opened-as :
-        (call : (𝓒 : Converter) → Blocks (𝓒 .Block) → Result)
-        → call (manuscript mode file) ((manuscript mode file) .check tree) ≡ call (blocksIn m (rules .rules)) (good (listed (blocksOf (there .tree))))
-    opened-as call =
-        ap (λ x. call (manuscriptIn x (rulesOf file)) (byMode x (rulesOf file) tree)) (o .mode-is)
-        ∙ ap (λ x. call (manuscriptIn (some m) x) (byRules x tree)) (rules .ready .decodes)
-        ∙ ap (λ v. call (blocksIn m (rules .rules)) (byTree v)) (there .is)
+  pub trailer : length tree - 8 + 8 ≡ length tree
+  trailer = omega (arith, long)
 
-    -- ---- the calls
+  -- the rows after the root's, and the text
+  abbrev pub rowsIn : List ℕ
+  rowsIn = take (length tree - 8 - (start + 8)) (drop (start + 8) tree)
 
-    pub converts :
-        (by : Bytes tree) (end : ℕ) (e : end + 8 ≡ length tree) (r : Converted) {out ledger out′ ledger′ : List ℕ}
-        → ConvertsBlocks file index (take (end - (start + 8)) (drop (start + 8) tree)) (take start tree) m n out ledger r out′ ledger′
-        → Converts (manuscript mode file) tree out ledger (saidOf r) out′ ledger′
-    unfolding convertDocument conversion
-    converts by end e r {out} {ledger} {out′} {ledger′} g =
-        record {
-          gives =
-              subst (λ (x : Result). Gives x (saidOf r) out′ ledger′) (sym (opened-as (λ 𝓒 v. settle (fromCheck 𝓒 v) out ledger)))
-              (g (document by end e));
-        }
+  abbrev pub document : Document file index rowsIn (take start tree) n
+  document =
+      let b = answer-blocks tree (o .bytes) start (o .opens .rows) n there (length tree - 8) trailer in
+      record {
+        rs = o .rules .rules;
+        ready = o .rules .ready;
+        blocks = blocksOf (there .tree);
+        spells = b .spells;
+        many = sym (there .blocks-are);
+        most = omega (arith, b .few, there .blocks-are);
+        few = omega (arith, b .short, length-take (length tree - 8 - (start + 8)) (drop (start + 8) tree), length-drop (start + 8) tree);
+        short = omega (arith, b .short, length-take start tree);
+      }
 
-    pub edits :
-        (by : Bytes tree) (end : ℕ) (e : end + 8 ≡ length tree) (r : Edited) {k kept : ℕ} {out ledger out′ ledger′ : List ℕ}
-        → EditsBlocks file index (take (end - (start + 8)) (drop (start + 8) tree)) (take start tree) m n k kept out ledger r out′ ledger′
-        → Edits (manuscript mode file) tree k kept out ledger (saidEdited r) out′ ledger′
-    unfolding edit
-    edits by end e r {k} {kept} {out} {ledger} {out′} {ledger′} g =
-        record {
-          gives =
-              subst (λ (x : Result). Gives x (saidEdited r) out′ ledger′) (sym (opened-as (λ 𝓒 v. editChecked 𝓒 v k kept out ledger)))
-              (g (document by end e));
-        }
+  -- a call over the checked tree is one over the blocks
+  opened-as :
+      (call : (𝓒 : Converter) → Blocks (𝓒 .Block) → Result)
+      → call (manuscript mode file) ((manuscript mode file) .check tree) ≡ call (blocksIn m (document .rs)) (good (listed (document .blocks)))
+  opened-as call =
+      ap (λ x. call (manuscriptIn x (rulesOf file)) (byMode x (rulesOf file) tree)) (o .opens .mode-is)
+      ∙ ap (λ x. call (manuscriptIn (some m) x) (byRules x tree)) (o .rules .ready .decodes)
+      ∙ ap (λ v. call (blocksIn m (document .rs)) (byTree v)) (there .is)
 
-  -- refused by the checks
-  pub converts-shut :
-      {v : Opened} {k row : ℕ} {out ledger : List ℕ} → v ≡ opened (modeOf mode) (rulesOf file) (answerOf (checkTree tree)) → v ≡ Shut k row
-      → Converts (manuscript mode file) tree out ledger (saidOf (NotConverted k row)) out ledger
-  unfolding convertDocument conversion settle
-  converts-shut {v} {k} {row} {out} {ledger} e f =
+  pub converts :
+      (r : Converted) {out ledger out′ ledger′ : List ℕ}
+      → ConvertsBlocks file index rowsIn (take start tree) m n out ledger r out′ ledger′
+      → Converts (manuscript mode file) tree out ledger (saidOf r) out′ ledger′
+  unfolding convertDocument conversion
+  converts r {out} {ledger} {out′} {ledger′} g =
       record {
         gives =
-            subst (λ (x : Result). Gives x (refused k row) out ledger)
-            (sym (ap (λ x. settle (fromCheck (manuscript mode file) x) out ledger) (shut (sym e ∙ f))))
+            subst (λ (x : Result). Gives x (saidOf r) out′ ledger′) (sym (opened-as (λ 𝓒 v. settle (fromCheck 𝓒 v) out ledger)))
+            (g document);
+      }
+
+  pub edits :
+      (r : Edited) {k kept : ℕ} {out ledger out′ ledger′ : List ℕ}
+      → EditsBlocks file index rowsIn (take start tree) m n k kept out ledger r out′ ledger′
+      → Edits (manuscript mode file) tree k kept out ledger (saidEdited r) out′ ledger′
+  unfolding edit
+  edits r {k} {kept} {out} {ledger} {out′} {ledger′} g =
+      record {
+        gives =
+            subst (λ (x : Result). Gives x (saidEdited r) out′ ledger′) (sym (opened-as (λ 𝓒 v. editChecked 𝓒 v k kept out ledger)))
+            (g document);
+      }
+
+-- ---- refused by the checks
+
+module _ (mode : ℕ) (file tree : List ℕ) {v : Opened} {n row : ℕ} (e : v ≡ opened (modeOf mode) (rulesOf file) (answerOf (checkTree tree)))
+    (f : v ≡ Shut n row) where
+  shut : (manuscript mode file) .check tree ≡ bad n row
+  shut = shut-mode (modeOf mode) (rulesOf file) tree (sym e ∙ f)
+
+  pub converts-shut : {out ledger : List ℕ} → Converts (manuscript mode file) tree out ledger (saidOf (NotConverted n row)) out ledger
+  unfolding convertDocument conversion settle
+  converts-shut {out} {ledger} =
+      record {
+        gives =
+            subst (λ (x : Result). Gives x (refused n row) out ledger)
+            (sym (ap (λ x. settle (fromCheck (manuscript mode file) x) out ledger) shut))
             (record { answer = refl; bytes = refl; rows = refl });
       }
 
   pub edits-shut :
-      {v : Opened} {n row k kept : ℕ} {out ledger : List ℕ} → v ≡ opened (modeOf mode) (rulesOf file) (answerOf (checkTree tree)) → v ≡ Shut n row
-      → Edits (manuscript mode file) tree k kept out ledger (saidEdited (NotEdited n row)) out ledger
+      {k kept : ℕ} {out ledger : List ℕ} → Edits (manuscript mode file) tree k kept out ledger (saidEdited (NotEdited n row)) out ledger
   unfolding edit
-  edits-shut {v} {n} {row} {k} {kept} {out} {ledger} e f =
+  edits-shut {k} {kept} {out} {ledger} =
       record {
         gives =
             subst (λ (x : Result). Gives x (refused n row) out ledger)
-            (sym (ap (λ x. editChecked (manuscript mode file) x k kept out ledger) (shut (sym e ∙ f))))
+            (sym (ap (λ x. editChecked (manuscript mode file) x k kept out ledger) shut))
             (record { answer = refl; bytes = refl; rows = refl });
       }
