@@ -25,7 +25,8 @@ module _ (𝓒 : Converter) where
 
   gives-onto :
       {c c′ : Carry} {b : Block} {bs : List Block} {t : List ℕ} {ps : List Piece} (v : Walk) → convertBlock c b ≡ done c′ t
-      → ((qs : List Piece) → v ≡ pieces qs → Gives 𝓒 c′ bs qs) → onto (record { text = t; after = c′ }) v ≡ pieces ps → Gives 𝓒 c (b ∷ bs) ps
+      → ((qs : List Piece) → v ≡ pieces qs → Gives 𝓒 c′ bs qs) → onto (record { text = t; after = c′ }) v ≡ pieces ps
+      → Gives 𝓒 c (b ∷ bs) ps
   gives-onto (stopped n i) e ih h = let z : _≡_ {A = ℕ} 0 1 = cc in absurd (omega arith)
   gives-onto {c} {c′} {b} {bs} {t} {ps} (pieces qs) e ih h =
       let q : record { text = t; after = c′ } ∷ qs ≡ ps = cc in subst (Gives 𝓒 c (b ∷ bs)) q (one-more e (ih qs refl))
@@ -43,7 +44,8 @@ module _ (𝓒 : Converter) where
   gives-stop false v ih qs h = ih qs h
 
   gives-until :
-      {c : Carry} {b : Block} {bs : List Block} {ps : List Piece} (o : Outcome) (r : ℕ) (d : Carry) (k : Carry → Walk) → convertBlock c b ≡ o
+      {c : Carry} {b : Block} {bs : List Block} {ps : List Piece} (o : Outcome) (r : ℕ) (d : Carry) (k : Carry → Walk)
+      → convertBlock c b ≡ o
       → ((c′ : Carry) (qs : List Piece) → k c′ ≡ pieces qs → Gives 𝓒 c′ bs qs) → nextUntil o r d k ≡ pieces ps → Gives 𝓒 c (b ∷ bs) ps
   gives-until (refused n i) r d k e ih h = let z : _≡_ {A = ℕ} 0 1 = cc in absurd (omega arith)
   gives-until (done c′ t) r d k e ih h =
@@ -55,7 +57,8 @@ module _ (𝓒 : Converter) where
   walk-all (b ∷ bs) c r ps h =
       gives-next (convertBlock c b) r (λ c′. walk 𝓒 c′ (r + rowsOf b) bs) refl (λ c′ qs. walk-all bs c′ (r + rowsOf b) qs) h
 
-  walk-some : (bs : List Block) (c : Carry) (r : ℕ) (ds : List Carry) (ps : List Piece) → walkUntil 𝓒 c r bs ds ≡ pieces ps → Gives 𝓒 c bs ps
+  walk-some :
+      (bs : List Block) (c : Carry) (r : ℕ) (ds : List Carry) (ps : List Piece) → walkUntil 𝓒 c r bs ds ≡ pieces ps → Gives 𝓒 c bs ps
   unfolding walkUntil
   walk-some [] c r ds ps h = let q : [] ≡ ps = cc in subst (Gives 𝓒 c []) q none-yet
   walk-some (b ∷ bs) c r [] ps h = let q : [] ≡ ps = cc in subst (Gives 𝓒 c (b ∷ bs)) q none-yet
@@ -78,7 +81,8 @@ module _ (𝓒 : Converter) where
 
 -- ---- what a measuring pass came to
 
-pub came-refused : {from r : Standing} {v : Walk} → Came from r v → (r .walked .refusal ≡ 0 → ⊥) → v ≡ stopped (r .walked .refusal) (r .walked .row)
+pub came-refused :
+    {from r : Standing} {v : Walk} → Came from r v → (r .walked .refusal ≡ 0 → ⊥) → v ≡ stopped (r .walked .refusal) (r .walked .row)
 came-refused (stops h n i) z = λ k. stopped (sym n k) (sym i k)
 came-refused (comes w b p) z = absurd (z w)
 

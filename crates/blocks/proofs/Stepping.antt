@@ -43,7 +43,8 @@ module _ {rules index rows text : List ℕ} {s : Standing} (w : Given rules inde
     pub next-spans : Spans rows (s .i)
     next-spans = spans next-element rows-few text-short
 
-    module _ (e n : ℕ) (is-e : e ≡ extentOf (drop (s .i) rows)) (is-n : n ≡ tokenSum (take (extentOf (drop (s .i) rows)) (drop (s .i) rows))) where
+    module _ (e n : ℕ) (is-e : e ≡ extentOf (drop (s .i) rows))
+        (is-n : n ≡ tokenSum (take (extentOf (drop (s .i) rows)) (drop (s .i) rows))) where
       pub next-child : Child rows text (s .i) (s .j) e n
       next-child = child next-element e n is-e is-n
 
@@ -84,7 +85,8 @@ module _ {rules index rows text : List ℕ} {s : Standing} (w : Given rules inde
           some = size-some t;
         }
 
-    module _ (e n : ℕ) (is-e : e ≡ extentOf (drop (s .i) rows)) (is-n : n ≡ tokenSum (take (extentOf (drop (s .i) rows)) (drop (s .i) rows))) where
+    module _ (e n : ℕ) (is-e : e ≡ extentOf (drop (s .i) rows))
+        (is-n : n ≡ tokenSum (take (extentOf (drop (s .i) rows)) (drop (s .i) rows))) where
       pub stepped :
           {a : Walked} {out out′ : List ℕ}
           → Converts rules index (part rows (s .i) e) (part text (s .j) n) (1 + s .i / 8) (s .walked .converter) (s .walked .at) out a out′
@@ -107,7 +109,8 @@ module _ {rules index rows text : List ℕ} {s : Standing} (w : Given rules inde
           }
 
     -- behind the block
-    module _ {out out′ : List ℕ} {r : Standing} (p : Stepped rules index rows text s (w .rs) t g out r out′) (z : r .walked .refusal ≡ 0) where
+    module _ {out out′ : List ℕ} {r : Standing} (p : Stepped rules index rows text s (w .rs) t g out r out′)
+        (z : r .walked .refusal ≡ 0) where
       pub fine : Good (r .walked) (placeOf (s .walked .converter))
       fine = good (p .agrees) z
 

@@ -92,7 +92,8 @@ pub record SomeBlocks (rows : List ℕ) (block : ℕ) : Type 0 where
 -- ---- what is promised
 
 -- a block was passed: t, and g are left
-pub record Stepped (rules index rows text : List ℕ) (s : Standing) (rs : List Rule) (t : Tree) (g : Forest) (out : List ℕ) (r : Standing) (out′ : List ℕ) : Type 0 where
+pub record Stepped (rules index rows text : List ℕ) (s : Standing) (rs : List Rule) (t : Tree) (g : Forest) (out : List ℕ) (r : Standing)
+    (out′ : List ℕ) : Type 0 where
   pub counted : r .block ≡ s .block + 1
   pub row : rowNo r ≡ rowNo s + size t
   pub spells : SpellsAll g (drop (r .i) rows) (drop (r .j) text)
@@ -104,7 +105,8 @@ pub record Stepped (rules index rows text : List ℕ) (s : Standing) (rs : List 
 
 abbrev pub Steps : (rules index rows text : List ℕ) (s : Standing) (out : List ℕ) (r : Standing) (out′ : List ℕ) → Type 0
 Steps rules index rows text s out r out′ =
-    (w : Given rules index rows text s) (t : Tree) (g : Forest) → w .blocks ≡ more t g → Stepped rules index rows text s (w .rs) t g out r out′
+    (w : Given rules index rows text s) (t : Tree) (g : Forest) → w .blocks ≡ more t g
+    → Stepped rules index rows text s (w .rs) t g out r out′
 
 -- the pass stands before block k
 pub record Stood (blocks : Forest) (rows text : List ℕ) (k at : ℕ) (c : Converter) (r : Standing) : Type 0 where
@@ -119,7 +121,8 @@ pub record Stood (blocks : Forest) (rows text : List ℕ) (k at : ℕ) (c : Conv
 
 abbrev pub Stands : (rows : List ℕ) (k at : ℕ) (c : Converter) (r : Standing) → Type 0
 Stands rows k at c r =
-    (blocks : Forest) (text : List ℕ) → SpellsAll blocks rows text → k ≤ count blocks → length text ≤ fileMost → Stood blocks rows text k at c r
+    (blocks : Forest) (text : List ℕ) → SpellsAll blocks rows text → k ≤ count blocks → length text ≤ fileMost
+    → Stood blocks rows text k at c r
 
 -- all blocks, or no further than the kept carry
 abbrev pub walkBy : (𝓒 : Blocks) → Bool → Carry → ℕ → List (𝓒 .Block) → List Carry → Walk

@@ -1,5 +1,5 @@
--- What Edit comes to over a document's blocks: 6 where block, kept length or ledger do not fit (`edited-unfit`); the refusal that the blocks
--- converted again meet (`edited-refused`); else their pieces are written in the place of the kept ones (`edited-as`).
+-- What Edit comes to over a document's blocks: 6 where block, kept length or ledger do not fit (`edited-unfit`); the refusal that the
+-- blocks converted again meet (`edited-refused`); else their pieces are written in the place of the kept ones (`edited-as`).
 use mathlib.Core.Path.{_≡_, refl, sym, ap, subst, _∙_}
 use mathlib.Core.Bool.{Bool, true, false, _&&_, cond}
 use mathlib.Core.List.{List}
@@ -57,7 +57,8 @@ module _ {n k kept : ℕ} {out ledger : List ℕ} (f : Fitting n k kept out ledg
 
 -- ---- the call over the blocks
 
-module _ {rules index rows text : List ℕ} {n : ℕ} (w : Document rules index rows text n) (m : LaTeXMode) (k kept : ℕ) (out ledger : List ℕ) where
+module _ {rules index rows text : List ℕ} {n : ℕ} (w : Document rules index rows text n) (m : LaTeXMode) (k kept : ℕ)
+    (out ledger : List ℕ) where
   abbrev result : Result
   result = editChecked (blocksIn m (w .rs)) (good (listed (w .blocks))) k kept out ledger
 
@@ -80,7 +81,8 @@ module _ {rules index rows text : List ℕ} {n : ℕ} (w : Document rules index 
 
   pub edited-unfit : {b : Bool} → b ≡ editFits n k kept out ledger → b ≡ false → Gives result (refused 6 0) out ledger
   edited-unfit e t =
-      subst (λ (x : Result). Gives x (refused 6 0) out ledger) (sym (result-by e false t)) (record { answer = refl; bytes = refl; rows = refl })
+      subst (λ (x : Result). Gives x (refused 6 0) out ledger) (sym (result-by e false t))
+      (record { answer = refl; bytes = refl; rows = refl })
 
   -- a pass that began before block k, as the row before it says, and measured up to where the blocks' carry is the kept one
   pub record Passed (from r : Standing) : Type 0 where
@@ -126,10 +128,14 @@ module _ {rules index rows text : List ℕ} {n : ℕ} (w : Document rules index 
     pub came : Came from r walked
     came = subst (Came from r) walk-is (p .measured whole)
 
+    by-walk : {v : Walk} → walked ≡ v → result ≡ writeOr n k kept (decodeRows n ledger) v out ledger
+    by-walk e =
+        result-by (p .tested) true (p .fits-so) ∙ ap (λ (v : Walk). writeOr n k kept (decodeRows n ledger) v out ledger) e
+
     pub edited-refused : (r .walked .refusal ≡ 0 → ⊥) → Gives result (refused (r .walked .refusal) (r .walked .row)) out ledger
     edited-refused z =
         subst (λ (x : Result). Gives x (refused (r .walked .refusal) (r .walked .row)) out ledger)
-        (sym (result-by (p .tested) true (p .fits-so) ∙ ap (λ (v : Walk). writeOr n k kept (decodeRows n ledger) v out ledger) (came-refused came z)))
+        (sym (by-walk (came-refused came z)))
         (record { answer = refl; bytes = refl; rows = refl })
 
     module _ (z : r .walked .refusal ≡ 0) where
@@ -158,4 +164,4 @@ module _ {rules index rows text : List ℕ} {n : ℕ} (w : Document rules index 
       edited-as {a} {out′} {ledger′} g =
           subst (λ (x : Result). Gives x a out′ ledger′)
           (ap (λ (i : ℕ). write n i kept (decodeRows n ledger) (to .ps) out ledger) (st .block)
-          ∙ sym (result-by (p .tested) true (p .fits-so) ∙ ap (λ (v : Walk). writeOr n k kept (decodeRows n ledger) v out ledger) (to .are))) g
+          ∙ sym (by-walk (to .are))) g

@@ -1,6 +1,5 @@
 -- What the checks of the files leave, and what that says of Convert and Edit: a refusal of theirs is that of the call (`converts-shut`,
--- `edits-shut`);
--- else the call is about the document that the rows and the text spell (`document`, `converts`, `edits`).
+-- `edits-shut`); else the call is about the document that the rows and the text spell (`document`, `converts`, `edits`).
 use mathlib.Core.Path.{_≡_, refl, sym, ap, subst, _∙_}
 use mathlib.Core.Option.{Option}
 use mathlib.Core.Option.Option.{none as nothing, some}
@@ -75,7 +74,9 @@ shut-tree : (m : LaTeXMode) (v : Verdict) {n row : ℕ} → openTree m (answerOf
 shut-tree m (unfit k r) e = cc
 shut-tree m (accepted t) e = let z : _≡_ {A = ℕ} 0 1 = cc in absurd (omega arith)
 
-shut-rules : (m : LaTeXMode) (p : Option (List Rule)) (tree : List ℕ) {n row : ℕ} → openRules m p (answerOf (checkTree tree)) ≡ Shut n row → byRules p tree ≡ bad n row
+shut-rules :
+    (m : LaTeXMode) (p : Option (List Rule)) (tree : List ℕ) {n row : ℕ} → openRules m p (answerOf (checkTree tree)) ≡ Shut n row
+    → byRules p tree ≡ bad n row
 shut-rules m nothing tree e = cc
 shut-rules m (some rs) tree e = shut-tree m (checkTree tree) e
 
@@ -98,7 +99,9 @@ opens-tree m (Refused number row) e = let z : _≡_ {A = ℕ} 0 1 = cc in absurd
 opens-tree m (Whole s r b) {k} {start} {n} e =
     record { mode-is = cc; rows = r; checked = let x : s ≡ start = cc in let y : b ≡ n = cc in λ i. Whole (x i) r (y i) }
 
-pub opens : (o : Option LaTeXMode) (p : Option (List Rule)) (v : Checked) {k : LaTeXMode} {start n : ℕ} → opened o p v ≡ Open k start n → Opens o v k start n
+pub opens :
+    (o : Option LaTeXMode) (p : Option (List Rule)) (v : Checked) {k : LaTeXMode} {start n : ℕ} → opened o p v ≡ Open k start n
+    → Opens o v k start n
 opens nothing p v e = let z : _≡_ {A = ℕ} 0 1 = cc in absurd (omega arith)
 opens (some m) nothing v e = let z : _≡_ {A = ℕ} 0 1 = cc in absurd (omega arith)
 opens (some m) (some rs) v e = opens-tree m v e
@@ -154,7 +157,8 @@ module _ {mode : ℕ} {file tree index : List ℕ} {m : LaTeXMode} {start n : �
   -- a call over the checked tree is one over the blocks
   opened-as :
       (call : (𝓒 : Converter) → Blocks (𝓒 .Block) → Result)
-      → call (manuscript mode file) ((manuscript mode file) .check tree) ≡ call (blocksIn m (document .rs)) (good (listed (document .blocks)))
+      → call (manuscript mode file) ((manuscript mode file) .check tree)
+      ≡ call (blocksIn m (document .rs)) (good (listed (document .blocks)))
   opened-as call =
       ap (λ x. call (manuscriptIn x (rulesOf file)) (byMode x (rulesOf file) tree)) (o .opens .mode-is)
       ∙ ap (λ x. call (manuscriptIn (some m) x) (byRules x tree)) (o .rules .ready .decodes)

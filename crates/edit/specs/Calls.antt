@@ -78,7 +78,8 @@ pub record Document (rules index rows text : List ℕ) (n : ℕ) : Type 0 where
 
 -- ---- Convert
 
-abbrev pub ConvertsBlocks : (rules index rows text : List ℕ) (m : LaTeXMode) (n : ℕ) (out ledger : List ℕ) (r : Converted) (out′ ledger′ : List ℕ) → Type 0
+abbrev pub ConvertsBlocks :
+    (rules index rows text : List ℕ) (m : LaTeXMode) (n : ℕ) (out ledger : List ℕ) (r : Converted) (out′ ledger′ : List ℕ) → Type 0
 ConvertsBlocks rules index rows text m n out ledger r out′ ledger′ =
     (w : Document rules index rows text n)
     → Gives (settle (walk (blocksIn m (w .rs)) startCarry 1 (listed (w .blocks))) out ledger) (saidOf r) out′ ledger′
@@ -120,12 +121,14 @@ abbrev pub Overwrites : (rules index rows text : List ℕ) (n kept : ℕ) (from 
 Overwrites rules index rows text n kept from m out ledger out′ ledger′ =
     (w : Measured rules index rows text n kept from m out ledger) → Overwrote n kept from m (w .qs) out ledger out′ ledger′
 
-abbrev pub Splices : (rules index rows text : List ℕ) (n kept : ℕ) (from m : Standing) (out ledger : List ℕ) (r : Edited) (out′ ledger′ : List ℕ) → Type 0
+abbrev pub Splices :
+    (rules index rows text : List ℕ) (n kept : ℕ) (from m : Standing) (out ledger : List ℕ) (r : Edited) (out′ ledger′ : List ℕ) → Type 0
 Splices rules index rows text n kept from m out ledger r out′ ledger′ =
     (w : Measured rules index rows text n kept from m out ledger)
     → Gives (write n (from .block) kept (decodeRows n ledger) (w .qs) out ledger) (answerOf r) out′ ledger′
 
-abbrev pub EditsBlocks : (rules index rows text : List ℕ) (m : LaTeXMode) (n k kept : ℕ) (out ledger : List ℕ) (r : Edited) (out′ ledger′ : List ℕ) → Type 0
+abbrev pub EditsBlocks :
+    (rules index rows text : List ℕ) (m : LaTeXMode) (n k kept : ℕ) (out ledger : List ℕ) (r : Edited) (out′ ledger′ : List ℕ) → Type 0
 EditsBlocks rules index rows text m n k kept out ledger r out′ ledger′ =
     (w : Document rules index rows text n)
     → Gives (editChecked (blocksIn m (w .rs)) (good (listed (w .blocks))) k kept out ledger) (answerOf r) out′ ledger′

@@ -3,3 +3,4 @@ pub mod Edit
 pub mod Run
 pub mod Calls
 pub mod Examples
+pub mod NearPasses

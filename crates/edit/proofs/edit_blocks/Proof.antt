@@ -74,7 +74,8 @@ returns c =
     let d = c .before in
     let a = start d .args in
     λ w.
-    edited-unfit w (a .mode) (a .block) (a .kept) (a .out .now) (a .ledger .now) (d .edit-fits .ensures) (not-true (d .edit-fits .result) (c .if1 .taken))
+    edited-unfit w (a .mode) (a .block) (a .kept) (a .out .now) (a .ledger .now) (d .edit-fits .ensures)
+    (not-true (d .edit-fits .result) (c .if1 .taken))
 
 end-before-requires : tie.Need-end-before-requires
 end-before-requires c κs = λ h. row-before (fits (c .before)) h .0

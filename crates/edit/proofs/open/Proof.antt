@@ -35,7 +35,8 @@ same-length c = search needs
 returns-2 : tie.Need-returns-2
 returns-2 c =
     let d = c .before .before .before in
-    (opened-no-rules (start d .args .mode) _ _ (d .before .before .if1 .left) (checked-none (d .check-rules .ensures) (not-true (d .check-rules .result) (c .if2 .taken)) .0), tt)
+    let none = checked-none (d .check-rules .ensures) (not-true (d .check-rules .result) (c .if2 .taken)) .0 in
+    (opened-no-rules (start d .args .mode) _ _ (d .before .before .if1 .left) none, tt)
 
 open-tree-requires : tie.Need-open-tree-requires
 open-tree-requires c κs = search needs
