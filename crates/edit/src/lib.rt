@@ -26,9 +26,11 @@ ghost use Rattle.mitex_state.specs.State.{newOf, Carried};
 ghost use Rattle.mitex_state.specs.Conversion.{startCarry};
 ghost use Rattle.ledger.specs.Ledger.{HasRow, RowFits};
 ghost use Rattle.editing.specs.Edit.{textMost, editFits};
-ghost use Rattle.editing.specs.Calls.{Converts, Edits};
+ghost use Rattle.editing.specs.Run.{sizeAfter};
+ghost use Rattle.editing.specs.Calls.{Converts, Edits, Runs};
 ghost use Rattle.blocks.specs.Manuscript.{modeOf, manuscript};
 ghost use Rattle.edit.specs.Calls.{saidOf, answerOf, openTree, opened, Indexed, Document, ConvertsBlocks, EndsBefore, CarriesBefore, Measured, oldEnd, Overwrites, Splices, EditsBlocks};
+ghost use Rattle.edit.specs.Three.{threeEdits, threeAnswers, Demanded};
 
 // A text buffer counts as at most so many bytes.
 const TEXT_MOST: usize = 4294967295;
@@ -53,6 +55,14 @@ pub enum Edited {
         growth: i64,
         count: usize,
     },
+}
+
+// What three edits in a row answered, and the text's length behind them.
+pub struct Three {
+    pub first: Edited,
+    pub second: Edited,
+    pub third: Edited,
+    pub length: usize,
 }
 
 // What refusals 1 to 5 leave: a mode, where the tree file's rows begin, and how many blocks there are.
@@ -412,5 +422,56 @@ pub fn edit<'a>(
                 ledger,
             )
         }
+    }
+}
+
+// ---- three edits in a row
+
+// The text's length behind an edit: a refused one leaves it as it was.
+fn length_after(r: Edited, kept: usize) -> usize
+    ensures { λ n. ⌜ n ≡ sizeAfter (answerOf r) kept ⌝ }
+{
+    match r {
+        Edited::Refused { number: _, row: _ } => kept,
+        Edited::Done {
+            length,
+            growth: _,
+            count: _,
+        } => length,
+    }
+}
+
+// Three edits, each with what the one before left: a small example of what a caller does. The calls are a run, so demand 3 holds of them.
+pub fn three_edits<'a>(
+    mode: u8,
+    rules: &'a [u8],
+    one: &'a [u8],
+    i: usize,
+    two: &'a [u8],
+    j: usize,
+    three: &'a [u8],
+    k: usize,
+    kept: usize,
+    text: &mut [u8],
+    ledger: &mut [u8],
+) -> Three
+    ensures run { λ r. ⌜ Runs (manuscript mode (now (rules .entry))) kept (now (text .entry)) (now (ledger .entry))
+        (threeEdits (now (one .entry)) i (now (two .entry)) j (now (three .entry)) k)
+        (threeAnswers r) (r .length) (now (text .exit)) (now (ledger .exit)) ⌝ }
+    ensures demand { λ r. ⌜ Demanded (manuscript mode (now (rules .entry))) kept (now (text .entry)) (now (ledger .entry))
+        (threeEdits (now (one .entry)) i (now (two .entry)) j (now (three .entry)) k)
+        (threeAnswers r) (r .length) (now (text .exit)) (now (ledger .exit)) ⌝ }
+{
+    let first = edit(mode, rules, one, i, kept, text, ledger);
+    let after_one = length_after(first, kept);
+    let second = edit(mode, rules, two, j, after_one, text, ledger);
+    let after_two = length_after(second, after_one);
+    let third = edit(mode, rules, three, k, after_two, text, ledger);
+    let length = length_after(third, after_two);
+    Three {
+        first,
+        second,
+        third,
+        length,
     }
 }
