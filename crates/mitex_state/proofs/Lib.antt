@@ -6,3 +6,6 @@ pub mod Keeping
 pub mod Blocks
 pub mod Sizes
 pub mod Levels
+pub mod LentForms
+pub mod LentWalks
+pub mod LentCalls

@@ -270,6 +270,40 @@ impl Converter {
         }
     }
 
+    // In the Rust's form, on a lent converter: in a mode, and the mode before is returned.
+    pub fn enter_mode(&mut self, context: LaTeXMode) -> LaTeXMode
+        ensures { λ r. ⌜ (r ≡ now (self .entry) .mode) × (now (self .exit) ≡ withMode context (now (self .entry))) ⌝ }
+    {
+        let prev = self.mode;
+        self.mode = context;
+        prev
+    }
+
+    // On a lent converter: back in the mode before.
+    pub fn exit_mode(&mut self, prev: LaTeXMode)
+        ensures { λ _. ⌜ now (self .exit) ≡ withMode prev (now (self .entry)) ⌝ }
+    {
+        self.mode = prev;
+    }
+
+    // On a lent converter: in an environment, and the environment before is returned.
+    pub fn enter_env(&mut self, context: LaTeXEnv) -> LaTeXEnv
+        requires { ⌜ now self .indent + stepOf context < 2 ^ 64 ⌝ }
+        ensures { λ r. ⌜ (r ≡ now (self .entry) .env) × (now (self .exit) ≡ enteredEnv context (now (self .entry))) ⌝ }
+    {
+        let prev = self.env;
+        *self = Converter::entered_env(*self, context);
+        prev
+    }
+
+    // On a lent converter: back in the environment before; the indent of a list is at least 2.
+    pub fn exit_env(&mut self, prev: LaTeXEnv)
+        requires { ⌜ stepOf (now self .env) ≤ now self .indent ⌝ }
+        ensures { λ _. ⌜ now (self .exit) ≡ exitedEnv prev (now (self .entry)) ⌝ }
+    {
+        *self = Converter::exited_env(*self, prev);
+    }
+
     // The flag set so.
     pub fn with_flag(self, flag: bool) -> Converter
         ensures { λ r. ⌜ Carried self (flagged flag (carryOf self)) r ⌝ }
@@ -309,6 +343,18 @@ impl Converter {
             ..self
         }
     }
+}
+
+// By how much what stands in an environment is further in than what follows it: the environment is entered and left on a converter
+// that this function lends. Its own parameters are plain, so that whoever calls it needs to know nothing of a loan.
+pub fn indent_in(mut c: Converter, context: LaTeXEnv) -> usize
+    requires { ⌜ c .indent + stepOf context < 2 ^ 64 ⌝ }
+    ensures { λ r. ⌜ r ≡ stepOf context ⌝ }
+{
+    let prev = c.enter_env(context);
+    let inside = c.indent;
+    c.exit_env(prev);
+    inside - c.indent
 }
 
 // A walk that went well.
