@@ -1,0 +1,67 @@
+/*
+ * Zaldrume: LaTeX trees to Typst, block by block, and edits of an open document.
+ * The functions of the static library libzaldrume.a (x86-64 Linux, the C calling convention).
+ *
+ * How things pass
+ *   A slice of bytes is two arguments: the address of its first byte, which is not null even where
+ *   the slice is empty, and how many bytes it has. rules and tree are only read. text and ledger are
+ *   read and written within their lengths. place, growth and count are addresses of one number each,
+ *   written by every call. What is written (text, ledger, place, growth, count) overlaps with nothing
+ *   else that is passed. Nothing more is asked: any bytes, lengths and numbers get an answer.
+ *
+ * What a call answers
+ *   The result is 0, or the number of a refusal, from 1 to 15. After a refusal *place is the row of
+ *   the tree file that it names (0 where it names none), *growth and *count are 0, and every byte of
+ *   text and ledger is as it was.
+ *
+ *    1 the mode is neither 0 (text) nor 1 (math)     9 a command is not in the rules
+ *    2 the rule file breaks its layout              10 an environment is not in the rules
+ *    3 the tree file breaks its layout              11 \item stands outside of a list
+ *    4 a row lies deeper than 64                    12 an argument is missing
+ *    5 a row breaks a rule on the tree's shape      13 a column letter is not l, c, r or |
+ *    6 (edit) no such block, or kept does not fit   14 a label to be held is over 120 bytes
+ *    7 an element that cannot be converted          15 text or ledger is too short
+ *    8 a formula's ends do not match
+ *
+ *   A ledger has 128 bytes for each block; there are at most 512.
+ */
+#ifndef ZALDRUME_H
+#define ZALDRUME_H
+
+#include <stddef.h>
+#include <stdint.h>
+
+#ifdef __cplusplus
+extern "C" {
+#endif
+
+/*
+ * Converts a tree file from its start. Accepted: *place is the text's length, *count the count of
+ * blocks, *growth 0; bytes behind the text and behind the last row are as they were.
+ */
+uint8_t zaldrume_convert(uint8_t mode,
+                         const uint8_t *rules, size_t rules_size,
+                         const uint8_t *tree, size_t tree_size,
+                         uint8_t *text, size_t text_size,
+                         uint8_t *ledger, size_t ledger_size,
+                         size_t *place, int64_t *growth, size_t *count);
+
+/*
+ * Converts one block again, and those behind it until the carry is the kept one. tree is the new
+ * document, block is counted from 0, kept is the text's length before; text and ledger are those that
+ * were kept. Accepted: *place is the new length, *growth the new length less the old, *count how many
+ * blocks were converted again; where the text shrank, its old bytes behind the new length are 0.
+ */
+uint8_t zaldrume_edit(uint8_t mode,
+                      const uint8_t *rules, size_t rules_size,
+                      const uint8_t *tree, size_t tree_size,
+                      size_t block, size_t kept,
+                      uint8_t *text, size_t text_size,
+                      uint8_t *ledger, size_t ledger_size,
+                      size_t *place, int64_t *growth, size_t *count);
+
+#ifdef __cplusplus
+}
+#endif
+
+#endif
