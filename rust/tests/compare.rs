@@ -1,0 +1,401 @@
+//! The static library and the reference on the same made inputs: every answer and every byte of both buffers.
+//!
+//! `ZALDRUME_CASES` is how many cases each test makes (1,000 where it is not set) and
+//! `ZALDRUME_SEED` the first one's seed (1). A failure names the seed of its case.
+
+use std::collections::BTreeMap;
+
+use reference::made::{rule_file, tree_file, Made, Maker};
+use reference::ROW_SIZE;
+use zaldrume::raw::{self, Answer};
+
+fn setting(name: &str, usual: u64) -> u64 {
+    match std::env::var(name) {
+        Ok(value) => value
+            .parse()
+            .unwrap_or_else(|_| panic!("{name} is no number")),
+        Err(_) => usual,
+    }
+}
+
+/// Runs the cases of a test, `share` of them in a hundred, and prints how often each number was answered.
+fn each_case(name: &str, share: u64, case: impl Fn(&mut Maker, &mut Tally)) {
+    let count = (setting("ZALDRUME_CASES", 1000) * share).div_ceil(100);
+    let first = setting("ZALDRUME_SEED", 1);
+    let mut tally = Tally::default();
+    for seed in first..first + count {
+        tally.seed = seed;
+        case(&mut Maker::new(seed), &mut tally);
+    }
+    println!(
+        "{name}: {count} cases, calls by their answers (0 is accepted): {:?}",
+        tally.answers
+    );
+}
+
+#[derive(Default)]
+struct Tally {
+    seed: u64,
+    answers: BTreeMap<u8, usize>,
+}
+
+/// The two buffers that a call is lent.
+#[derive(Clone)]
+struct Buffers {
+    text: Vec<u8>,
+    ledger: Vec<u8>,
+}
+
+impl Buffers {
+    /// Buffers with anything in them.
+    fn any(maker: &mut Maker, text: usize, ledger: usize) -> Self {
+        let [a, b] = [maker.random.number() as u8, maker.random.number() as u8];
+        let mut text = vec![a; text];
+        text.iter_mut().step_by(7).for_each(|byte| *byte = b);
+        let mut ledger = vec![b; ledger];
+        ledger.iter_mut().step_by(5).for_each(|byte| *byte = a);
+        Buffers { text, ledger }
+    }
+}
+
+fn told(result: Result<Answer, reference::Refused>) -> Answer {
+    result.unwrap_or_else(|refused| Answer {
+        number: refused.number,
+        place: refused.row,
+        ..Answer::default()
+    })
+}
+
+impl Tally {
+    fn compare(
+        &mut self,
+        library: (Answer, &Buffers),
+        reference: (Answer, &Buffers),
+        before: &Buffers,
+    ) {
+        let seed = self.seed;
+        assert_eq!(library.0, reference.0, "answer, seed {seed}");
+        assert!(library.1.text == reference.1.text, "text, seed {seed}");
+        assert!(
+            library.1.ledger == reference.1.ledger,
+            "ledger, seed {seed}"
+        );
+        if library.0.number != 0 {
+            assert!(library.1.text == before.text, "refused, text, seed {seed}");
+            assert!(
+                library.1.ledger == before.ledger,
+                "refused, ledger, seed {seed}"
+            );
+        }
+        *self.answers.entry(library.0.number).or_default() += 1;
+    }
+
+    fn convert(&mut self, mode: u8, rules: &[u8], tree: &[u8], buffers: &mut Buffers) -> Answer {
+        let before = buffers.clone();
+        let mut other = buffers.clone();
+        let ours = raw::convert(mode, rules, tree, &mut buffers.text, &mut buffers.ledger);
+        let theirs = reference::convert(mode, rules, tree, &mut other.text, &mut other.ledger);
+        let theirs = told(theirs.map(|done| Answer {
+            number: 0,
+            place: done.length,
+            growth: 0,
+            count: done.blocks,
+        }));
+        self.compare((ours, buffers), (theirs, &other), &before);
+        ours
+    }
+
+    fn edit(
+        &mut self,
+        mode: u8,
+        rules: &[u8],
+        tree: &[u8],
+        block: usize,
+        kept: usize,
+        buffers: &mut Buffers,
+    ) -> Answer {
+        let before = buffers.clone();
+        let mut other = buffers.clone();
+        let Buffers { text, ledger } = buffers;
+        let ours = raw::edit(mode, rules, tree, block, kept, text, ledger);
+        let Buffers { text, ledger } = &mut other;
+        let theirs = reference::edit(mode, rules, tree, block, kept, text, ledger);
+        let theirs = told(theirs.map(|done| Answer {
+            number: 0,
+            place: done.length,
+            growth: done.growth,
+            count: done.count,
+        }));
+        self.compare((ours, buffers), (theirs, &other), &before);
+        ours
+    }
+}
+
+fn any_mode(maker: &mut Maker) -> u8 {
+    match maker.random.chance(10) {
+        true => maker.random.number() as u8,
+        false => maker.random.below(2) as u8,
+    }
+}
+
+/// Converts in long buffers, then in buffers of just the length and in shorter ones.
+fn convert_all_ways(maker: &mut Maker, tally: &mut Tally, rules: &[u8], tree: &[u8], long: usize) {
+    let mode = any_mode(maker);
+    let mut buffers = Buffers::any(maker, long, 512 * ROW_SIZE);
+    let answer = tally.convert(mode, rules, tree, &mut buffers);
+    if answer.number != 0 || !maker.random.chance(300) {
+        return;
+    }
+    let (length, rows) = (answer.place, answer.count * ROW_SIZE);
+    for (text, ledger) in [
+        (length, rows),
+        (length.saturating_sub(1), rows),
+        (length, rows.saturating_sub(1)),
+    ] {
+        let mut buffers = Buffers::any(maker, text, ledger);
+        let short = text < length || ledger < rows;
+        let answer = tally.convert(mode, rules, tree, &mut buffers);
+        assert_eq!(answer.number == 15, short, "seed {}", tally.seed);
+    }
+}
+
+#[test]
+fn short_documents() {
+    each_case("short documents", 400, |maker, tally| {
+        let rules = maker.rules();
+        let (count, depth) = (maker.random.below(7), maker.random.below(5));
+        let tree = tree_file(&maker.blocks(count, depth));
+        convert_all_ways(maker, tally, &rules, &tree, 65_536);
+    });
+}
+
+#[test]
+fn long_documents() {
+    each_case("long documents", 10, |maker, tally| {
+        maker.odd = maker.odd.min(1);
+        maker.clean |= maker.random.chance(600);
+        let rules = maker.rules();
+        let (count, depth) = (maker.random.below(520), maker.random.below(4));
+        let mut blocks = maker.blocks(count, depth);
+        // a file that is too long is of use now and then
+        while !maker.random.chance(100) && tree_file(&blocks).len() > 65_536 {
+            blocks.truncate(blocks.len() * 3 / 4);
+        }
+        convert_all_ways(maker, tally, &rules, &tree_file(&blocks), 200_000);
+    });
+}
+
+#[test]
+fn damaged_files() {
+    each_case("damaged files", 400, |maker, tally| {
+        let mut rules = maker.rules();
+        let (count, depth) = (maker.random.below(5), maker.random.below(4));
+        let mut tree = tree_file(&maker.blocks(count, depth));
+        match maker.random.below(4) {
+            0 => maker.damage(&mut rules),
+            _ => maker.damage(&mut tree),
+        }
+        let mut buffers = Buffers::any(maker, 20_000, 8 * ROW_SIZE);
+        let mode = any_mode(maker);
+        tally.convert(mode, &rules, &tree, &mut buffers);
+    });
+}
+
+#[test]
+fn any_bytes() {
+    each_case("any bytes", 100, |maker, tally| {
+        let [a, b, c, d] = [(); 4].map(|_| maker.random.below(200));
+        let rules = match maker.random.chance(500) {
+            true => rule_file(Vec::new()),
+            false => maker.random.bytes(a),
+        };
+        let tree = maker.random.bytes(b);
+        let mut buffers = Buffers::any(maker, c, d);
+        let mode = any_mode(maker);
+        tally.convert(mode, &rules, &tree, &mut buffers);
+        let kept = maker.random.below(200);
+        tally.edit(mode, &rules, &tree, d, kept, &mut buffers);
+    });
+}
+
+/// A document that is edited, and its buffers.
+struct Run {
+    mode: u8,
+    rules: Vec<u8>,
+    blocks: Vec<Made>,
+    kept: usize,
+    buffers: Buffers,
+    // whether text and ledger are those of the document's conversion
+    sound: bool,
+}
+
+impl Run {
+    /// An edit as a caller makes it: one block replaced.
+    fn step(&mut self, maker: &mut Maker, tally: &mut Tally) {
+        let block = maker.random.below(self.blocks.len());
+        let mut blocks = self.blocks.clone();
+        blocks[block] = match maker.random.below(4) {
+            0 => maker.random.pick(&self.blocks).clone(),
+            _ => {
+                let depth = maker.random.below(4);
+                maker.block(depth)
+            }
+        };
+        let tree = tree_file(&blocks);
+        let answer = tally.edit(
+            self.mode,
+            &self.rules,
+            &tree,
+            block,
+            self.kept,
+            &mut self.buffers,
+        );
+        if self.sound {
+            self.compare_from_start(tally, &tree, answer);
+        }
+        if answer.number == 0 {
+            self.kept = answer.place;
+            self.blocks = blocks;
+        }
+    }
+
+    /// The third demand: an edit answers as a conversion from the start, and leaves what that leaves.
+    fn compare_from_start(&self, tally: &Tally, tree: &[u8], edited: Answer) {
+        let seed = tally.seed;
+        let mut text = vec![0; self.buffers.text.len()];
+        let mut ledger = vec![0; self.buffers.ledger.len()];
+        let whole = raw::convert(self.mode, &self.rules, tree, &mut text, &mut ledger);
+        assert_eq!(
+            (whole.number, whole.place),
+            (edited.number, edited.place),
+            "from the start, seed {seed}"
+        );
+        if whole.number == 0 {
+            let rows = whole.count * ROW_SIZE;
+            assert!(
+                text[..whole.place] == self.buffers.text[..whole.place],
+                "from the start, text, seed {seed}"
+            );
+            assert!(
+                ledger[..rows] == self.buffers.ledger[..rows],
+                "from the start, ledger, seed {seed}"
+            );
+            assert_eq!(
+                edited.growth,
+                whole.place as i64 - self.kept as i64,
+                "growth, seed {seed}"
+            );
+        }
+    }
+
+    /// A call that is wrong in some way.
+    fn wrong_step(&mut self, maker: &mut Maker, tally: &mut Tally) {
+        let mut mode = self.mode;
+        let mut rules = self.rules.clone();
+        let mut blocks = self.blocks.clone();
+        let mut block = maker.random.below(blocks.len());
+        let mut kept = self.kept;
+        let mut tree = tree_file(&blocks);
+        match maker.random.below(8) {
+            0 => mode = maker.random.number() as u8,
+            1 => maker.damage(&mut rules),
+            2 => maker.damage(&mut tree),
+            3 => {
+                block = *maker
+                    .random
+                    .pick(&[blocks.len(), blocks.len() + 1, usize::MAX, 1 << 32])
+            }
+            4 => {
+                kept = *maker.random.pick(&[
+                    0,
+                    kept + 1,
+                    kept.wrapping_sub(1),
+                    usize::MAX,
+                    self.buffers.text.len() + 1,
+                ])
+            }
+            5 => {
+                blocks.push(maker.block(2));
+                tree = tree_file(&blocks);
+            }
+            6 => {
+                blocks.pop();
+                tree = tree_file(&blocks);
+            }
+            _ => {
+                let at = maker.random.below(self.blocks.len() * ROW_SIZE);
+                self.buffers.ledger[at] = maker.random.below(3) as u8;
+                self.sound = false;
+            }
+        }
+        let answer = tally.edit(mode, &rules, &tree, block, kept, &mut self.buffers);
+        if answer.number == 0 {
+            self.kept = answer.place;
+            self.sound = false;
+            if !blocks.is_empty() {
+                self.blocks = blocks;
+            }
+        }
+    }
+}
+
+#[test]
+fn runs_of_edits() {
+    each_case("runs of edits", 100, |maker, tally| {
+        let mode = maker.random.below(2) as u8;
+        let rules = maker.rules();
+        maker.odd = maker.odd.min(5);
+        let count = 1 + match maker.random.chance(50) {
+            true => maker.random.below(200),
+            false => maker.random.below(12),
+        };
+        let blocks = maker.blocks(count, 3);
+        let extra = maker.random.below(3) * ROW_SIZE;
+        let size = *maker.random.pick(&[1_000, 10_000, 100_000]);
+        let mut buffers = Buffers::any(maker, size, count * ROW_SIZE + extra);
+        let answer = tally.convert(mode, &rules, &tree_file(&blocks), &mut buffers);
+        if answer.number != 0 {
+            return;
+        }
+        let mut run = Run {
+            mode,
+            rules,
+            blocks,
+            kept: answer.place,
+            buffers,
+            sound: true,
+        };
+        for _ in 0..12 {
+            match maker.random.chance(150) {
+                true => run.wrong_step(maker, tally),
+                false => run.step(maker, tally),
+            }
+        }
+    });
+}
+
+#[test]
+fn ledgers_from_nowhere() {
+    each_case("ledgers from nowhere", 200, |maker, tally| {
+        let mode = maker.random.below(2) as u8;
+        let rules = maker.rules();
+        let count = 1 + maker.random.below(10);
+        let blocks = maker.blocks(count, 2);
+        let kept = maker.random.below(400);
+        let spare = *maker.random.pick(&[0, 3, 100, 2_000]);
+        let text = maker.random.bytes(kept + spare);
+        let mut ledger = maker.ledger(count, kept);
+        ledger.extend(maker.random.bytes(spare));
+        let mut run = Run {
+            mode,
+            rules,
+            blocks,
+            kept,
+            buffers: Buffers { text, ledger },
+            sound: false,
+        };
+        for _ in 0..4 {
+            run.step(maker, tally);
+        }
+    });
+}
