@@ -6,7 +6,7 @@
 use std::collections::BTreeMap;
 
 use reference::made::{rule_file, tree_file, Made, Maker};
-use reference::ROW_SIZE;
+use reference::{BLOCKS_MOST, ROW_SIZE};
 use zaldrume::raw::{self, Answer};
 
 fn setting(name: &str, usual: u64) -> u64 {
@@ -141,7 +141,7 @@ fn any_mode(maker: &mut Maker) -> u8 {
 /// Converts in long buffers, then in buffers of just the length and in shorter ones.
 fn convert_all_ways(maker: &mut Maker, tally: &mut Tally, rules: &[u8], tree: &[u8], long: usize) {
     let mode = any_mode(maker);
-    let mut buffers = Buffers::any(maker, long, 512 * ROW_SIZE);
+    let mut buffers = Buffers::any(maker, long, BLOCKS_MOST * ROW_SIZE);
     let answer = tally.convert(mode, rules, tree, &mut buffers);
     if answer.number != 0 || !maker.random.chance(300) {
         return;
@@ -175,7 +175,10 @@ fn long_documents() {
         maker.odd = maker.odd.min(1);
         maker.clean |= maker.random.chance(600);
         let rules = maker.rules();
-        let (count, depth) = (maker.random.below(520), maker.random.below(4));
+        let (count, depth) = match maker.random.chance(150) {
+            true => (BLOCKS_MOST - 2 + maker.random.below(5), 0),
+            false => (maker.random.below(BLOCKS_MOST), maker.random.below(4)),
+        };
         let mut blocks = maker.blocks(count, depth);
         // a file that is too long is of use now and then
         while !maker.random.chance(100) && tree_file(&blocks).len() > 65_536 {
@@ -206,7 +209,7 @@ fn any_bytes() {
     each_case("any bytes", 100, |maker, tally| {
         let [a, b, c, d] = [(); 4].map(|_| maker.random.below(200));
         let rules = match maker.random.chance(500) {
-            true => rule_file(Vec::new()),
+            true => rule_file(&[]),
             false => maker.random.bytes(a),
         };
         let tree = maker.random.bytes(b);
@@ -323,8 +326,10 @@ impl Run {
                 tree = tree_file(&blocks);
             }
             _ => {
-                let at = maker.random.below(self.blocks.len() * ROW_SIZE);
-                self.buffers.ledger[at] = maker.random.below(3) as u8;
+                let row = maker.random.below(self.blocks.len());
+                let most = *maker.random.pick(&[8, ROW_SIZE]);
+                let at = row * ROW_SIZE + maker.random.below(most);
+                self.buffers.ledger[at] = *maker.random.pick(&[0, 1, 2, 120, 121, 255]);
                 self.sound = false;
             }
         }

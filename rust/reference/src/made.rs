@@ -87,20 +87,17 @@ pub fn tree_file(blocks: &[Made]) -> Vec<u8> {
 /// A rule: its name, alias and class.
 pub type MadeRule = (String, Option<String>, u8);
 
-/// The rule file of rules, in the order of their names and each name once.
-pub fn rule_file(mut rules: Vec<MadeRule>) -> Vec<u8> {
-    rules.sort();
-    rules.dedup_by(|a, b| a.0 == b.0);
+/// The rule file of rules, which stand in the order of their names where it is to be accepted.
+pub fn rule_file(rules: &[MadeRule]) -> Vec<u8> {
     let mut text = Vec::new();
     let mut rows = Vec::new();
     for (name, alias, class) in rules {
         text.extend_from_slice(name.as_bytes());
         text.extend_from_slice(alias.as_deref().unwrap_or_default().as_bytes());
         let [a, b] = (name.len() as u16).to_le_bytes();
-        let [c, d] = alias
-            .map_or(u16::MAX, |alias| alias.len() as u16)
-            .to_le_bytes();
-        rows.push([a, b, c, d, class, 0, 0, 0]);
+        let alias = alias.as_ref().map_or(u16::MAX, |alias| alias.len() as u16);
+        let [c, d] = alias.to_le_bytes();
+        rows.push([a, b, c, d, *class, 0, 0, 0]);
     }
     assemble(text, &rows)
 }
@@ -218,6 +215,10 @@ const COLUMNS: [&str; 12] = [
     "[r]",
 ];
 
+const ODD_TEXTS: [&str; 11] = [
+    "a", "\\", "\\item", "\\label", "$", "$$", ".", "é", "quote", "[", "\u{2003}",
+];
+
 /// Tokens whose text the lexer fixes.
 const FIXED: [(Kind, &str); 23] = [
     (TokenApostrophe, "'"),
@@ -280,7 +281,16 @@ impl Maker {
                 .then(|| (*self.random.pick(&ALIASES)).to_owned());
             rules.push((name.to_owned(), alias, class));
         }
-        rule_file(rules)
+        rules.sort();
+        if self.fault(6) {
+            // a name twice, or two in the wrong order
+            let at = self.random.below(rules.len() - 1);
+            match self.random.chance(500) {
+                true => rules[at] = rules[at + 1].clone(),
+                false => rules.swap(at, at + 1),
+            }
+        }
+        rule_file(&rules)
     }
 
     /// A fault in so many of a thousand places.
@@ -371,20 +381,18 @@ impl Maker {
             (_, may_be_token) => may_be_token,
         };
         if as_token {
-            let text = *self.random.pick(&[
-                "a", "\\", "\\item", "\\label", "$", "$$", ".", "é", "quote", "[", "\u{2003}",
-            ]);
+            // a token with no text breaks the layout
+            let text = match self.random.chance(20) {
+                true => "",
+                false => self.random.pick(&ODD_TEXTS),
+            };
             return token(kind, text);
         }
-        let below = depth.saturating_sub(1);
-        node(
-            kind,
-            if depth == 0 {
-                Vec::new()
-            } else {
-                self.some(3, below)
-            },
-        )
+        let children = match depth {
+            0 => Vec::new(),
+            _ => self.some(3, depth - 1),
+        };
+        node(kind, children)
     }
 
     fn formula(&mut self, depth: usize) -> Made {
