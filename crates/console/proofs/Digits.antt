@@ -1,0 +1,76 @@
+-- A number read digit by digit: what is left to read continues the number that was read so far.
+use mathlib.Core.Path.{_≡_, refl, sym, ap, _∙_}
+use mathlib.Core.Bool.{Bool, true, false, cond, and-eq-true-iff}
+use mathlib.Core.List.{List, [], _∷_}
+use Prim.Native.Nat.{ℕ, _+_, _≤_, _<_}
+use native.Mathlib.Numerals.{add-one}
+use native.Mathlib.Omega.{arith}
+use lib.Dec.{leb, ltb}
+use borrow.Author.Tests.{ltb-true, ltb-false, leb-true, leb-false, lt-ltb, le-ltb, le-leb, lt-leb}
+use lib.ListN.{length, drop, getD, drop-of-length-le}
+use lib.Seq.{drop-cons}
+use Rattle.text.proofs.Compare.{by-test}
+use Rattle.console.specs.Request.{numberEnd, withDigit, goesOn, numberFrom, numberOf}
+use Rattle.console.specs.declared.Spelt.{Spelt}
+use Rattle.console.specs.declared.Spelt.the-variants.{Nothing as NoNumber, Number}
+
+-- ---- one digit
+
+pub goes-digit : (n x : ℕ) → goesOn n x ≡ true → (48 ≤ x) × (x ≤ 57) × (withDigit n x < numberEnd)
+goes-digit n x e =
+    let p = and-eq-true-iff (leb 48 x) _ .0 e in
+    let q = and-eq-true-iff (leb x 57) _ .0 (p .1) in (leb-true 48 x (p .0), leb-true x 57 (q .0), ltb-true _ _ (q .1))
+
+pub goes-below : (n x : ℕ) → x < 48 → false ≡ goesOn n x
+goes-below n x h = simp (lt-leb 48 x h)
+
+pub goes-above : (n x : ℕ) → 57 < x → false ≡ goesOn n x
+goes-above n x h = simp (le-leb 48 x (omega arith), lt-leb x 57 h)
+
+goes-at : (n x : ℕ) → 48 ≤ x → x ≤ 57 → goesOn n x ≡ ltb (withDigit n x) numberEnd
+goes-at n x l h = simp (le-leb 48 x l, le-leb x 57 h)
+
+-- at the highest number that a digit more may follow, the digit decides; elsewhere the number
+pub goes-last : (n x : ℕ) → 48 ≤ x → x ≤ 57 → n ≡ 1844674407370955161 → leb x 53 ≡ goesOn n x
+goes-last n x l h e =
+    by-test (leb x 53)
+    (λ t. let s = leb-true x 53 t in t ∙ sym (goes-at n x l h ∙ lt-ltb (withDigit n x) numberEnd (omega arith)))
+    (λ t. let s = leb-false x 53 t in t ∙ sym (goes-at n x l h ∙ le-ltb (withDigit n x) numberEnd (omega arith)))
+
+pub goes-else : (n x : ℕ) → 48 ≤ x → x ≤ 57 → (n ≡ 1844674407370955161 → ⊥) → ltb n 1844674407370955161 ≡ goesOn n x
+goes-else n x l h e =
+    by-test (ltb n 1844674407370955161)
+    (λ t. let s = ltb-true n _ t in t ∙ sym (goes-at n x l h ∙ lt-ltb (withDigit n x) numberEnd (omega arith)))
+    (λ t. let s = ltb-false n _ t in t ∙ sym (goes-at n x l h ∙ le-ltb (withDigit n x) numberEnd (omega arith)))
+
+-- ---- along the digits
+
+number-at :
+    (l : List ℕ) (n i : ℕ) → i < length l
+    → numberFrom n (drop i l) ≡ cond (goesOn n (getD l i 0)) (numberFrom (withDigit n (getD l i 0)) (drop (i + 1) l)) NoNumber
+unfolding numberFrom
+number-at l n i h = rw (add-one, drop-cons l i 0 h)
+
+pub number-empty : (l : List ℕ) → length l ≡ 0 → NoNumber ≡ numberOf l
+number-empty [] h = refl
+number-empty (x ∷ l) h = absurd (omega arith)
+
+pub number-starts : (l : List ℕ) → (length l ≡ 0 → ⊥) → numberOf l ≡ numberFrom 0 (drop 0 l)
+number-starts [] h = absurd (h refl)
+number-starts (x ∷ l) h = refl
+
+pub number-next :
+    (l : List ℕ) (n i : ℕ) → i < length l → goesOn n (getD l i 0) ≡ true → numberOf l ≡ numberFrom n (drop i l)
+    → numberOf l ≡ numberFrom (withDigit n (getD l i 0)) (drop (i + 1) l)
+number-next l n i h g e =
+    e ∙ number-at l n i h ∙ ap (λ t. cond t (numberFrom (withDigit n (getD l i 0)) (drop (i + 1) l)) NoNumber) g
+
+pub number-stops :
+    (l : List ℕ) (n i : ℕ) → i < length l → goesOn n (getD l i 0) ≡ false → numberOf l ≡ numberFrom n (drop i l)
+    → NoNumber ≡ numberOf l
+number-stops l n i h g e =
+    sym (e ∙ number-at l n i h ∙ ap (λ t. cond t (numberFrom (withDigit n (getD l i 0)) (drop (i + 1) l)) NoNumber) g)
+
+pub number-ends : (l : List ℕ) (n i : ℕ) → length l ≤ i → numberOf l ≡ numberFrom n (drop i l) → Number n ≡ numberOf l
+unfolding numberFrom
+number-ends l n i h e = sym (e ∙ ap (numberFrom n) (drop-of-length-le l h))

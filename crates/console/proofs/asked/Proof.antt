@@ -1,0 +1,49 @@
+-- The line ends before the first line feed; where there is none, it is all of the input.
+use mathlib.Core.Path.{sym, ap, _∙_}
+use native.Mathlib.Omega.{arith}
+use lib.ListN.{take}
+use lib.Seq.{length-take-le}
+use Rattle.console.specs.Request.{lineRequest}
+use Rattle.console.proofs.Lines.{request-long, request-line, request-all}
+use borrow.Author.Needs.{needs}
+use Rattle.console.proofs.asked.Statement.{statement}
+use Rattle.console.proofs.asked.Tie as tie
+
+index-of-requires : tie.Need-index-of-requires
+index-of-requires c κs = search needs
+
+returns : tie.Need-returns
+returns c = let e = c .before .index-of .ensures in request-long _ (omega (arith, e, c .if1 .taken))
+
+line-request-requires : tie.Need-line-request-requires
+line-request-requires c κs = search needs
+
+returns-2 : tie.Need-returns-2
+returns-2 c =
+    let d = c .before .before in
+    let e = d .before .index-of .ensures in
+    c .line-request .ensures ∙ request-all _ (omega (arith, e, d .if1 .left)) (omega (arith, e, c .before .if2 .taken))
+
+slice-aggregate-line-request : tie.Need-slice-aggregate-line-request
+slice-aggregate-line-request c = sym (length-take-le _ _ (omega (arith, c .before .if2 .left)))
+
+line-request-requires-2 : tie.Need-line-request-requires-2
+line-request-requires-2 c κs = search needs
+
+returns-3 : tie.Need-returns-3
+returns-3 c =
+    let d = c .before .before .before in
+    let e = d .before .index-of .ensures in
+    c .line-request2 .ensures ∙ ap (λ k. lineRequest (take k (c .before .before .before .before .before .before .args .input .now))) e ∙ request-line _ (omega (arith, e, d .if1 .left))
+
+pub asked-spec : {M : Type 1} → statement M
+asked-spec =
+    tie.close
+    (tie.spec
+    index-of-requires
+    returns
+    line-request-requires
+    returns-2
+    slice-aggregate-line-request
+    line-request-requires-2
+    returns-3)

@@ -1,0 +1,72 @@
+-- The invariant: what is left to read continues the number read so far. The measure is what is left.
+use native.Mathlib.Omega.{arith}
+use Prim.Native.Nat.{_+_, _-_, _≤_}
+use mathlib.Core.Path.{_≡_, sym, ap, _∙_}
+use borrow.Author.Tests.{not-true, not-false}
+use lib.ListN.{length, drop}
+use Rattle.console.specs.Request.{numberFrom, numberOf}
+use Rattle.console.proofs.Digits.{number-empty, number-starts, number-next, number-stops, number-ends}
+use Rattle.console.proofs.number.Statement.{statement}
+use Rattle.console.proofs.number.Tie as tie
+
+abbrev Inv-loop : tie.InvT-loop
+Inv-loop digits n₀ i₀ n i = (i ≤ length digits) × (numberOf digits ≡ numberFrom n (drop i digits))
+
+abbrev μ-loop : tie.MeasureT-loop
+μ-loop digits n₀ i₀ n i = length digits - i
+
+returns : tie.Need-returns Inv-loop μ-loop
+returns c = number-empty (c .before .before .args .digits .now) (c .if1 .taken)
+
+loop-holds : tie.Need-loop-holds Inv-loop μ-loop
+loop-holds c = (omega arith, number-starts (c .before .before .args .digits .now) (c .if1 .left))
+
+shared-slice-read-x : tie.Need-shared-slice-read-x Inv-loop μ-loop
+shared-slice-read-x c = omega arith
+
+goes-on-requires : tie.Need-goes-on-requires Inv-loop μ-loop
+goes-on-requires c κs = tt
+
+returns-2 : tie.Need-returns-2 Inv-loop μ-loop
+returns-2 c =
+    let d = c .before .before .before in
+    number-stops _ _ _ (d .loop-test .taken) (sym (c .before .goes-on .ensures) ∙ not-true _ (c .if2 .taken)) (d .before .loop .inv .1)
+
+with-digit-requires : tie.Need-with-digit-requires Inv-loop μ-loop
+with-digit-requires c κs = sym (c .before .goes-on .ensures) ∙ not-false _ (c .if2 .left)
+
+add-i : tie.Need-add-i Inv-loop μ-loop
+add-i c = omega arith
+
+loop-less : tie.Need-loop-less Inv-loop μ-loop
+loop-less c = omega arith
+
+loop-again : tie.Need-loop-again Inv-loop μ-loop
+loop-again c =
+    let d = c .before .before .before .before in
+    let more = sym (c .before .before .goes-on .ensures) ∙ not-false _ (c .before .if2 .left) in (
+      omega arith,
+      number-next _ _ _ (d .loop-test .taken) more (d .before .loop .inv .1)
+          ∙ ap (λ k. numberFrom k (drop (d .before .loop .i + 1) (d .before .before .before .before .args .digits .now)))
+          (sym (c .with-digit .ensures)),
+    )
+
+returns-3 : tie.Need-returns-3 Inv-loop μ-loop
+returns-3 c = number-ends _ _ _ (c .loop-test .left) (c .before .loop .inv .1)
+
+pub number-spec : {M : Type 1} → statement M
+number-spec =
+    tie.close
+    (tie.spec
+    Inv-loop
+    μ-loop
+    returns
+    loop-holds
+    shared-slice-read-x
+    goes-on-requires
+    returns-2
+    with-digit-requires
+    add-i
+    loop-less
+    loop-again
+    returns-3)

@@ -1,0 +1,30 @@
+// Converts the tree of tree.bin by the rules of rules.bin, both in the current folder, in the mode that standard input names (`t` or
+// `m`), and writes the text alone; or the number and the row of a refusal.
+use console::print_refusal;
+use console::read_file;
+use console::read_mode;
+use edit::Converted;
+
+// A byte more than a file may have, so that a longer one is seen and refused.
+const FILE_READ: usize = 65537;
+
+// Converts, and writes what came of it.
+fn convert<'a>(mode: u8, rules: &'a [u8], tree: &'a [u8]) {
+    let mut text = io::large_buffer();
+    let mut ledger = io::large_buffer();
+    match edit::convert(mode, rules, tree, &mut text, &mut ledger) {
+        Converted::Refused { number, row } => print_refusal(number, row),
+        Converted::Done { length, blocks: _ } => {
+            io::write_all(libc::STDOUT_FILENO, &text[..length]);
+        }
+    }
+}
+
+fn main() {
+    let mode = read_mode();
+    let mut rules = [0u8; FILE_READ];
+    let rules_size = read_file(b"rules.bin", &mut rules);
+    let mut tree = [0u8; FILE_READ];
+    let tree_size = read_file(b"tree.bin", &mut tree);
+    convert(mode, &rules[..rules_size], &tree[..tree_size]);
+}
