@@ -1,0 +1,501 @@
+// Replays cases through Convert and Edit and compares every answer and every byte of both buffers. Standard input is what
+// tools/pack_cases.py packs: cases, each a length (4 bytes, the lowest first) and so many bytes, which are parts: each a tag (1 byte),
+// a length (4 bytes) and so many bytes.
+ghost use mathlib.Core.Path.{_≡_};
+ghost use Prim.Native.Nat.{_+_, _≤_};
+ghost use lib.ListN.{length};
+ghost use Rattle.io.specs.Counts.{Counts};
+ghost use Rattle.cases.specs.Held.{bufferMost, Within, Held};
+use edit::Converted;
+use edit::Edited;
+use libc::STDIN_FILENO;
+use libc::STDOUT_FILENO;
+use text::put;
+use text::read_u32;
+use text::same;
+
+// ---- the tags
+
+// The case's name.
+const NAME: u8 = 1;
+
+// Its files.
+const RULES: u8 = 2;
+
+const TREE: u8 = 3;
+
+// How long text buffer and ledger are (4 bytes each); both are filled with one byte.
+const SIZES: u8 = 4;
+
+// What the text buffer, or the ledger, begins with.
+const TEXT: u8 = 5;
+
+const LEDGER: u8 = 6;
+
+// What they are due to begin with.
+const TEXT_DUE: u8 = 7;
+
+const LEDGER_DUE: u8 = 8;
+
+// A call and its answer, ten numbers of 4 bytes: 0 convert or 1 edit, mode, block, kept length, refusal, row or length, growth
+// (the first of two numbers less the second), count, and how many bytes of the ledger's front the case does not name.
+const CALL: u8 = 9;
+
+const CALL_SIZE: usize = 40;
+
+// ---- what is held
+
+const BUFFER: usize = 65536;
+
+// How many bytes a case has at most.
+const CASE_MOST: usize = 262144;
+
+// More cases than there are.
+const CASES_MOST: usize = 100000;
+
+// A part of the input.
+pub struct Part {
+    pub from: usize,
+    pub to: usize,
+}
+
+// Where the name and the files of a case lie, how long its buffers are, its calls so far and how often it failed.
+pub struct Case {
+    pub name: Part,
+    pub rules: Part,
+    pub tree: Part,
+    pub text_size: usize,
+    pub ledger_size: usize,
+    pub calls: usize,
+    pub failed: usize,
+}
+
+// What was counted so far, and whether the input has ended.
+pub struct Tally {
+    pub cases: usize,
+    pub calls: usize,
+    pub failed: usize,
+    pub ended: bool,
+}
+
+// A refusal's number and row; or 0, the text's length, its growth and a count of blocks.
+pub struct Answer {
+    pub number: usize,
+    pub first: usize,
+    pub growth: i64,
+    pub count: usize,
+}
+
+// A sum, as far as a program counts.
+fn sum(m: usize, n: usize) -> usize {
+    if m < 1000000 {
+        if n < 1000000 {
+            return m + n;
+        }
+    }
+    m
+}
+
+// ---- buffers
+
+// All bytes one that no conversion writes by itself.
+fn fill(out: &mut [u8]) {
+    let mut i = 0;
+    while i < out.len() {
+        out[i] = 0xA5;
+        i += 1;
+    }
+}
+
+// The front of a buffer overwritten.
+fn begin_with(out: &mut [u8; BUFFER], s: &[u8]) {
+    put(out, 0, s);
+}
+
+// The first `n` bytes of a buffer taken over by another.
+fn take_over(from: &[u8], to: &mut [u8; BUFFER], n: usize) {
+    if n <= from.len() {
+        begin_with(to, &from[..n]);
+    }
+}
+
+// ---- a call
+
+fn converted(answer: Converted) -> Answer {
+    match answer {
+        Converted::Refused { number, row } => Answer {
+            number: text::wide(number),
+            first: row,
+            growth: 0,
+            count: 0,
+        },
+        Converted::Done { length, blocks } => Answer {
+            number: 0,
+            first: length,
+            growth: 0,
+            count: blocks,
+        },
+    }
+}
+
+fn edited(answer: Edited) -> Answer {
+    match answer {
+        Edited::Refused { number, row } => Answer {
+            number: text::wide(number),
+            first: row,
+            growth: 0,
+            count: 0,
+        },
+        Edited::Done {
+            length,
+            growth,
+            count,
+        } => Answer {
+            number: 0,
+            first: length,
+            growth,
+            count,
+        },
+    }
+}
+
+// Whether two answers are the same.
+fn same_answer(a: Answer, b: Answer) -> bool {
+    if a.number != b.number {
+        return false;
+    }
+    if a.first != b.first {
+        return false;
+    }
+    if a.growth != b.growth {
+        return false;
+    }
+    a.count == b.count
+}
+
+// The growth that two numbers name.
+fn growth_at(input: &[u8], at: usize) -> i64
+    requires { ⌜ at + 8 ≤ length (now input) ⌝ }
+{
+    let grown = read_u32(input, at);
+    let shrunk = read_u32(input, at + 4);
+    grown as i64 - shrunk as i64
+}
+
+// The answer that is due.
+fn due(input: &[u8], at: usize) -> Answer
+    requires { ⌜ at + 40 ≤ length (now input) ⌝ }
+{
+    Answer {
+        number: read_u32(input, at + 16),
+        first: read_u32(input, at + 20),
+        growth: growth_at(input, at + 24),
+        count: read_u32(input, at + 32),
+    }
+}
+
+// Makes a call on a case's files and buffers.
+fn ask(input: &[u8], at: usize, c: Case, text: &mut [u8], ledger: &mut [u8]) -> Answer
+    requires { ⌜ (at + 40 ≤ length (now input)) × Held (length (now input)) c ⌝ }
+    requires { ⌜ (length (now text) ≡ bufferMost) × (length (now ledger) ≡ bufferMost) ⌝ }
+{
+    let r = c.rules;
+    let t = c.tree;
+    let r_from = r.from;
+    let r_to = r.to;
+    let t_from = t.from;
+    let t_to = t.to;
+    let text_size = c.text_size;
+    let ledger_size = c.ledger_size;
+    let rules = &input[r_from..r_to];
+    let tree = &input[t_from..t_to];
+    let mode = input[at + 4];
+    if read_u32(input, at) == 0 {
+        return converted(edit::convert(
+            mode,
+            rules,
+            tree,
+            &mut text[..text_size],
+            &mut ledger[..ledger_size],
+        ));
+    }
+    let block = read_u32(input, at + 8);
+    let kept = read_u32(input, at + 12);
+    edited(edit::edit(
+        mode,
+        rules,
+        tree,
+        block,
+        kept,
+        &mut text[..text_size],
+        &mut ledger[..ledger_size],
+    ))
+}
+
+// Whether a call answers as is due and leaves both buffers as is due.
+fn passes(
+    input: &[u8],
+    at: usize,
+    c: Case,
+    text: &mut [u8; BUFFER],
+    ledger: &mut [u8; BUFFER],
+    text_due: &[u8; BUFFER],
+    ledger_due: &mut [u8; BUFFER],
+) -> bool
+    requires { ⌜ (at + 40 ≤ length (now input)) × Held (length (now input)) c ⌝ }
+{
+    let a = ask(input, at, c, text, ledger);
+    take_over(ledger, ledger_due, read_u32(input, at + 36));
+    if !same_answer(a, due(input, at)) {
+        return false;
+    }
+    if !same(text, text_due) {
+        return false;
+    }
+    same(ledger, ledger_due)
+}
+
+// ---- the parts
+
+// Says which case failed, and at which call.
+fn print_failure(name: &[u8], call: usize) {
+    io::write_all(STDOUT_FILENO, name);
+    io::write_all(STDOUT_FILENO, b" fails at call ");
+    io::print_decimal(STDOUT_FILENO, call as u64);
+    io::write_all(STDOUT_FILENO, b"\n");
+}
+
+// A case that failed once more.
+fn fails(input: &[u8], c: Case) -> Case
+    requires { ⌜ Held (length (now input)) c ⌝ }
+    ensures { λ r. ⌜ Held (length (now (input .entry))) r ⌝ }
+{
+    let n = c.name;
+    let from = n.from;
+    let to = n.to;
+    print_failure(&input[from..to], c.calls);
+    let mut d = c;
+    d.failed = sum(c.failed, 1);
+    d
+}
+
+// The sizes that a part names, if there are such buffers.
+fn sized(input: &[u8], part: Part, c: Case) -> Case
+    requires { ⌜ Within (length (now input)) part × Held (length (now input)) c ⌝ }
+    ensures { λ r. ⌜ Held (length (now (input .entry))) r ⌝ }
+{
+    let from = part.from;
+    if part.to - from < 8 {
+        return fails(input, c);
+    }
+    let text_size = read_u32(input, from);
+    let ledger_size = read_u32(input, from + 4);
+    if BUFFER < text_size {
+        return fails(input, c);
+    }
+    if BUFFER < ledger_size {
+        return fails(input, c);
+    }
+    let mut d = c;
+    d.text_size = text_size;
+    d.ledger_size = ledger_size;
+    d
+}
+
+// A part that says something of the case.
+fn told(input: &[u8], tag: u8, part: Part, c: Case) -> Case
+    requires { ⌜ Within (length (now input)) part × Held (length (now input)) c ⌝ }
+    ensures { λ r. ⌜ Held (length (now (input .entry))) r ⌝ }
+{
+    let mut d = c;
+    if tag == NAME {
+        d.name = part;
+        return d;
+    }
+    if tag == RULES {
+        d.rules = part;
+        return d;
+    }
+    if tag == TREE {
+        d.tree = part;
+        return d;
+    }
+    if tag == SIZES {
+        return sized(input, part, c);
+    }
+    if tag == CALL {
+        d.calls = sum(c.calls, 1);
+    }
+    d
+}
+
+// What a part does to the buffers.
+fn lay(
+    tag: u8,
+    bytes: &[u8],
+    text: &mut [u8; BUFFER],
+    ledger: &mut [u8; BUFFER],
+    text_due: &mut [u8; BUFFER],
+    ledger_due: &mut [u8; BUFFER],
+) {
+    if tag == SIZES {
+        fill(text);
+        fill(ledger);
+        fill(text_due);
+        fill(ledger_due);
+    }
+    if tag == TEXT {
+        begin_with(text, bytes);
+        begin_with(text_due, bytes);
+    }
+    if tag == LEDGER {
+        begin_with(ledger, bytes);
+        begin_with(ledger_due, bytes);
+    }
+    if tag == TEXT_DUE {
+        begin_with(text_due, bytes);
+    }
+    if tag == LEDGER_DUE {
+        begin_with(ledger_due, bytes);
+    }
+}
+
+// A part in turn: what it says, what it lays down, and the call that it is.
+fn turn(
+    input: &[u8],
+    tag: u8,
+    part: Part,
+    c: Case,
+    text: &mut [u8; BUFFER],
+    ledger: &mut [u8; BUFFER],
+    text_due: &mut [u8; BUFFER],
+    ledger_due: &mut [u8; BUFFER],
+) -> Case
+    requires { ⌜ Within (length (now input)) part × Held (length (now input)) c ⌝ }
+    ensures { λ r. ⌜ Held (length (now (input .entry))) r ⌝ }
+{
+    let from = part.from;
+    let to = part.to;
+    let d = told(input, tag, part, c);
+    lay(tag, &input[from..to], text, ledger, text_due, ledger_due);
+    if tag != CALL {
+        return d;
+    }
+    if to - from < CALL_SIZE {
+        return fails(input, d);
+    }
+    if passes(input, from, d, text, ledger, text_due, ledger_due) {
+        return d;
+    }
+    fails(input, d)
+}
+
+// All parts of a case in turn.
+fn replay(input: &[u8]) -> Case {
+    let mut text = io::large_buffer();
+    let mut ledger = io::large_buffer();
+    let mut text_due = io::large_buffer();
+    let mut ledger_due = io::large_buffer();
+    let nothing = Part { from: 0, to: 0 };
+    let mut c = Case {
+        name: nothing,
+        rules: nothing,
+        tree: nothing,
+        text_size: 0,
+        ledger_size: 0,
+        calls: 0,
+        failed: 0,
+    };
+    let mut i = 0;
+    while i < input.len() {
+        if input.len() - i < 5 {
+            return fails(input, c);
+        }
+        let from = i + 5;
+        let n = read_u32(input, i + 1);
+        if input.len() - from < n {
+            return fails(input, c);
+        }
+        let to = from + n;
+        let part = Part { from, to };
+        c = turn(
+            input,
+            input[i],
+            part,
+            c,
+            &mut text,
+            &mut ledger,
+            &mut text_due,
+            &mut ledger_due,
+        );
+        i = to;
+    }
+    c
+}
+
+// ---- the cases
+
+// Fills `buffer` with the next case and answers its length; 0 where there is none, or none that has room.
+fn read_case(buffer: &mut [u8]) -> usize
+    ensures { λ r. ⌜ Counts r (now (buffer .exit)) ⌝ }
+{
+    let mut size = [0u8; 4];
+    if io::read_full(STDIN_FILENO, &mut size) < 4 {
+        return 0;
+    }
+    let n = read_u32(&size, 0);
+    if buffer.len() < n {
+        return 0;
+    }
+    io::read_full(STDIN_FILENO, &mut buffer[..n])
+}
+
+// Replays the next case.
+fn replay_next(t: Tally) -> Tally {
+    let mut buffer = [0u8; CASE_MOST];
+    let n = read_case(&mut buffer);
+    if n == 0 {
+        return Tally {
+            cases: t.cases,
+            calls: t.calls,
+            failed: t.failed,
+            ended: true,
+        };
+    }
+    let c = replay(&buffer[..n]);
+    Tally {
+        cases: sum(t.cases, 1),
+        calls: sum(t.calls, c.calls),
+        failed: sum(t.failed, c.failed),
+        ended: false,
+    }
+}
+
+// Replays all cases.
+fn replay_all() -> Tally {
+    let mut t = Tally {
+        cases: 0,
+        calls: 0,
+        failed: 0,
+        ended: false,
+    };
+    let mut turns: usize = 0;
+    while turns < CASES_MOST {
+        if t.ended {
+            return t;
+        }
+        t = replay_next(t);
+        turns += 1;
+    }
+    t
+}
+
+fn main() {
+    let t = replay_all();
+    io::print_decimal(STDOUT_FILENO, t.cases as u64);
+    io::write_all(STDOUT_FILENO, b" cases, ");
+    io::print_decimal(STDOUT_FILENO, t.calls as u64);
+    io::write_all(STDOUT_FILENO, b" calls, ");
+    io::print_decimal(STDOUT_FILENO, t.failed as u64);
+    io::write_all(STDOUT_FILENO, b" failed\n");
+}

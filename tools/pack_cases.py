@@ -1,0 +1,121 @@
+#!/usr/bin/env python3
+"""Packs cases for the program `cases`: writes its standard input, crates/cases/stdin.
+
+usage: tools/pack_cases.py VECTORS
+
+VECTORS is a folder of cases. A conversion has `rules.bin` and `tree.bin` (one that is missing counts as empty), `stdin` (its first byte
+names the mode) and `expected` (what the program writes). A run of edits has `rules.bin`, `script.txt` and, for each call i, `tree-i.bin`
+and both whole buffers after it, `text-i.bin` and `ledger-i.bin`; they start as `text-before.bin` and `ledger-before.bin` where the
+script has a conversion, else as `text-0.bin` and `ledger-0.bin`.
+
+What is written is a row of cases: a length (4 bytes, the lowest first) and so many bytes. A case is a row of parts: a tag (1 byte), a
+length (4 bytes) and so many bytes.
+
+    1        the case's name
+    2, 3     the rule file; the tree file
+    4        how long the text buffer and the ledger are (4 bytes each); both are filled with one byte, and so is what is due in them
+    5, 6     the text buffer, or the ledger, begins with these bytes, and so does what is due in it
+    7, 8     what is due in the text buffer, or in the ledger, begins with these bytes
+    9        a call and its answer, ten numbers (4 bytes each): 0 convert or 1 edit; mode; block; kept length; refusal (0: accepted);
+             its row, or the text's length; growth, as two numbers of which the second is taken from the first; count of blocks (in a
+             conversion all, in an edit those converted again); bytes at the front of the ledger that the case does not name
+
+After a call both buffers must be as is due, whole. The vectors do not name the ledger of a conversion. So each that is accepted is
+followed by edits of its first and last block to the tree that is there: these must accept the ledger, convert one block again, and
+change nothing.
+"""
+
+import struct
+import sys
+from pathlib import Path
+
+PACKED = Path(__file__).resolve().parent.parent / "crates" / "cases" / "stdin"
+
+NAME, RULES, TREE, SIZES, TEXT, LEDGER, TEXT_DUE, LEDGER_DUE, CALL = range(1, 10)
+CONVERT, EDIT = 0, 1
+BUFFER = 65536
+ROW_SIZE = 128
+
+
+def part(tag, data):
+    return struct.pack("<BI", tag, len(data)) + data
+
+
+def numbers(*given):
+    return struct.pack("<%dI" % len(given), *given)
+
+
+def call(kind, mode, block, kept, answer, free=0):
+    number, first, growth, count = answer
+    return part(CALL, numbers(kind, mode, block, kept, number, first, max(growth, 0), max(-growth, 0), count, free))
+
+
+def read(case, name):
+    return (case / name).read_bytes() if (case / name).exists() else b""
+
+
+def block_count(tree):
+    """The root's direct children, in a tree file that was accepted."""
+    start, rows = struct.unpack("<II", tree[-8:])
+    i, count = 1, 0
+    while i < rows:
+        node, under = tree[start + 8 * i + 1] == 0, struct.unpack_from("<I", tree, start + 8 * i + 4)[0]
+        i, count = i + 1 + (under if node else 0), count + 1
+    return count
+
+
+def mode_of(request):
+    return {b"t": 0, b"m": 1}.get(request[:1], 2)
+
+
+def conversion(case):
+    tree, expected, mode = read(case, "tree.bin"), read(case, "expected"), mode_of(read(case, "stdin"))
+    parts = [part(RULES, read(case, "rules.bin")), part(TREE, tree), part(SIZES, numbers(BUFFER, BUFFER))]
+    words = expected.split()
+    if expected.startswith(b"refused ") and expected.endswith(b"\n") and len(words) == 4:
+        return parts + [call(CONVERT, mode, 0, 0, (int(words[1]), int(words[3]), 0, 0))]
+    blocks, size = block_count(tree), len(expected)
+    parts += [part(TEXT_DUE, expected), call(CONVERT, mode, 0, 0, (0, size, 0, blocks), ROW_SIZE * blocks)]
+    return parts + [call(EDIT, mode, block, size, (0, size, 0, 1)) for block in sorted({0, blocks - 1}) if blocks]
+
+
+def edits(case):
+    lines = [line.split() for line in (case / "script.txt").read_text().splitlines()]
+    mode, calls = int(lines[0][1]), lines[1:]
+    start = "before" if calls[0][0] == "convert" else "0"
+    due = {name: read(case, f"{name}-{start}.bin") for name in ("text", "ledger")}
+    parts = [part(RULES, read(case, "rules.bin")), part(SIZES, numbers(len(due["text"]), len(due["ledger"])))]
+    parts += [part(TEXT, due["text"]), part(LEDGER, due["ledger"])]
+    for words in calls:
+        kind, i, said = words[0], words[1], words[words.index("refused" if "refused" in words else "ok"):]
+        parts.append(part(TREE, read(case, f"tree-{i}.bin")))
+        for tag, name in ((TEXT_DUE, "text"), (LEDGER_DUE, "ledger")):
+            data = read(case, f"{name}-{i}.bin")
+            if data != due[name]:
+                parts.append(part(tag, data))
+                due[name] = data
+        given = [int(n) for n in said[1:]]
+        if said[0] == "refused":
+            answer = (given[0], given[1], 0, 0)
+        else:
+            answer = (0, given[0], 0, given[1]) if kind == "convert" else (0, given[0], given[1], given[2])
+        block, kept = (0, 0) if kind == "convert" else (int(words[3]), int(words[5]))
+        parts.append(call(CONVERT if kind == "convert" else EDIT, mode, block, kept, answer))
+    return parts
+
+
+def main():
+    if len(sys.argv) != 2:
+        sys.exit(__doc__)
+    packed = []
+    for case in sorted(Path(sys.argv[1]).iterdir()):
+        if case.is_dir():
+            parts = edits(case) if (case / "script.txt").exists() else conversion(case)
+            data = part(NAME, case.name.encode()) + b"".join(parts)
+            packed.append(numbers(len(data)) + data)
+    PACKED.write_bytes(b"".join(packed))
+    print(f"{len(packed)} cases, {PACKED.stat().st_size} bytes")
+
+
+if __name__ == "__main__":
+    main()
