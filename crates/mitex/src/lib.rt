@@ -106,7 +106,7 @@ pub fn convert<'a>(
             c.with_flag(false),
             Loop::Plain,
         ),
-        Element::Formula => convert_formula(
+        Element::Formula => formula(
             out,
             at,
             &rows[8..],
@@ -116,7 +116,7 @@ pub fn convert<'a>(
             index,
             c.with_flag(false),
         ),
-        Element::CurlyGroup => convert_curly_group(
+        Element::CurlyGroup => curly_group(
             out,
             at,
             &rows[8..],
@@ -126,7 +126,7 @@ pub fn convert<'a>(
             index,
             c.with_flag(false),
         ),
-        Element::ClauseLr => convert_clause_lr(
+        Element::ClauseLr => clause_lr(
             out,
             at,
             &rows[8..],
@@ -162,7 +162,7 @@ pub fn convert<'a>(
             index,
             c.with_flag(false),
         ),
-        Element::Environment => convert_env(
+        Element::Environment => environment(
             out,
             at,
             &rows[8..],
@@ -259,7 +259,7 @@ pub fn each<'a>(
 }
 
 // A formula like `$x$` or `$$x$$`.
-fn convert_formula<'a>(
+fn formula<'a>(
     out: &mut [u8],
     at: usize,
     rows: &[u8],
@@ -297,7 +297,7 @@ fn convert_formula<'a>(
 }
 
 // A curly group like `{abc}`.
-fn convert_curly_group<'a>(
+fn curly_group<'a>(
     out: &mut [u8],
     at: usize,
     rows: &[u8],
@@ -335,7 +335,7 @@ fn convert_curly_group<'a>(
 }
 
 // `\left` and `\right`: the first child is the name.
-fn convert_clause_lr<'a>(
+fn clause_lr<'a>(
     out: &mut [u8],
     at: usize,
     rows: &[u8],
@@ -401,7 +401,7 @@ fn command<'a>(
         Command::Array => went(c, at),
         Command::Color => {
             let m = color_model(rows, text);
-            convert_command_color(
+            command_color(
                 out,
                 at,
                 rows,
@@ -417,7 +417,7 @@ fn command<'a>(
         }
         Command::ColorArguments => {
             let m = argument_model(rows, text);
-            convert_command_color(
+            command_color(
                 out,
                 at,
                 rows,
@@ -431,12 +431,12 @@ fn command<'a>(
                 arguments_loop(mode),
             )
         }
-        Command::Normal => convert_normal_command(out, at, rows, text, row, rules, index, c, name),
+        Command::Normal => normal_command(out, at, rows, text, row, rules, index, c, name),
     }
 }
 
 // A colour command: its model, then the colour and the body.
-fn convert_command_color<'a>(
+fn command_color<'a>(
     out: &mut [u8],
     at: usize,
     rows: &[u8],
@@ -534,7 +534,7 @@ fn colored<'a>(
 }
 
 // A command by its rule.
-fn convert_normal_command<'a>(
+fn normal_command<'a>(
     out: &mut [u8],
     at: usize,
     rows: &[u8],
@@ -668,7 +668,7 @@ fn greedy<'a>(
 }
 
 // An environment, by its rule; one that ends in Text takes the held label.
-fn convert_env<'a>(
+fn environment<'a>(
     out: &mut [u8],
     at: usize,
     rows: &[u8],
@@ -715,8 +715,8 @@ fn env_body<'a>(
 {
     match env {
         LaTeXEnv::None => env_plain(out, at, rows, text, row, rules, index, c, name, env),
-        LaTeXEnv::Figure => convert_env_figure(out, at, rows, text, row, rules, index, c, name),
-        LaTeXEnv::Table => convert_env_table(out, at, rows, text, row, rules, index, c, name),
+        LaTeXEnv::Figure => env_figure(out, at, rows, text, row, rules, index, c, name),
+        LaTeXEnv::Table => env_table(out, at, rows, text, row, rules, index, c, name),
         LaTeXEnv::Itemize => env_plain(out, at, rows, text, row, rules, index, c, name, env),
         LaTeXEnv::Enumerate => env_plain(out, at, rows, text, row, rules, index, c, name, env),
         LaTeXEnv::Math => env_math(out, at, rows, text, row, rules, index, c, name, env),
@@ -814,7 +814,7 @@ fn env_math<'a>(
 }
 
 // A figure: its last caption, then the children.
-fn convert_env_figure<'a>(
+fn env_figure<'a>(
     out: &mut [u8],
     at: usize,
     rows: &[u8],
@@ -925,7 +925,7 @@ fn body<'a>(
 }
 
 // A table: the head by its column letters, then the cells.
-fn convert_env_table<'a>(
+fn env_table<'a>(
     out: &mut [u8],
     at: usize,
     rows: &[u8],

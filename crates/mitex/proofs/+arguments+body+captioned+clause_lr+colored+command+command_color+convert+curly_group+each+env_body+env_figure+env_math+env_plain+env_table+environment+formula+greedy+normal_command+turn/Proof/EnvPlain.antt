@@ -12,8 +12,8 @@ use Rattle.mitex.proofs.Environing.{step-small}
 use Prim.Native.Nat.{ℕ}
 use Rattle.mitex.proofs.each.Reads as each
 use Rattle.mitex.proofs.env_plain.Reads as env-plain
-use Rattle.mitex.proofs.+arguments+body+captioned+colored+command+convert+convert_clause_lr+convert_command_color+convert_curly_group+convert_env+convert_env_figure+convert_env_table+convert_formula+convert_normal_command+each+env_body+env_math+env_plain+greedy+turn.Lts-env_plain as env-plain-lts
-use Rattle.mitex.proofs.+arguments+body+captioned+colored+command+convert+convert_clause_lr+convert_command_color+convert_curly_group+convert_env+convert_env_figure+convert_env_table+convert_formula+convert_normal_command+each+env_body+env_math+env_plain+greedy+turn.Proof.Setup.{env-plain-at, env-plain-calls}
+use Rattle.mitex.proofs.+arguments+body+captioned+clause_lr+colored+command+command_color+convert+curly_group+each+env_body+env_figure+env_math+env_plain+env_table+environment+formula+greedy+normal_command+turn.Lts-env_plain as env-plain-lts
+use Rattle.mitex.proofs.+arguments+body+captioned+clause_lr+colored+command+command_color+convert+curly_group+each+env_body+env_figure+env_math+env_plain+env_table+environment+formula+greedy+normal_command+turn.Proof.Setup.{env-plain-at, env-plain-calls}
 
 pub env-plain-put-env-begin-requires : (t : ℕ) → env-plain-lts.Need-put-env-begin-requires (env-plain-calls t) (env-plain-at t) env-plain.Post
 env-plain-put-env-begin-requires t c κs =

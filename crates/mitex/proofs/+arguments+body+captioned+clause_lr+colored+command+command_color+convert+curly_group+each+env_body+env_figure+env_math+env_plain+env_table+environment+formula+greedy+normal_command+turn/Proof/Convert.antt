@@ -23,13 +23,13 @@ use Rattle.mitex.proofs.Nodes.{below-length, at-node, at-token, at-unex
 use Prim.Native.Nat.{ℕ}
 use Rattle.mitex.proofs.command.Reads as command
 use Rattle.mitex.proofs.convert.Reads as convert
-use Rattle.mitex.proofs.+arguments+body+captioned+colored+command+convert+convert_clause_lr+convert_command_color+convert_curly_group+convert_env+convert_env_figure+convert_env_table+convert_formula+convert_normal_command+each+env_body+env_math+env_plain+greedy+turn.Lts-convert as convert-lts
-use Rattle.mitex.proofs.convert_clause_lr.Reads as convert-clause-lr
-use Rattle.mitex.proofs.convert_curly_group.Reads as convert-curly-group
-use Rattle.mitex.proofs.convert_env.Reads as convert-env
-use Rattle.mitex.proofs.convert_formula.Reads as convert-formula
+use Rattle.mitex.proofs.+arguments+body+captioned+clause_lr+colored+command+command_color+convert+curly_group+each+env_body+env_figure+env_math+env_plain+env_table+environment+formula+greedy+normal_command+turn.Lts-convert as convert-lts
+use Rattle.mitex.proofs.clause_lr.Reads as clause-lr
+use Rattle.mitex.proofs.curly_group.Reads as curly-group
+use Rattle.mitex.proofs.environment.Reads as environment
+use Rattle.mitex.proofs.formula.Reads as formula
 use Rattle.mitex.proofs.each.Reads as each
-use Rattle.mitex.proofs.+arguments+body+captioned+colored+command+convert+convert_clause_lr+convert_command_color+convert_curly_group+convert_env+convert_env_figure+convert_env_table+convert_formula+convert_normal_command+each+env_body+env_math+env_plain+greedy+turn.Proof.Setup.{convert-at, convert-calls}
+use Rattle.mitex.proofs.+arguments+body+captioned+clause_lr+colored+command+command_color+convert+curly_group+each+env_body+env_figure+env_math+env_plain+env_table+environment+formula+greedy+normal_command+turn.Proof.Setup.{convert-at, convert-calls}
 
 pub convert-shared-slice-read-kind : (t : ℕ) → convert-lts.Need-shared-slice-read-kind (convert-calls t) (convert-at t) convert.Post
 convert-shared-slice-read-kind t c =
@@ -99,20 +99,20 @@ convert-each-requires t c κs =
 pub convert-enum-told-3 : (t : ℕ) → convert-lts.Need-enum-told-3 (convert-calls t) (convert-at t) convert.Post
 convert-enum-told-3 t c = search needs
 
-pub convert-sub-convert-formula : (t : ℕ) → convert-lts.Need-sub-convert-formula (convert-calls t) (convert-at t) convert.Post
-convert-sub-convert-formula t c =
+pub convert-sub-formula : (t : ℕ) → convert-lts.Need-sub-formula (convert-calls t) (convert-at t) convert.Post
+convert-sub-formula t c =
     let c₁ = c .before .before .before .before .before in
     let c₂ = c₁ .before .before .before .before .before in
     omega (arith, rows-some (c₂ .pre .1 .1 .1 .spells))
 
-pub convert-part-convert-formula-start : (t : ℕ) → convert-lts.Need-part-convert-formula-start (convert-calls t) (convert-at t) convert.Post
-convert-part-convert-formula-start t c =
+pub convert-part-formula-start : (t : ℕ) → convert-lts.Need-part-formula-start (convert-calls t) (convert-at t) convert.Post
+convert-part-formula-start t c =
     let c₁ = c .before .before .before .before .before in
     let c₂ = c₁ .before .before .before .before .before in
     omega (arith, rows-some (c₂ .pre .1 .1 .1 .spells))
 
-pub convert-part-convert-formula-end : (t : ℕ) → convert-lts.Need-part-convert-formula-end (convert-calls t) (convert-at t) convert.Post
-convert-part-convert-formula-end t c =
+pub convert-part-formula-end : (t : ℕ) → convert-lts.Need-part-formula-end (convert-calls t) (convert-at t) convert.Post
+convert-part-formula-end t c =
     let c₁ = c .before .before .before .before .before in
     let c₂ = c₁ .before .before .before .before .before in
     omega (arith, rows-some (c₂ .pre .1 .1 .1 .spells))
@@ -120,8 +120,8 @@ convert-part-convert-formula-end t c =
 pub convert-with-flag-requires-2 : (t : ℕ) → convert-lts.Need-with-flag-requires-2 (convert-calls t) (convert-at t) convert.Post
 convert-with-flag-requires-2 t c κs = search needs
 
-pub convert-convert-formula-requires : (t : ℕ) → convert-lts.Need-convert-formula-requires (convert-calls t) (convert-at t) convert.Post
-convert-convert-formula-requires t c κs =
+pub convert-formula-requires : (t : ℕ) → convert-lts.Need-formula-requires (convert-calls t) (convert-at t) convert.Post
+convert-formula-requires t c κs =
     let c₁ = c .before .before .before in
     let c₂ = c₁ .before .before in
     let c₃ = c₂ .before .before .before .before .before in
@@ -136,20 +136,20 @@ convert-convert-formula-requires t c κs =
 pub convert-enum-told-4 : (t : ℕ) → convert-lts.Need-enum-told-4 (convert-calls t) (convert-at t) convert.Post
 convert-enum-told-4 t c = search needs
 
-pub convert-sub-convert-curly-group : (t : ℕ) → convert-lts.Need-sub-convert-curly-group (convert-calls t) (convert-at t) convert.Post
-convert-sub-convert-curly-group t c =
+pub convert-sub-curly-group : (t : ℕ) → convert-lts.Need-sub-curly-group (convert-calls t) (convert-at t) convert.Post
+convert-sub-curly-group t c =
     let c₁ = c .before .before .before .before .before in
     let c₂ = c₁ .before .before .before .before .before in
     omega (arith, rows-some (c₂ .pre .1 .1 .1 .spells))
 
-pub convert-part-convert-curly-group-start : (t : ℕ) → convert-lts.Need-part-convert-curly-group-start (convert-calls t) (convert-at t) convert.Post
-convert-part-convert-curly-group-start t c =
+pub convert-part-curly-group-start : (t : ℕ) → convert-lts.Need-part-curly-group-start (convert-calls t) (convert-at t) convert.Post
+convert-part-curly-group-start t c =
     let c₁ = c .before .before .before .before .before in
     let c₂ = c₁ .before .before .before .before .before in
     omega (arith, rows-some (c₂ .pre .1 .1 .1 .spells))
 
-pub convert-part-convert-curly-group-end : (t : ℕ) → convert-lts.Need-part-convert-curly-group-end (convert-calls t) (convert-at t) convert.Post
-convert-part-convert-curly-group-end t c =
+pub convert-part-curly-group-end : (t : ℕ) → convert-lts.Need-part-curly-group-end (convert-calls t) (convert-at t) convert.Post
+convert-part-curly-group-end t c =
     let c₁ = c .before .before .before .before .before in
     let c₂ = c₁ .before .before .before .before .before in
     omega (arith, rows-some (c₂ .pre .1 .1 .1 .spells))
@@ -157,8 +157,8 @@ convert-part-convert-curly-group-end t c =
 pub convert-with-flag-requires-3 : (t : ℕ) → convert-lts.Need-with-flag-requires-3 (convert-calls t) (convert-at t) convert.Post
 convert-with-flag-requires-3 t c κs = search needs
 
-pub convert-convert-curly-group-requires : (t : ℕ) → convert-lts.Need-convert-curly-group-requires (convert-calls t) (convert-at t) convert.Post
-convert-convert-curly-group-requires t c κs =
+pub convert-curly-group-requires : (t : ℕ) → convert-lts.Need-curly-group-requires (convert-calls t) (convert-at t) convert.Post
+convert-curly-group-requires t c κs =
     let c₁ = c .before .before .before in
     let c₂ = c₁ .before .before in
     let c₃ = c₂ .before .before .before .before .before in
@@ -173,20 +173,20 @@ convert-convert-curly-group-requires t c κs =
 pub convert-enum-told-5 : (t : ℕ) → convert-lts.Need-enum-told-5 (convert-calls t) (convert-at t) convert.Post
 convert-enum-told-5 t c = search needs
 
-pub convert-sub-convert-clause-lr : (t : ℕ) → convert-lts.Need-sub-convert-clause-lr (convert-calls t) (convert-at t) convert.Post
-convert-sub-convert-clause-lr t c =
+pub convert-sub-clause-lr : (t : ℕ) → convert-lts.Need-sub-clause-lr (convert-calls t) (convert-at t) convert.Post
+convert-sub-clause-lr t c =
     let c₁ = c .before .before .before .before .before in
     let c₂ = c₁ .before .before .before .before .before in
     omega (arith, rows-some (c₂ .pre .1 .1 .1 .spells))
 
-pub convert-part-convert-clause-lr-start : (t : ℕ) → convert-lts.Need-part-convert-clause-lr-start (convert-calls t) (convert-at t) convert.Post
-convert-part-convert-clause-lr-start t c =
+pub convert-part-clause-lr-start : (t : ℕ) → convert-lts.Need-part-clause-lr-start (convert-calls t) (convert-at t) convert.Post
+convert-part-clause-lr-start t c =
     let c₁ = c .before .before .before .before .before in
     let c₂ = c₁ .before .before .before .before .before in
     omega (arith, rows-some (c₂ .pre .1 .1 .1 .spells))
 
-pub convert-part-convert-clause-lr-end : (t : ℕ) → convert-lts.Need-part-convert-clause-lr-end (convert-calls t) (convert-at t) convert.Post
-convert-part-convert-clause-lr-end t c =
+pub convert-part-clause-lr-end : (t : ℕ) → convert-lts.Need-part-clause-lr-end (convert-calls t) (convert-at t) convert.Post
+convert-part-clause-lr-end t c =
     let c₁ = c .before .before .before .before .before in
     let c₂ = c₁ .before .before .before .before .before in
     omega (arith, rows-some (c₂ .pre .1 .1 .1 .spells))
@@ -194,8 +194,8 @@ convert-part-convert-clause-lr-end t c =
 pub convert-with-flag-requires-4 : (t : ℕ) → convert-lts.Need-with-flag-requires-4 (convert-calls t) (convert-at t) convert.Post
 convert-with-flag-requires-4 t c κs = search needs
 
-pub convert-convert-clause-lr-requires : (t : ℕ) → convert-lts.Need-convert-clause-lr-requires (convert-calls t) (convert-at t) convert.Post
-convert-convert-clause-lr-requires t c κs =
+pub convert-clause-lr-requires : (t : ℕ) → convert-lts.Need-clause-lr-requires (convert-calls t) (convert-at t) convert.Post
+convert-clause-lr-requires t c κs =
     let c₁ = c .before .before .before in
     let c₂ = c₁ .before .before in
     let c₃ = c₂ .before .before .before .before .before in
@@ -319,20 +319,20 @@ convert-command-requires t c κs =
 pub convert-enum-told-9 : (t : ℕ) → convert-lts.Need-enum-told-9 (convert-calls t) (convert-at t) convert.Post
 convert-enum-told-9 t c = search needs
 
-pub convert-sub-convert-env : (t : ℕ) → convert-lts.Need-sub-convert-env (convert-calls t) (convert-at t) convert.Post
-convert-sub-convert-env t c =
+pub convert-sub-environment : (t : ℕ) → convert-lts.Need-sub-environment (convert-calls t) (convert-at t) convert.Post
+convert-sub-environment t c =
     let c₁ = c .before .before .before .before .before in
     let c₂ = c₁ .before .before .before .before .before in
     omega (arith, rows-some (c₂ .pre .1 .1 .1 .spells))
 
-pub convert-part-convert-env-start : (t : ℕ) → convert-lts.Need-part-convert-env-start (convert-calls t) (convert-at t) convert.Post
-convert-part-convert-env-start t c =
+pub convert-part-environment-start : (t : ℕ) → convert-lts.Need-part-environment-start (convert-calls t) (convert-at t) convert.Post
+convert-part-environment-start t c =
     let c₁ = c .before .before .before .before .before in
     let c₂ = c₁ .before .before .before .before .before in
     omega (arith, rows-some (c₂ .pre .1 .1 .1 .spells))
 
-pub convert-part-convert-env-end : (t : ℕ) → convert-lts.Need-part-convert-env-end (convert-calls t) (convert-at t) convert.Post
-convert-part-convert-env-end t c =
+pub convert-part-environment-end : (t : ℕ) → convert-lts.Need-part-environment-end (convert-calls t) (convert-at t) convert.Post
+convert-part-environment-end t c =
     let c₁ = c .before .before .before .before .before in
     let c₂ = c₁ .before .before .before .before .before in
     omega (arith, rows-some (c₂ .pre .1 .1 .1 .spells))
@@ -340,8 +340,8 @@ convert-part-convert-env-end t c =
 pub convert-with-flag-requires-8 : (t : ℕ) → convert-lts.Need-with-flag-requires-8 (convert-calls t) (convert-at t) convert.Post
 convert-with-flag-requires-8 t c κs = search needs
 
-pub convert-convert-env-requires : (t : ℕ) → convert-lts.Need-convert-env-requires (convert-calls t) (convert-at t) convert.Post
-convert-convert-env-requires t c κs =
+pub convert-environment-requires : (t : ℕ) → convert-lts.Need-environment-requires (convert-calls t) (convert-at t) convert.Post
+convert-environment-requires t c κs =
     let c₁ = c .before .before .before in
     let c₂ = c₁ .before .before in
     let c₃ = c₂ .before .before .before .before .before in
@@ -409,7 +409,7 @@ convert-returns-2 t c =
     (y .fits)))
 
 pub convert-same-length-2 : (t : ℕ) → convert-lts.Need-same-length-2 (convert-calls t) (convert-at t) convert.Post
-convert-same-length-2 t c = c .before .before .convert-formula .kept .0
+convert-same-length-2 t c = c .before .before .formula .kept .0
 
 pub convert-returns-3 : (t : ℕ) → convert-lts.Need-returns-3 (convert-calls t) (convert-at t) convert.Post
 convert-returns-3 t c =
@@ -426,10 +426,10 @@ convert-returns-3 t c =
     (carried-as (c₁ .with-flag2 .ensures)
     (λ (p : Place) (q : Carry).
     armBy Formula (meaning (y .lower)) (record { rules = rs; mode = p .mode; env = p .env; indent = p .indent }) (y .forest) q)
-    (c .before .before .convert-formula .ensures rs ready (y .forest) (y .spells) (y .lower) (y .fits)))
+    (c .before .before .formula .ensures rs ready (y .forest) (y .spells) (y .lower) (y .fits)))
 
 pub convert-same-length-3 : (t : ℕ) → convert-lts.Need-same-length-3 (convert-calls t) (convert-at t) convert.Post
-convert-same-length-3 t c = c .before .before .convert-curly-group .kept .0
+convert-same-length-3 t c = c .before .before .curly-group .kept .0
 
 pub convert-returns-4 : (t : ℕ) → convert-lts.Need-returns-4 (convert-calls t) (convert-at t) convert.Post
 convert-returns-4 t c =
@@ -446,10 +446,10 @@ convert-returns-4 t c =
     (carried-as (c₁ .with-flag3 .ensures)
     (λ (p : Place) (q : Carry).
     armBy CurlyGroup (meaning (y .lower)) (record { rules = rs; mode = p .mode; env = p .env; indent = p .indent }) (y .forest) q)
-    (c .before .before .convert-curly-group .ensures rs ready (y .forest) (y .spells) (y .lower) (y .fits)))
+    (c .before .before .curly-group .ensures rs ready (y .forest) (y .spells) (y .lower) (y .fits)))
 
 pub convert-same-length-4 : (t : ℕ) → convert-lts.Need-same-length-4 (convert-calls t) (convert-at t) convert.Post
-convert-same-length-4 t c = c .before .before .convert-clause-lr .kept .0
+convert-same-length-4 t c = c .before .before .clause-lr .kept .0
 
 pub convert-returns-5 : (t : ℕ) → convert-lts.Need-returns-5 (convert-calls t) (convert-at t) convert.Post
 convert-returns-5 t c =
@@ -466,7 +466,7 @@ convert-returns-5 t c =
     (carried-as (c₁ .with-flag4 .ensures)
     (λ (p : Place) (q : Carry).
     armBy ClauseLr (meaning (y .lower)) (record { rules = rs; mode = p .mode; env = p .env; indent = p .indent }) (y .forest) q)
-    (c .before .before .convert-clause-lr .ensures rs ready (y .forest) (y .spells) (y .lower) (y .fits)))
+    (c .before .before .clause-lr .ensures rs ready (y .forest) (y .spells) (y .lower) (y .fits)))
 
 pub convert-same-length-5 : (t : ℕ) → convert-lts.Need-same-length-5 (convert-calls t) (convert-at t) convert.Post
 convert-same-length-5 t c = c .before .before .each2 .kept .0
@@ -526,7 +526,7 @@ convert-returns-8 t c =
     (c .before .before .command .ensures rs ready (y .forest) (y .spells) (y .lower) (y .fits)))
 
 pub convert-same-length-7 : (t : ℕ) → convert-lts.Need-same-length-7 (convert-calls t) (convert-at t) convert.Post
-convert-same-length-7 t c = c .before .before .convert-env .kept .0
+convert-same-length-7 t c = c .before .before .environment .kept .0
 
 pub convert-returns-9 : (t : ℕ) → convert-lts.Need-returns-9 (convert-calls t) (convert-at t) convert.Post
 convert-returns-9 t c =
@@ -543,7 +543,7 @@ convert-returns-9 t c =
     (carried-as (c₁ .with-flag8 .ensures)
     (λ (p : Place) (q : Carry).
     armBy Environment (meaning (y .lower)) (record { rules = rs; mode = p .mode; env = p .env; indent = p .indent }) (y .forest) q)
-    (c .before .before .convert-env .ensures rs ready (y .forest) (y .spells) (y .lower) (y .fits)))
+    (c .before .before .environment .ensures rs ready (y .forest) (y .spells) (y .lower) (y .fits)))
 
 pub convert-same-length-8 : (t : ℕ) → convert-lts.Need-same-length-8 (convert-calls t) (convert-at t) convert.Post
 convert-same-length-8 t c = c .before .before .before .before .put .kept .0

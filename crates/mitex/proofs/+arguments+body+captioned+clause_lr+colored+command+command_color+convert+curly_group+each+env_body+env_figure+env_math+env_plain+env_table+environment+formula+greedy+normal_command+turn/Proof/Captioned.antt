@@ -18,9 +18,9 @@ use Rattle.mitex.proofs.Environing.{caption-none, caption-bare, caption
 use Prim.Native.Nat.{ℕ, _+_}
 use Rattle.mitex.proofs.body.Reads as body
 use Rattle.mitex.proofs.captioned.Reads as captioned
-use Rattle.mitex.proofs.+arguments+body+captioned+colored+command+convert+convert_clause_lr+convert_command_color+convert_curly_group+convert_env+convert_env_figure+convert_env_table+convert_formula+convert_normal_command+each+env_body+env_math+env_plain+greedy+turn.Lts-captioned as captioned-lts
+use Rattle.mitex.proofs.+arguments+body+captioned+clause_lr+colored+command+command_color+convert+curly_group+each+env_body+env_figure+env_math+env_plain+env_table+environment+formula+greedy+normal_command+turn.Lts-captioned as captioned-lts
 use Rattle.mitex.proofs.convert.Reads as convert
-use Rattle.mitex.proofs.+arguments+body+captioned+colored+command+convert+convert_clause_lr+convert_command_color+convert_curly_group+convert_env+convert_env_figure+convert_env_table+convert_formula+convert_normal_command+each+env_body+env_math+env_plain+greedy+turn.Proof.Setup.{captioned-at, captioned-calls}
+use Rattle.mitex.proofs.+arguments+body+captioned+clause_lr+colored+command+command_color+convert+curly_group+each+env_body+env_figure+env_math+env_plain+env_table+environment+formula+greedy+normal_command+turn.Proof.Setup.{captioned-at, captioned-calls}
 
 pub captioned-enum-told : (t : ℕ) → captioned-lts.Need-enum-told (captioned-calls t) (captioned-at t) captioned.Post
 captioned-enum-told t c = search needs

@@ -19,9 +19,9 @@ use Rattle.mitex.proofs.Walking.{Stands, Left, left-start, left-done, s
 use Prim.Native.Nat.{ℕ, _+_, _-_, _/_, _≤_}
 use Rattle.mitex.proofs.each.Reads as each
 use Rattle.mitex.specs.Walks.{Siblings}
-use Rattle.mitex.proofs.+arguments+body+captioned+colored+command+convert+convert_clause_lr+convert_command_color+convert_curly_group+convert_env+convert_env_figure+convert_env_table+convert_formula+convert_normal_command+each+env_body+env_math+env_plain+greedy+turn.Lts-each as each-lts
+use Rattle.mitex.proofs.+arguments+body+captioned+clause_lr+colored+command+command_color+convert+curly_group+each+env_body+env_figure+env_math+env_plain+env_table+environment+formula+greedy+normal_command+turn.Lts-each as each-lts
 use Rattle.mitex.proofs.turn.Reads as turn
-use Rattle.mitex.proofs.+arguments+body+captioned+colored+command+convert+convert_clause_lr+convert_command_color+convert_curly_group+convert_env+convert_env_figure+convert_env_table+convert_formula+convert_normal_command+each+env_body+env_math+env_plain+greedy+turn.Proof.Setup.{each-at, each-calls}
+use Rattle.mitex.proofs.+arguments+body+captioned+clause_lr+colored+command+command_color+convert+curly_group+each+env_body+env_figure+env_math+env_plain+env_table+environment+formula+greedy+normal_command+turn.Proof.Setup.{each-at, each-calls}
 
 abbrev pub each-Inv-loop : each-lts.InvT-loop
 each-Inv-loop out₀ at rows text row rules index w₀ d₀ l₀ i₀ j₀ out w d l i j = Stands rows text out₀ out d₀ d i j w × (numberOf l ≤ numberOf l₀ + i) × ((rs : List Rule) → Ready rules index rs → (f : Forest) → SpellsAll f rows text → (n : ℕ) → sizes f ≤ n → Left (loop-of (meaning n (contextOf rs d₀)) 0 l₀ f (carryOf d₀)) (placeOf d₀) row w₀ out₀ (λ g. loop-of (meaning n (contextOf rs d₀)) (i / 8) l g (carryOf d)) n rows text i j w out)

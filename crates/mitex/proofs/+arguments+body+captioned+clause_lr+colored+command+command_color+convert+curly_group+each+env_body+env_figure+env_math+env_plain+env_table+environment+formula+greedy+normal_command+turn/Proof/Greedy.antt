@@ -16,8 +16,8 @@ use Rattle.mitex.proofs.Commanding.{greedy-none, greedy-stands, greedy-
 use Prim.Native.Nat.{ℕ}
 use Rattle.mitex.proofs.each.Reads as each
 use Rattle.mitex.proofs.greedy.Reads as greedy
-use Rattle.mitex.proofs.+arguments+body+captioned+colored+command+convert+convert_clause_lr+convert_command_color+convert_curly_group+convert_env+convert_env_figure+convert_env_table+convert_formula+convert_normal_command+each+env_body+env_math+env_plain+greedy+turn.Lts-greedy as greedy-lts
-use Rattle.mitex.proofs.+arguments+body+captioned+colored+command+convert+convert_clause_lr+convert_command_color+convert_curly_group+convert_env+convert_env_figure+convert_env_table+convert_formula+convert_normal_command+each+env_body+env_math+env_plain+greedy+turn.Proof.Setup.{greedy-at, greedy-calls}
+use Rattle.mitex.proofs.+arguments+body+captioned+clause_lr+colored+command+command_color+convert+curly_group+each+env_body+env_figure+env_math+env_plain+env_table+environment+formula+greedy+normal_command+turn.Lts-greedy as greedy-lts
+use Rattle.mitex.proofs.+arguments+body+captioned+clause_lr+colored+command+command_color+convert+curly_group+each+env_body+env_figure+env_math+env_plain+env_table+environment+formula+greedy+normal_command+turn.Proof.Setup.{greedy-at, greedy-calls}
 
 pub greedy-greedy-node-requires : (t : ℕ) → greedy-lts.Need-greedy-node-requires (greedy-calls t) (greedy-at t) greedy.Post
 greedy-greedy-node-requires t c κs =

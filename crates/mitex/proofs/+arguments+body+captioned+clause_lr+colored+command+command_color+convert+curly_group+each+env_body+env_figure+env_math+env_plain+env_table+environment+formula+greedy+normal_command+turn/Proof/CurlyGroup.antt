@@ -1,4 +1,4 @@
--- The needs of `convert_curly_group`.
+-- The needs of `curly_group`.
 use native.Mathlib.Omega.{arith}
 use borrow.Author.Needs.{needs}
 use mathlib.Core.Path.{refl, ap, _∙_}
@@ -13,22 +13,22 @@ use Rattle.mitex.proofs.Walking.{loops-at, loops-good}
 use Rattle.mitex.proofs.Arms.{room-each, loops-as, group-step, curly-text, curly-math}
 use mathlib.Core.Bool.{true}
 use Prim.Native.Nat.{ℕ}
-use Rattle.mitex.proofs.convert_curly_group.Reads as convert-curly-group
-use Rattle.mitex.proofs.+arguments+body+captioned+colored+command+convert+convert_clause_lr+convert_command_color+convert_curly_group+convert_env+convert_env_figure+convert_env_table+convert_formula+convert_normal_command+each+env_body+env_math+env_plain+greedy+turn.Lts-convert_curly_group as convert-curly-group-lts
+use Rattle.mitex.proofs.curly_group.Reads as curly-group
+use Rattle.mitex.proofs.+arguments+body+captioned+clause_lr+colored+command+command_color+convert+curly_group+each+env_body+env_figure+env_math+env_plain+env_table+environment+formula+greedy+normal_command+turn.Lts-curly_group as curly-group-lts
 use Rattle.mitex.proofs.each.Reads as each
-use Rattle.mitex.proofs.+arguments+body+captioned+colored+command+convert+convert_clause_lr+convert_command_color+convert_curly_group+convert_env+convert_env_figure+convert_env_table+convert_formula+convert_normal_command+each+env_body+env_math+env_plain+greedy+turn.Proof.Setup.{convert-curly-group-at, convert-curly-group-calls}
+use Rattle.mitex.proofs.+arguments+body+captioned+clause_lr+colored+command+command_color+convert+curly_group+each+env_body+env_figure+env_math+env_plain+env_table+environment+formula+greedy+normal_command+turn.Proof.Setup.{curly-group-at, curly-group-calls}
 
-pub convert-curly-group-enum-told : (t : ℕ) → convert-curly-group-lts.Need-enum-told (convert-curly-group-calls t) (convert-curly-group-at t) convert-curly-group.Post
-convert-curly-group-enum-told t c = search needs
+pub curly-group-enum-told : (t : ℕ) → curly-group-lts.Need-enum-told (curly-group-calls t) (curly-group-at t) curly-group.Post
+curly-group-enum-told t c = search needs
 
-pub convert-curly-group-add-each : (t : ℕ) → convert-curly-group-lts.Need-add-each (convert-curly-group-calls t) (convert-curly-group-at t) convert-curly-group.Post
-convert-curly-group-add-each t c =
+pub curly-group-add-each : (t : ℕ) → curly-group-lts.Need-add-each (curly-group-calls t) (curly-group-at t) curly-group.Post
+curly-group-add-each t c =
     let c₁ = c .before .before .before .before .before in
     let c₂ = c₁ .before .before .before in
     omega (arith, c₂ .pre .1 .0 .low)
 
-pub convert-curly-group-each-requires : (t : ℕ) → convert-curly-group-lts.Need-each-requires (convert-curly-group-calls t) (convert-curly-group-at t) convert-curly-group.Post
-convert-curly-group-each-requires t c κs =
+pub curly-group-each-requires : (t : ℕ) → curly-group-lts.Need-each-requires (curly-group-calls t) (curly-group-at t) curly-group.Post
+curly-group-each-requires t c κs =
     let c₁ = c .before .before .before .before .before in
     let c₂ = c₁ .before .before .before in
     let r = c₂ .pre .1 .0 in (
@@ -36,26 +36,26 @@ convert-curly-group-each-requires t c κs =
       (room-each r (c₂ .args .c) (omega arith) (r .label) refl (r .place), (c₂ .pre .1 .1 .0, (c₂ .pre .1 .1 .1, omega (arith, r .few)))),
     )
 
-pub convert-curly-group-enum-told-2 : (t : ℕ) → convert-curly-group-lts.Need-enum-told-2 (convert-curly-group-calls t) (convert-curly-group-at t) convert-curly-group.Post
-convert-curly-group-enum-told-2 t c = search needs
+pub curly-group-enum-told-2 : (t : ℕ) → curly-group-lts.Need-enum-told-2 (curly-group-calls t) (curly-group-at t) curly-group.Post
+curly-group-enum-told-2 t c = search needs
 
-pub convert-curly-group-add-each-2 : (t : ℕ) → convert-curly-group-lts.Need-add-each-2 (convert-curly-group-calls t) (convert-curly-group-at t) convert-curly-group.Post
-convert-curly-group-add-each-2 t c =
+pub curly-group-add-each-2 : (t : ℕ) → curly-group-lts.Need-add-each-2 (curly-group-calls t) (curly-group-at t) curly-group.Post
+curly-group-add-each-2 t c =
     let c₁ = c .before .before .before .before .before in
     let c₂ = c₁ .before .before .before in
     omega (arith, c₂ .pre .1 .0 .low)
 
-pub convert-curly-group-group-env-requires : (t : ℕ) → convert-curly-group-lts.Need-group-env-requires (convert-curly-group-calls t) (convert-curly-group-at t) convert-curly-group.Post
-convert-curly-group-group-env-requires t c κs = search needs
+pub curly-group-group-env-requires : (t : ℕ) → curly-group-lts.Need-group-env-requires (curly-group-calls t) (curly-group-at t) curly-group.Post
+curly-group-group-env-requires t c κs = search needs
 
-pub convert-curly-group-entered-env-requires : (t : ℕ) → convert-curly-group-lts.Need-entered-env-requires (convert-curly-group-calls t) (convert-curly-group-at t) convert-curly-group.Post
-convert-curly-group-entered-env-requires t c κs =
+pub curly-group-entered-env-requires : (t : ℕ) → curly-group-lts.Need-entered-env-requires (curly-group-calls t) (curly-group-at t) curly-group.Post
+curly-group-entered-env-requires t c κs =
     let c₁ = c .before .before .before .before .before in
     let c₂ = c₁ .before .before .before .before in
     omega (arith, ap stepOf (c .group-env .ensures), group-step (c₂ .args .c .env), c₂ .pre .1 .0 .deep)
 
-pub convert-curly-group-each-requires-2 : (t : ℕ) → convert-curly-group-lts.Need-each-requires-2 (convert-curly-group-calls t) (convert-curly-group-at t) convert-curly-group.Post
-convert-curly-group-each-requires-2 t c κs =
+pub curly-group-each-requires-2 : (t : ℕ) → curly-group-lts.Need-each-requires-2 (curly-group-calls t) (curly-group-at t) curly-group.Post
+curly-group-each-requires-2 t c κs =
     let c₁ = c .before .before .before .before .before in
     let c₂ = c₁ .before .before .before .before .before in
     let r = c₂ .pre .1 .0 in
@@ -69,11 +69,11 @@ convert-curly-group-each-requires-2 t c κs =
       ),
     )
 
-pub convert-curly-group-slice-aggregate-close : (t : ℕ) → convert-curly-group-lts.Need-slice-aggregate-close (convert-curly-group-calls t) (convert-curly-group-at t) convert-curly-group.Post
-convert-curly-group-slice-aggregate-close t c = search needs
+pub curly-group-slice-aggregate-close : (t : ℕ) → curly-group-lts.Need-slice-aggregate-close (curly-group-calls t) (curly-group-at t) curly-group.Post
+curly-group-slice-aggregate-close t c = search needs
 
-pub convert-curly-group-close-requires : (t : ℕ) → convert-curly-group-lts.Need-close-requires (convert-curly-group-calls t) (convert-curly-group-at t) convert-curly-group.Post
-convert-curly-group-close-requires t c κs =
+pub curly-group-close-requires : (t : ℕ) → curly-group-lts.Need-close-requires (curly-group-calls t) (curly-group-at t) curly-group.Post
+curly-group-close-requires t c κs =
     let c₁ = c .before .before .before .before in
     let c₂ = c₁ .before in
     let c₃ = c₂ .before .before .before .before .before in
@@ -82,11 +82,11 @@ convert-curly-group-close-requires t c κs =
       omega (arith, c₁ .each2 .kept .0, c₄ .pre .1 .0 .room),
     )
 
-pub convert-curly-group-same-length : (t : ℕ) → convert-curly-group-lts.Need-same-length (convert-curly-group-calls t) (convert-curly-group-at t) convert-curly-group.Post
-convert-curly-group-same-length t c = c .before .before .each .kept .0
+pub curly-group-same-length : (t : ℕ) → curly-group-lts.Need-same-length (curly-group-calls t) (curly-group-at t) curly-group.Post
+curly-group-same-length t c = c .before .before .each .kept .0
 
-pub convert-curly-group-returns : (t : ℕ) → convert-curly-group-lts.Need-returns (convert-curly-group-calls t) (convert-curly-group-at t) convert-curly-group.Post
-convert-curly-group-returns t c =
+pub curly-group-returns : (t : ℕ) → curly-group-lts.Need-returns (curly-group-calls t) (curly-group-at t) curly-group.Post
+curly-group-returns t c =
     let c₁ = c .before .before .before .before in
     let c₂ = c₁ .before .before .before .before .before in
     let c₃ = c₂ .before .before in
@@ -94,14 +94,14 @@ convert-curly-group-returns t c =
     agrees-as (curly-text (meaning n) (contextOf rs (c₃ .args .c)) f (carryOf (c₃ .args .c)) (c₁ .enum-told .given .1))
     (loops-at 1 (c₃ .args .c) Plain (c .before .before .each .ensures) rs ready f sp n h)
 
-pub convert-curly-group-same-length-2 : (t : ℕ) → convert-curly-group-lts.Need-same-length-2 (convert-curly-group-calls t) (convert-curly-group-at t) convert-curly-group.Post
-convert-curly-group-same-length-2 t c =
+pub curly-group-same-length-2 : (t : ℕ) → curly-group-lts.Need-same-length-2 (curly-group-calls t) (curly-group-at t) curly-group.Post
+curly-group-same-length-2 t c =
     let c₁ = c .before .before .before .before .before in
     let c₂ = c₁ .before .before in
     c .before .before .close .kept .0 ∙ c₂ .each2 .kept .0
 
-pub convert-curly-group-returns-2 : (t : ℕ) → convert-curly-group-lts.Need-returns-2 (convert-curly-group-calls t) (convert-curly-group-at t) convert-curly-group.Post
-convert-curly-group-returns-2 t c =
+pub curly-group-returns-2 : (t : ℕ) → curly-group-lts.Need-returns-2 (curly-group-calls t) (curly-group-at t) curly-group.Post
+curly-group-returns-2 t c =
     let c₁ = c .before .before .before .before .before in
     let c₂ = c₁ .before .before in
     let c₃ = c₂ .before in

@@ -1,4 +1,4 @@
--- The needs of `convert_clause_lr`.
+-- The needs of `clause_lr`.
 use native.Mathlib.Omega.{arith}
 use borrow.Author.Needs.{needs}
 use mathlib.Core.Path.{refl, sym, ap, _∙_}
@@ -14,17 +14,17 @@ use Rattle.mitex.proofs.Arms.{apart, head-spans, lr-none, lr-more, Apar
 use Rattle.mitex_syntax.proofs.Trees.{no-left, size-more}
 use lib.Seq.{length-take-le}
 use Prim.Native.Nat.{ℕ, _+_, _/_, _<_}
-use Rattle.mitex.proofs.convert_clause_lr.Reads as convert-clause-lr
-use Rattle.mitex.proofs.+arguments+body+captioned+colored+command+convert+convert_clause_lr+convert_command_color+convert_curly_group+convert_env+convert_env_figure+convert_env_table+convert_formula+convert_normal_command+each+env_body+env_math+env_plain+greedy+turn.Lts-convert_clause_lr as convert-clause-lr-lts
+use Rattle.mitex.proofs.clause_lr.Reads as clause-lr
+use Rattle.mitex.proofs.+arguments+body+captioned+clause_lr+colored+command+command_color+convert+curly_group+each+env_body+env_figure+env_math+env_plain+env_table+environment+formula+greedy+normal_command+turn.Lts-clause_lr as clause-lr-lts
 use Rattle.mitex.proofs.each.Reads as each
-use Rattle.mitex.proofs.+arguments+body+captioned+colored+command+convert+convert_clause_lr+convert_command_color+convert_curly_group+convert_env+convert_env_figure+convert_env_table+convert_formula+convert_normal_command+each+env_body+env_math+env_plain+greedy+turn.Proof.Setup.{convert-clause-lr-at, convert-clause-lr-calls}
+use Rattle.mitex.proofs.+arguments+body+captioned+clause_lr+colored+command+command_color+convert+curly_group+each+env_body+env_figure+env_math+env_plain+env_table+environment+formula+greedy+normal_command+turn.Proof.Setup.{clause-lr-at, clause-lr-calls}
 
 -- a place where there are rows
 abbrev Here : ℕ → Type 0
-Here t = convert-clause-lr-lts.Else1 (convert-clause-lr-calls t) (convert-clause-lr-at t) convert-clause-lr.Post
+Here t = clause-lr-lts.Else1 (clause-lr-calls t) (clause-lr-at t) clause-lr.Post
 
 -- the function's entry
-abbrev start : (t : ℕ) → Here t → convert-clause-lr-lts.Start (convert-clause-lr-calls t) (convert-clause-lr-at t) convert-clause-lr.Post
+abbrev start : (t : ℕ) → Here t → clause-lr-lts.Start (clause-lr-calls t) (clause-lr-at t) clause-lr.Post
 start t c = let l = c .before .before .before in l .before .before .before
 
 some-rows : (t : ℕ) (c : Here t) → 0 < length (start t c .args .rows .now)
@@ -32,7 +32,7 @@ some-rows t c = omega (arith, c .if1 .left)
 
 -- the name and what stands behind it
 apart-here :
-    (t : ℕ) (c : convert-clause-lr-lts.After-span-at (convert-clause-lr-calls t) (convert-clause-lr-at t) convert-clause-lr.Post)
+    (t : ℕ) (c : clause-lr-lts.After-span-at (clause-lr-calls t) (clause-lr-at t) clause-lr.Post)
     → let s = start t (c .before) in
     Apart (s .pre .1 .1 .1 .forest) (s .args .rows .now) (s .args .text .now) (c .span-at .result .rows) (c .span-at .result .text)
 apart-here t c =
@@ -40,11 +40,11 @@ apart-here t c =
     apart (s .pre .1 .1 .1 .spells) (some-rows t (c .before)) (s .pre .1 .0 .few) (s .pre .1 .0 .short) _ _ (c .span-at .ensures .0)
     (c .span-at .ensures .1)
 
-pub convert-clause-lr-went-requires : (t : ℕ) → convert-clause-lr-lts.Need-went-requires (convert-clause-lr-calls t) (convert-clause-lr-at t) convert-clause-lr.Post
-convert-clause-lr-went-requires t c κs = search needs
+pub clause-lr-went-requires : (t : ℕ) → clause-lr-lts.Need-went-requires (clause-lr-calls t) (clause-lr-at t) clause-lr.Post
+clause-lr-went-requires t c κs = search needs
 
-pub convert-clause-lr-returns : (t : ℕ) → convert-clause-lr-lts.Need-returns (convert-clause-lr-calls t) (convert-clause-lr-at t) convert-clause-lr.Post
-convert-clause-lr-returns t c =
+pub clause-lr-returns : (t : ℕ) → clause-lr-lts.Need-returns (clause-lr-calls t) (clause-lr-at t) clause-lr.Post
+clause-lr-returns t c =
     let c₁ = c .before .before .before .before .before in
     let c₂ = c₁ .before .before in
     λ rs ready f sp n h.
@@ -52,78 +52,78 @@ convert-clause-lr-returns t c =
     (lr-none (meaning n) (contextOf rs (c₂ .args .c)) f (carryOf (c₂ .args .c)) (no-left f (sp .rows-are) (c .before .if1 .taken)))
     (agrees-done (c₂ .args .c) (c .went .ensures) refl refl (c₂ .pre .1 .0 .label) (wrote-nil _ _ (c₂ .pre .1 .0 .place)))
 
-pub convert-clause-lr-span-at-requires : (t : ℕ) → convert-clause-lr-lts.Need-span-at-requires (convert-clause-lr-calls t) (convert-clause-lr-at t) convert-clause-lr.Post
-convert-clause-lr-span-at-requires t c κs =
+pub clause-lr-span-at-requires : (t : ℕ) → clause-lr-lts.Need-span-at-requires (clause-lr-calls t) (clause-lr-at t) clause-lr.Post
+clause-lr-span-at-requires t c κs =
     let c₁ = c .before .before .before .before .before in
     let c₂ = c₁ .before in
     head-spans (c₂ .pre .1 .1 .1 .spells) (some-rows t (c)) (c₂ .pre .1 .0 .few) (c₂ .pre .1 .0 .short)
 
-pub convert-clause-lr-slice-aggregate-past-first : (t : ℕ) → convert-clause-lr-lts.Need-slice-aggregate-past-first (convert-clause-lr-calls t) (convert-clause-lr-at t) convert-clause-lr.Post
-convert-clause-lr-slice-aggregate-past-first t c = sym (length-take-le _ _ (apart-here t (c .before) .stop))
+pub clause-lr-slice-aggregate-past-first : (t : ℕ) → clause-lr-lts.Need-slice-aggregate-past-first (clause-lr-calls t) (clause-lr-at t) clause-lr.Post
+clause-lr-slice-aggregate-past-first t c = sym (length-take-le _ _ (apart-here t (c .before) .stop))
 
-pub convert-clause-lr-past-first-requires : (t : ℕ) → convert-clause-lr-lts.Need-past-first-requires (convert-clause-lr-calls t) (convert-clause-lr-at t) convert-clause-lr.Post
-convert-clause-lr-past-first-requires t c κs = search needs
+pub clause-lr-past-first-requires : (t : ℕ) → clause-lr-lts.Need-past-first-requires (clause-lr-calls t) (clause-lr-at t) clause-lr.Post
+clause-lr-past-first-requires t c κs = search needs
 
-pub convert-clause-lr-put-lr-begin-requires : (t : ℕ) → convert-clause-lr-lts.Need-put-lr-begin-requires (convert-clause-lr-calls t) (convert-clause-lr-at t) convert-clause-lr.Post
-convert-clause-lr-put-lr-begin-requires t c κs =
+pub clause-lr-put-lr-begin-requires : (t : ℕ) → clause-lr-lts.Need-put-lr-begin-requires (clause-lr-calls t) (clause-lr-at t) clause-lr.Post
+clause-lr-put-lr-begin-requires t c κs =
     let c₁ = c .before .before .before .before .before in
     let c₂ = c₁ .before .before .before .before .before in
     (c₂ .pre .1 .0 .place, c₂ .pre .1 .0 .room)
 
-pub convert-clause-lr-sub-each : (t : ℕ) → convert-clause-lr-lts.Need-sub-each (convert-clause-lr-calls t) (convert-clause-lr-at t) convert-clause-lr.Post
-convert-clause-lr-sub-each t c =
+pub clause-lr-sub-each : (t : ℕ) → clause-lr-lts.Need-sub-each (clause-lr-calls t) (clause-lr-at t) clause-lr.Post
+clause-lr-sub-each t c =
     let c₁ = c .before .before .before .before .before in
     let c₂ = c₁ .before .before in
     let x = apart-here t (c₂) in omega (arith, x .end)
 
-pub convert-clause-lr-part-each-start : (t : ℕ) → convert-clause-lr-lts.Need-part-each-start (convert-clause-lr-calls t) (convert-clause-lr-at t) convert-clause-lr.Post
-convert-clause-lr-part-each-start t c =
+pub clause-lr-part-each-start : (t : ℕ) → clause-lr-lts.Need-part-each-start (clause-lr-calls t) (clause-lr-at t) clause-lr.Post
+clause-lr-part-each-start t c =
     let c₁ = c .before .before .before .before .before in
     let c₂ = c₁ .before .before in
     let x = apart-here t (c₂) in omega (arith, x .end)
 
-pub convert-clause-lr-part-each-end : (t : ℕ) → convert-clause-lr-lts.Need-part-each-end (convert-clause-lr-calls t) (convert-clause-lr-at t) convert-clause-lr.Post
-convert-clause-lr-part-each-end t c =
+pub clause-lr-part-each-end : (t : ℕ) → clause-lr-lts.Need-part-each-end (clause-lr-calls t) (clause-lr-at t) clause-lr.Post
+clause-lr-part-each-end t c =
     let c₁ = c .before .before .before .before .before in
     let c₂ = c₁ .before .before in
     let x = apart-here t (c₂) in omega (arith, x .end)
 
-pub convert-clause-lr-sub-each-2 : (t : ℕ) → convert-clause-lr-lts.Need-sub-each-2 (convert-clause-lr-calls t) (convert-clause-lr-at t) convert-clause-lr.Post
-convert-clause-lr-sub-each-2 t c =
+pub clause-lr-sub-each-2 : (t : ℕ) → clause-lr-lts.Need-sub-each-2 (clause-lr-calls t) (clause-lr-at t) clause-lr.Post
+clause-lr-sub-each-2 t c =
     let c₁ = c .before .before .before .before .before in
     let c₂ = c₁ .before .before .before in
     let x = apart-here t (c₂) in omega (arith, x .stop)
 
-pub convert-clause-lr-part-each-start-2 : (t : ℕ) → convert-clause-lr-lts.Need-part-each-start-2 (convert-clause-lr-calls t) (convert-clause-lr-at t) convert-clause-lr.Post
-convert-clause-lr-part-each-start-2 t c =
+pub clause-lr-part-each-start-2 : (t : ℕ) → clause-lr-lts.Need-part-each-start-2 (clause-lr-calls t) (clause-lr-at t) clause-lr.Post
+clause-lr-part-each-start-2 t c =
     let c₁ = c .before .before .before .before .before in
     let c₂ = c₁ .before .before .before in
     let x = apart-here t (c₂) in omega (arith, x .stop)
 
-pub convert-clause-lr-part-each-end-2 : (t : ℕ) → convert-clause-lr-lts.Need-part-each-end-2 (convert-clause-lr-calls t) (convert-clause-lr-at t) convert-clause-lr.Post
-convert-clause-lr-part-each-end-2 t c =
+pub clause-lr-part-each-end-2 : (t : ℕ) → clause-lr-lts.Need-part-each-end-2 (clause-lr-calls t) (clause-lr-at t) clause-lr.Post
+clause-lr-part-each-end-2 t c =
     let c₁ = c .before .before .before .before .before in
     let c₂ = c₁ .before .before .before in
     let x = apart-here t (c₂) in omega (arith, x .stop)
 
-pub convert-clause-lr-add-each : (t : ℕ) → convert-clause-lr-lts.Need-add-each (convert-clause-lr-calls t) (convert-clause-lr-at t) convert-clause-lr.Post
-convert-clause-lr-add-each t c =
+pub clause-lr-add-each : (t : ℕ) → clause-lr-lts.Need-add-each (clause-lr-calls t) (clause-lr-at t) clause-lr.Post
+clause-lr-add-each t c =
     let c₁ = c .before .before .before .before .before in
     let c₂ = c₁ .before .before .before .before .before in
     let c₃ = c₂ .before .before .before .before .before in
     let c₄ = c₃ .before in
     omega (arith, c₄ .pre .1 .0 .low)
 
-pub convert-clause-lr-add-each-2 : (t : ℕ) → convert-clause-lr-lts.Need-add-each-2 (convert-clause-lr-calls t) (convert-clause-lr-at t) convert-clause-lr.Post
-convert-clause-lr-add-each-2 t c =
+pub clause-lr-add-each-2 : (t : ℕ) → clause-lr-lts.Need-add-each-2 (clause-lr-calls t) (clause-lr-at t) clause-lr.Post
+clause-lr-add-each-2 t c =
     let c₁ = c .before .before .before .before .before in
     let c₂ = c₁ .before .before .before .before in
     let c₃ = c₂ .before .before .before .before .before in
     let c₄ = c₃ .before .before in
     let x = apart-here t (c₂) in omega (arith, x .end, c₄ .pre .1 .0 .low)
 
-pub convert-clause-lr-each-requires : (t : ℕ) → convert-clause-lr-lts.Need-each-requires (convert-clause-lr-calls t) (convert-clause-lr-at t) convert-clause-lr.Post
-convert-clause-lr-each-requires t c κs =
+pub clause-lr-each-requires : (t : ℕ) → clause-lr-lts.Need-each-requires (clause-lr-calls t) (clause-lr-at t) clause-lr.Post
+clause-lr-each-requires t c κs =
     let c₁ = c .before .before .before .before .before in
     let c₂ = c₁ .before .before .before .before in
     let c₃ = c₂ .before .before .before .before .before in
@@ -144,8 +144,8 @@ convert-clause-lr-each-requires t c κs =
       ),
     )
 
-pub convert-clause-lr-close-lr-requires : (t : ℕ) → convert-clause-lr-lts.Need-close-lr-requires (convert-clause-lr-calls t) (convert-clause-lr-at t) convert-clause-lr.Post
-convert-clause-lr-close-lr-requires t c κs =
+pub clause-lr-close-lr-requires : (t : ℕ) → clause-lr-lts.Need-close-lr-requires (clause-lr-calls t) (clause-lr-at t) clause-lr.Post
+clause-lr-close-lr-requires t c κs =
     let c₁ = c .before .before .before in
     let c₂ = c₁ .before .before .before .before .before in
     let c₃ = c₂ .before in
@@ -157,16 +157,16 @@ convert-clause-lr-close-lr-requires t c κs =
       omega (arith, c₁ .each .kept .0, c₃ .put-lr-begin .kept .0, c₆ .pre .1 .0 .room),
     )
 
-pub convert-clause-lr-same-length : (t : ℕ) → convert-clause-lr-lts.Need-same-length (convert-clause-lr-calls t) (convert-clause-lr-at t) convert-clause-lr.Post
-convert-clause-lr-same-length t c =
+pub clause-lr-same-length : (t : ℕ) → clause-lr-lts.Need-same-length (clause-lr-calls t) (clause-lr-at t) clause-lr.Post
+clause-lr-same-length t c =
     let c₁ = c .before .before .before .before .before in
     let c₂ = c₁ .before in
     let c₃ = c₂ .before .before .before .before .before in
     let c₄ = c₃ .before in
     c .before .before .close-lr .kept .0 ∙ c₂ .each .kept .0 ∙ c₄ .put-lr-begin .kept .0
 
-pub convert-clause-lr-returns-2 : (t : ℕ) → convert-clause-lr-lts.Need-returns-2 (convert-clause-lr-calls t) (convert-clause-lr-at t) convert-clause-lr.Post
-convert-clause-lr-returns-2 t c =
+pub clause-lr-returns-2 : (t : ℕ) → clause-lr-lts.Need-returns-2 (clause-lr-calls t) (clause-lr-at t) clause-lr.Post
+clause-lr-returns-2 t c =
     let c₁ = c .before .before .before .before .before in
     let c₂ = c₁ .before in
     let c₃ = c₂ .before .before .before .before .before in

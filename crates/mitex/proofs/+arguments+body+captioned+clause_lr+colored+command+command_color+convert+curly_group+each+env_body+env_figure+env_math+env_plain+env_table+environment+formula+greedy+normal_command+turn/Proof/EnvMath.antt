@@ -25,8 +25,8 @@ use Rattle.mitex.proofs.Environing.{step-small, closing-declines}
 use Prim.Native.Nat.{ℕ}
 use Rattle.mitex.proofs.each.Reads as each
 use Rattle.mitex.proofs.env_math.Reads as env-math
-use Rattle.mitex.proofs.+arguments+body+captioned+colored+command+convert+convert_clause_lr+convert_command_color+convert_curly_group+convert_env+convert_env_figure+convert_env_table+convert_formula+convert_normal_command+each+env_body+env_math+env_plain+greedy+turn.Lts-env_math as env-math-lts
-use Rattle.mitex.proofs.+arguments+body+captioned+colored+command+convert+convert_clause_lr+convert_command_color+convert_curly_group+convert_env+convert_env_figure+convert_env_table+convert_formula+convert_normal_command+each+env_body+env_math+env_plain+greedy+turn.Proof.Setup.{env-math-at, env-math-calls}
+use Rattle.mitex.proofs.+arguments+body+captioned+clause_lr+colored+command+command_color+convert+curly_group+each+env_body+env_figure+env_math+env_plain+env_table+environment+formula+greedy+normal_command+turn.Lts-env_math as env-math-lts
+use Rattle.mitex.proofs.+arguments+body+captioned+clause_lr+colored+command+command_color+convert+curly_group+each+env_body+env_figure+env_math+env_plain+env_table+environment+formula+greedy+normal_command+turn.Proof.Setup.{env-math-at, env-math-calls}
 
 pub env-math-put-dollar-begin-requires : (t : ℕ) → env-math-lts.Need-put-dollar-begin-requires (env-math-calls t) (env-math-at t) env-math.Post
 env-math-put-dollar-begin-requires t c κs =

@@ -1,4 +1,4 @@
--- The needs of `convert_env_figure`.
+-- The needs of `env_figure`.
 use Rattle.mitex_state.specs.State.{contextOf, carryOf}
 use Rattle.mitex_state.specs.Conversion.{convert as meaning}
 use Rattle.mitex_state.specs.Outcome.{after, inEnv}
@@ -19,31 +19,31 @@ use Rattle.mitex.proofs.Walking.{captions-good}
 use Rattle.mitex.proofs.Arms.{captions-as}
 use Prim.Native.Nat.{ℕ}
 use Rattle.mitex.proofs.captioned.Reads as captioned
-use Rattle.mitex.proofs.convert_env_figure.Reads as convert-env-figure
-use Rattle.mitex.proofs.+arguments+body+captioned+colored+command+convert+convert_clause_lr+convert_command_color+convert_curly_group+convert_env+convert_env_figure+convert_env_table+convert_formula+convert_normal_command+each+env_body+env_math+env_plain+greedy+turn.Lts-convert_env_figure as convert-env-figure-lts
-use Rattle.mitex.proofs.+arguments+body+captioned+colored+command+convert+convert_clause_lr+convert_command_color+convert_curly_group+convert_env+convert_env_figure+convert_env_table+convert_formula+convert_normal_command+each+env_body+env_math+env_plain+greedy+turn.Proof.Setup.{convert-env-figure-at, convert-env-figure-calls}
+use Rattle.mitex.proofs.env_figure.Reads as env-figure
+use Rattle.mitex.proofs.+arguments+body+captioned+clause_lr+colored+command+command_color+convert+curly_group+each+env_body+env_figure+env_math+env_plain+env_table+environment+formula+greedy+normal_command+turn.Lts-env_figure as env-figure-lts
+use Rattle.mitex.proofs.+arguments+body+captioned+clause_lr+colored+command+command_color+convert+curly_group+each+env_body+env_figure+env_math+env_plain+env_table+environment+formula+greedy+normal_command+turn.Proof.Setup.{env-figure-at, env-figure-calls}
 
-pub convert-env-figure-last-caption-requires : (t : ℕ) → convert-env-figure-lts.Need-last-caption-requires (convert-env-figure-calls t) (convert-env-figure-at t) convert-env-figure.Post
-convert-env-figure-last-caption-requires t c κs =
+pub env-figure-last-caption-requires : (t : ℕ) → env-figure-lts.Need-last-caption-requires (env-figure-calls t) (env-figure-at t) env-figure.Post
+env-figure-last-caption-requires t c κs =
     let c₁ = c .before .before .before .before .before in
     let c₂ = c₁ .before in
     siblings-forest (c₂ .pre .1 .0) (c₂ .pre .1 .1 .1)
 
-pub convert-env-figure-put-hash-begin-requires : (t : ℕ) → convert-env-figure-lts.Need-put-hash-begin-requires (convert-env-figure-calls t) (convert-env-figure-at t) convert-env-figure.Post
-convert-env-figure-put-hash-begin-requires t c κs =
+pub env-figure-put-hash-begin-requires : (t : ℕ) → env-figure-lts.Need-put-hash-begin-requires (env-figure-calls t) (env-figure-at t) env-figure.Post
+env-figure-put-hash-begin-requires t c κs =
     let c₁ = c .before .before .before .before .before in
     let c₂ = c₁ .before .before .before in
     (c₂ .pre .1 .0 .place, c₂ .pre .1 .0 .room)
 
-pub convert-env-figure-entered-env-requires : (t : ℕ) → convert-env-figure-lts.Need-entered-env-requires (convert-env-figure-calls t) (convert-env-figure-at t) convert-env-figure.Post
-convert-env-figure-entered-env-requires t c κs =
+pub env-figure-entered-env-requires : (t : ℕ) → env-figure-lts.Need-entered-env-requires (env-figure-calls t) (env-figure-at t) env-figure.Post
+env-figure-entered-env-requires t c κs =
     let c₁ = c .before .before .before .before .before in
     let c₂ = c₁ .before .before .before .before .before in
     let c₃ = c₂ .before .before in
     omega (arith, c₃ .pre .1 .0 .deep)
 
-pub convert-env-figure-captioned-requires : (t : ℕ) → convert-env-figure-lts.Need-captioned-requires (convert-env-figure-calls t) (convert-env-figure-at t) convert-env-figure.Post
-convert-env-figure-captioned-requires t c κs =
+pub env-figure-captioned-requires : (t : ℕ) → env-figure-lts.Need-captioned-requires (env-figure-calls t) (env-figure-at t) env-figure.Post
+env-figure-captioned-requires t c κs =
     let c₁ = c .before .before .before .before in
     let c₂ = c₁ .before .before in
     let c₃ = c₂ .before .before .before .before .before in
@@ -65,11 +65,11 @@ convert-env-figure-captioned-requires t c κs =
       ),
     )
 
-pub convert-env-figure-slice-aggregate-close : (t : ℕ) → convert-env-figure-lts.Need-slice-aggregate-close (convert-env-figure-calls t) (convert-env-figure-at t) convert-env-figure.Post
-convert-env-figure-slice-aggregate-close t c = search needs
+pub env-figure-slice-aggregate-close : (t : ℕ) → env-figure-lts.Need-slice-aggregate-close (env-figure-calls t) (env-figure-at t) env-figure.Post
+env-figure-slice-aggregate-close t c = search needs
 
-pub convert-env-figure-close-requires : (t : ℕ) → convert-env-figure-lts.Need-close-requires (convert-env-figure-calls t) (convert-env-figure-at t) convert-env-figure.Post
-convert-env-figure-close-requires t c κs =
+pub env-figure-close-requires : (t : ℕ) → env-figure-lts.Need-close-requires (env-figure-calls t) (env-figure-at t) env-figure.Post
+env-figure-close-requires t c κs =
     let c₁ = c .before .before .before .before in
     let c₂ = c₁ .before in
     let c₃ = c₂ .before .before .before .before in
@@ -84,15 +84,15 @@ convert-env-figure-close-requires t c κs =
       omega (arith, c₆ .pre .1 .0 .room, c₁ .captioned .kept .0, c₃ .put-hash-begin .kept .0),
     )
 
-pub convert-env-figure-same-length : (t : ℕ) → convert-env-figure-lts.Need-same-length (convert-env-figure-calls t) (convert-env-figure-at t) convert-env-figure.Post
-convert-env-figure-same-length t c =
+pub env-figure-same-length : (t : ℕ) → env-figure-lts.Need-same-length (env-figure-calls t) (env-figure-at t) env-figure.Post
+env-figure-same-length t c =
     let c₁ = c .before .before .before .before .before in
     let c₂ = c₁ .before .before in
     let c₃ = c₂ .before .before .before .before .before in
     c .before .before .close .kept .0 ∙ c₂ .captioned .kept .0 ∙ c₃ .put-hash-begin .kept .0
 
-pub convert-env-figure-returns : (t : ℕ) → convert-env-figure-lts.Need-returns (convert-env-figure-calls t) (convert-env-figure-at t) convert-env-figure.Post
-convert-env-figure-returns t c =
+pub env-figure-returns : (t : ℕ) → env-figure-lts.Need-returns (env-figure-calls t) (env-figure-at t) env-figure.Post
+env-figure-returns t c =
     let c₁ = c .before .before .before .before .before in
     let c₂ = c₁ .before .before in
     let c₃ = c₂ .before in

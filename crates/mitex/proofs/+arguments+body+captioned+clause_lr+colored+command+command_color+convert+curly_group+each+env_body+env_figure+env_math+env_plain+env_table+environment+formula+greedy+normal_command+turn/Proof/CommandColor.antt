@@ -1,4 +1,4 @@
--- The needs of `convert_command_color`.
+-- The needs of `command_color`.
 use Rattle.mitex.proofs.Commanding.{colored-shift}
 use native.Mathlib.Omega.{arith}
 use mathlib.Core.Path.{_∙_}
@@ -12,18 +12,18 @@ use Rattle.mitex_state.proofs.Agreeing.{agrees-shift}
 use Rattle.mitex.proofs.Walking.{between-length, room-between}
 use Prim.Native.Nat.{ℕ}
 use Rattle.mitex.proofs.colored.Reads as colored
-use Rattle.mitex.proofs.convert_command_color.Reads as convert-command-color
-use Rattle.mitex.proofs.+arguments+body+captioned+colored+command+convert+convert_clause_lr+convert_command_color+convert_curly_group+convert_env+convert_env_figure+convert_env_table+convert_formula+convert_normal_command+each+env_body+env_math+env_plain+greedy+turn.Lts-convert_command_color as convert-command-color-lts
-use Rattle.mitex.proofs.+arguments+body+captioned+colored+command+convert+convert_clause_lr+convert_command_color+convert_curly_group+convert_env+convert_env_figure+convert_env_table+convert_formula+convert_normal_command+each+env_body+env_math+env_plain+greedy+turn.Proof.Setup.{convert-command-color-at, convert-command-color-calls}
+use Rattle.mitex.proofs.command_color.Reads as command-color
+use Rattle.mitex.proofs.+arguments+body+captioned+clause_lr+colored+command+command_color+convert+curly_group+each+env_body+env_figure+env_math+env_plain+env_table+environment+formula+greedy+normal_command+turn.Lts-command_color as command-color-lts
+use Rattle.mitex.proofs.+arguments+body+captioned+clause_lr+colored+command+command_color+convert+curly_group+each+env_body+env_figure+env_math+env_plain+env_table+environment+formula+greedy+normal_command+turn.Proof.Setup.{command-color-at, command-color-calls}
 
-pub convert-command-color-get-cmd-requires : (t : ℕ) → convert-command-color-lts.Need-get-cmd-requires (convert-command-color-calls t) (convert-command-color-at t) convert-command-color.Post
-convert-command-color-get-cmd-requires t c κs =
+pub command-color-get-cmd-requires : (t : ℕ) → command-color-lts.Need-get-cmd-requires (command-color-calls t) (command-color-at t) command-color.Post
+command-color-get-cmd-requires t c κs =
     let c₁ = c .before .before .before .before .before in
     let c₂ = c₁ .before in
     c₂ .pre .1 .1 .0
 
-pub convert-command-color-put-color-head-requires : (t : ℕ) → convert-command-color-lts.Need-put-color-head-requires (convert-command-color-calls t) (convert-command-color-at t) convert-command-color.Post
-convert-command-color-put-color-head-requires t c κs =
+pub command-color-put-color-head-requires : (t : ℕ) → command-color-lts.Need-put-color-head-requires (command-color-calls t) (command-color-at t) command-color.Post
+command-color-put-color-head-requires t c κs =
     let c₁ = c .before .before .before .before .before in
     let c₂ = c₁ .before .before .before in (
       (c₂ .pre .1 .0 .place, c₂ .pre .1 .0 .room),
@@ -33,64 +33,64 @@ convert-command-color-put-color-head-requires t c κs =
       ),
     )
 
-pub convert-command-color-sub-colored : (t : ℕ) → convert-command-color-lts.Need-sub-colored (convert-command-color-calls t) (convert-command-color-at t) convert-command-color.Post
-convert-command-color-sub-colored t c =
+pub command-color-sub-colored : (t : ℕ) → command-color-lts.Need-sub-colored (command-color-calls t) (command-color-at t) command-color.Post
+command-color-sub-colored t c =
     let c₁ = c .before .before .before .before .before in
     let c₂ = c₁ .before .before .before .before .before in
     let c₃ = c₂ .before .before .before in
     c₃ .pre .1 .1 .1 .1 .found .inside .low
 
-pub convert-command-color-part-colored-start : (t : ℕ) → convert-command-color-lts.Need-part-colored-start (convert-command-color-calls t) (convert-command-color-at t) convert-command-color.Post
-convert-command-color-part-colored-start t c =
+pub command-color-part-colored-start : (t : ℕ) → command-color-lts.Need-part-colored-start (command-color-calls t) (command-color-at t) command-color.Post
+command-color-part-colored-start t c =
     let c₁ = c .before .before .before .before .before in
     let c₂ = c₁ .before .before .before .before .before in
     let c₃ = c₂ .before .before .before in
     c₃ .pre .1 .1 .1 .1 .found .inside .low
 
-pub convert-command-color-part-colored-end : (t : ℕ) → convert-command-color-lts.Need-part-colored-end (convert-command-color-calls t) (convert-command-color-at t) convert-command-color.Post
-convert-command-color-part-colored-end t c =
+pub command-color-part-colored-end : (t : ℕ) → command-color-lts.Need-part-colored-end (command-color-calls t) (command-color-at t) command-color.Post
+command-color-part-colored-end t c =
     let c₁ = c .before .before .before .before .before in
     let c₂ = c₁ .before .before .before .before .before in
     let c₃ = c₂ .before .before .before in
     c₃ .pre .1 .1 .1 .1 .found .inside .high
 
-pub convert-command-color-sub-colored-2 : (t : ℕ) → convert-command-color-lts.Need-sub-colored-2 (convert-command-color-calls t) (convert-command-color-at t) convert-command-color.Post
-convert-command-color-sub-colored-2 t c =
+pub command-color-sub-colored-2 : (t : ℕ) → command-color-lts.Need-sub-colored-2 (command-color-calls t) (command-color-at t) command-color.Post
+command-color-sub-colored-2 t c =
     let c₁ = c .before .before .before .before .before in
     let c₂ = c₁ .before .before .before .before .before in
     let c₃ = c₂ .before .before .before .before in
     c₃ .pre .1 .1 .1 .1 .found .inside .begun
 
-pub convert-command-color-part-colored-start-2 : (t : ℕ) → convert-command-color-lts.Need-part-colored-start-2 (convert-command-color-calls t) (convert-command-color-at t) convert-command-color.Post
-convert-command-color-part-colored-start-2 t c =
+pub command-color-part-colored-start-2 : (t : ℕ) → command-color-lts.Need-part-colored-start-2 (command-color-calls t) (command-color-at t) command-color.Post
+command-color-part-colored-start-2 t c =
     let c₁ = c .before .before .before .before .before in
     let c₂ = c₁ .before .before .before .before .before in
     let c₃ = c₂ .before .before .before .before in
     c₃ .pre .1 .1 .1 .1 .found .inside .begun
 
-pub convert-command-color-part-colored-end-2 : (t : ℕ) → convert-command-color-lts.Need-part-colored-end-2 (convert-command-color-calls t) (convert-command-color-at t) convert-command-color.Post
-convert-command-color-part-colored-end-2 t c =
+pub command-color-part-colored-end-2 : (t : ℕ) → command-color-lts.Need-part-colored-end-2 (command-color-calls t) (command-color-at t) command-color.Post
+command-color-part-colored-end-2 t c =
     let c₁ = c .before .before .before .before .before in
     let c₂ = c₁ .before .before .before .before .before in
     let c₃ = c₂ .before .before .before .before in
     c₃ .pre .1 .1 .1 .1 .found .inside .stop
 
-pub convert-command-color-add-colored : (t : ℕ) → convert-command-color-lts.Need-add-colored (convert-command-color-calls t) (convert-command-color-at t) convert-command-color.Post
-convert-command-color-add-colored t c =
+pub command-color-add-colored : (t : ℕ) → command-color-lts.Need-add-colored (command-color-calls t) (command-color-at t) command-color.Post
+command-color-add-colored t c =
     let c₁ = c .before .before .before .before .before in
     let c₂ = c₁ .before .before .before .before .before in
     let c₃ = c₂ .before .before .before .before .before in
     omega (arith, c₃ .pre .1 .0 .low)
 
-pub convert-command-color-add-colored-2 : (t : ℕ) → convert-command-color-lts.Need-add-colored-2 (convert-command-color-calls t) (convert-command-color-at t) convert-command-color.Post
-convert-command-color-add-colored-2 t c =
+pub command-color-add-colored-2 : (t : ℕ) → command-color-lts.Need-add-colored-2 (command-color-calls t) (command-color-at t) command-color.Post
+command-color-add-colored-2 t c =
     let c₁ = c .before .before .before .before .before in
     let c₂ = c₁ .before .before .before .before .before in
     let c₃ = c₂ .before .before .before .before .before in
     let q = c₃ .pre .1 .1 .1 .1 .found .inside in omega (arith, c₃ .pre .1 .0 .low, q .low, q .high)
 
-pub convert-command-color-colored-requires : (t : ℕ) → convert-command-color-lts.Need-colored-requires (convert-command-color-calls t) (convert-command-color-at t) convert-command-color.Post
-convert-command-color-colored-requires t c κs =
+pub command-color-colored-requires : (t : ℕ) → command-color-lts.Need-colored-requires (command-color-calls t) (command-color-at t) command-color.Post
+command-color-colored-requires t c κs =
     let c₁ = c .before .before .before .before .before in
     let c₂ = c₁ .before in
     let c₃ = c₂ .before .before .before .before .before in
@@ -106,14 +106,14 @@ convert-command-color-colored-requires t c κs =
       ),
     )
 
-pub convert-command-color-same-length : (t : ℕ) → convert-command-color-lts.Need-same-length (convert-command-color-calls t) (convert-command-color-at t) convert-command-color.Post
-convert-command-color-same-length t c =
+pub command-color-same-length : (t : ℕ) → command-color-lts.Need-same-length (command-color-calls t) (command-color-at t) command-color.Post
+command-color-same-length t c =
     let c₁ = c .before .before .before .before .before in
     let c₂ = c₁ .before .before .before .before in
     c .before .before .colored .kept .0 ∙ c₂ .put-color-head .kept .0
 
-pub convert-command-color-returns : (t : ℕ) → convert-command-color-lts.Need-returns (convert-command-color-calls t) (convert-command-color-at t) convert-command-color.Post
-convert-command-color-returns t c =
+pub command-color-returns : (t : ℕ) → command-color-lts.Need-returns (command-color-calls t) (command-color-at t) command-color.Post
+command-color-returns t c =
     let c₁ = c .before .before .before .before .before in
     let c₂ = c₁ .before .before .before .before in
     let c₃ = c₂ .before .before in

@@ -8,13 +8,13 @@ use Rattle.mitex_state.proofs.Agreeing.{agrees-as}
 use Rattle.mitex_state.specs.Environments.{envBody, plainEnv, mathEnv}
 use Rattle.mitex_state.specs.declared.LaTeXEnv.{LaTeXEnv}
 use Prim.Native.Nat.{ℕ}
-use Rattle.mitex.proofs.convert_env_figure.Reads as convert-env-figure
-use Rattle.mitex.proofs.convert_env_table.Reads as convert-env-table
+use Rattle.mitex.proofs.env_figure.Reads as env-figure
+use Rattle.mitex.proofs.env_table.Reads as env-table
 use Rattle.mitex.proofs.env_body.Reads as env-body
-use Rattle.mitex.proofs.+arguments+body+captioned+colored+command+convert+convert_clause_lr+convert_command_color+convert_curly_group+convert_env+convert_env_figure+convert_env_table+convert_formula+convert_normal_command+each+env_body+env_math+env_plain+greedy+turn.Lts-env_body as env-body-lts
+use Rattle.mitex.proofs.+arguments+body+captioned+clause_lr+colored+command+command_color+convert+curly_group+each+env_body+env_figure+env_math+env_plain+env_table+environment+formula+greedy+normal_command+turn.Lts-env_body as env-body-lts
 use Rattle.mitex.proofs.env_math.Reads as env-math
 use Rattle.mitex.proofs.env_plain.Reads as env-plain
-use Rattle.mitex.proofs.+arguments+body+captioned+colored+command+convert+convert_clause_lr+convert_command_color+convert_curly_group+convert_env+convert_env_figure+convert_env_table+convert_formula+convert_normal_command+each+env_body+env_math+env_plain+greedy+turn.Proof.Setup.{env-body-at, env-body-calls}
+use Rattle.mitex.proofs.+arguments+body+captioned+clause_lr+colored+command+command_color+convert+curly_group+each+env_body+env_figure+env_math+env_plain+env_table+environment+formula+greedy+normal_command+turn.Proof.Setup.{env-body-at, env-body-calls}
 
 pub env-body-enum-told : (t : ℕ) → env-body-lts.Need-enum-told (env-body-calls t) (env-body-at t) env-body.Post
 env-body-enum-told t c = search needs
@@ -28,8 +28,8 @@ env-body-env-plain-requires t c κs =
 pub env-body-enum-told-2 : (t : ℕ) → env-body-lts.Need-enum-told-2 (env-body-calls t) (env-body-at t) env-body.Post
 env-body-enum-told-2 t c = search needs
 
-pub env-body-convert-env-figure-requires : (t : ℕ) → env-body-lts.Need-convert-env-figure-requires (env-body-calls t) (env-body-at t) env-body.Post
-env-body-convert-env-figure-requires t c κs =
+pub env-body-env-figure-requires : (t : ℕ) → env-body-lts.Need-env-figure-requires (env-body-calls t) (env-body-at t) env-body.Post
+env-body-env-figure-requires t c κs =
     let c₁ = c .before .before .before .before .before in
     let c₂ = c₁ .before .before .before .before in
     (omega (arith, c₂ .pre .0), (c₂ .pre .1 .0, (c₂ .pre .1 .1 .0, c₂ .pre .1 .1 .1)))
@@ -37,8 +37,8 @@ env-body-convert-env-figure-requires t c κs =
 pub env-body-enum-told-3 : (t : ℕ) → env-body-lts.Need-enum-told-3 (env-body-calls t) (env-body-at t) env-body.Post
 env-body-enum-told-3 t c = search needs
 
-pub env-body-convert-env-table-requires : (t : ℕ) → env-body-lts.Need-convert-env-table-requires (env-body-calls t) (env-body-at t) env-body.Post
-env-body-convert-env-table-requires t c κs =
+pub env-body-env-table-requires : (t : ℕ) → env-body-lts.Need-env-table-requires (env-body-calls t) (env-body-at t) env-body.Post
+env-body-env-table-requires t c κs =
     let c₁ = c .before .before .before .before .before in
     let c₂ = c₁ .before .before .before .before in
     (omega (arith, c₂ .pre .0), (c₂ .pre .1 .0, (c₂ .pre .1 .1 .0, c₂ .pre .1 .1 .1)))
@@ -122,7 +122,7 @@ env-body-returns t c =
     (sym (c₁ .enum-told .given .1))) (c .before .before .env-plain .ensures rs ready f sp n h)
 
 pub env-body-same-length-2 : (t : ℕ) → env-body-lts.Need-same-length-2 (env-body-calls t) (env-body-at t) env-body.Post
-env-body-same-length-2 t c = c .before .before .convert-env-figure .kept .0
+env-body-same-length-2 t c = c .before .before .env-figure .kept .0
 
 pub env-body-returns-2 : (t : ℕ) → env-body-lts.Need-returns-2 (env-body-calls t) (env-body-at t) env-body.Post
 env-body-returns-2 t c =
@@ -132,10 +132,10 @@ env-body-returns-2 t c =
     λ rs ready f sp n h.
     agrees-as
     (ap (λ (y : LaTeXEnv). envBody y (c₃ .args .name .now) (meaning n) (contextOf rs (c₃ .args .c)) f (carryOf (c₃ .args .c)))
-    (c₁ .enum-told2 .given .1)) (c .before .before .convert-env-figure .ensures rs ready f sp n h)
+    (c₁ .enum-told2 .given .1)) (c .before .before .env-figure .ensures rs ready f sp n h)
 
 pub env-body-same-length-3 : (t : ℕ) → env-body-lts.Need-same-length-3 (env-body-calls t) (env-body-at t) env-body.Post
-env-body-same-length-3 t c = c .before .before .convert-env-table .kept .0
+env-body-same-length-3 t c = c .before .before .env-table .kept .0
 
 pub env-body-returns-3 : (t : ℕ) → env-body-lts.Need-returns-3 (env-body-calls t) (env-body-at t) env-body.Post
 env-body-returns-3 t c =
@@ -145,7 +145,7 @@ env-body-returns-3 t c =
     λ rs ready f sp n h.
     agrees-as
     (ap (λ (y : LaTeXEnv). envBody y (c₃ .args .name .now) (meaning n) (contextOf rs (c₃ .args .c)) f (carryOf (c₃ .args .c)))
-    (c₁ .enum-told3 .given .1)) (c .before .before .convert-env-table .ensures rs ready f sp n h)
+    (c₁ .enum-told3 .given .1)) (c .before .before .env-table .ensures rs ready f sp n h)
 
 pub env-body-same-length-4 : (t : ℕ) → env-body-lts.Need-same-length-4 (env-body-calls t) (env-body-at t) env-body.Post
 env-body-same-length-4 t c = c .before .before .env-plain2 .kept .0

@@ -1,4 +1,4 @@
--- The needs of `convert_env_table`.
+-- The needs of `env_table`.
 use Rattle.mitex_syntax.specs.Syntax.{ClauseArgument}
 use Rattle.mitex_syntax.specs.Views.{firstOf, beginOf}
 use native.Mathlib.Omega.{arith}
@@ -21,25 +21,25 @@ use Rattle.mitex_state.specs.declared.LaTeXEnv.the-variants.{Table as TableEnv}
 use Rattle.mitex_state.specs.declared.Loop.the-variants.{Table}
 use Rattle.mitex.proofs.Environing.{table-bad, table-letters, letters-bad, letters-good}
 use Prim.Native.Nat.{ℕ}
-use Rattle.mitex.proofs.convert_env_table.Reads as convert-env-table
-use Rattle.mitex.proofs.+arguments+body+captioned+colored+command+convert+convert_clause_lr+convert_command_color+convert_curly_group+convert_env+convert_env_figure+convert_env_table+convert_formula+convert_normal_command+each+env_body+env_math+env_plain+greedy+turn.Lts-convert_env_table as convert-env-table-lts
+use Rattle.mitex.proofs.env_table.Reads as env-table
+use Rattle.mitex.proofs.+arguments+body+captioned+clause_lr+colored+command+command_color+convert+curly_group+each+env_body+env_figure+env_math+env_plain+env_table+environment+formula+greedy+normal_command+turn.Lts-env_table as env-table-lts
 use Rattle.mitex.proofs.each.Reads as each
-use Rattle.mitex.proofs.+arguments+body+captioned+colored+command+convert+convert_clause_lr+convert_command_color+convert_curly_group+convert_env+convert_env_figure+convert_env_table+convert_formula+convert_normal_command+each+env_body+env_math+env_plain+greedy+turn.Proof.Setup.{convert-env-table-at, convert-env-table-calls}
+use Rattle.mitex.proofs.+arguments+body+captioned+clause_lr+colored+command+command_color+convert+curly_group+each+env_body+env_figure+env_math+env_plain+env_table+environment+formula+greedy+normal_command+turn.Proof.Setup.{env-table-at, env-table-calls}
 
-pub convert-env-table-table-argument-requires : (t : ℕ) → convert-env-table-lts.Need-table-argument-requires (convert-env-table-calls t) (convert-env-table-at t) convert-env-table.Post
-convert-env-table-table-argument-requires t c κs =
+pub env-table-table-argument-requires : (t : ℕ) → env-table-lts.Need-table-argument-requires (env-table-calls t) (env-table-at t) env-table.Post
+env-table-table-argument-requires t c κs =
     let c₁ = c .before .before .before .before .before in
     let c₂ = c₁ .before in
     siblings-forest (c₂ .pre .1 .0) (c₂ .pre .1 .1 .1)
 
-pub convert-env-table-has-ends-requires : (t : ℕ) → convert-env-table-lts.Need-has-ends-requires (convert-env-table-calls t) (convert-env-table-at t) convert-env-table.Post
-convert-env-table-has-ends-requires t c κs = search needs
+pub env-table-has-ends-requires : (t : ℕ) → env-table-lts.Need-has-ends-requires (env-table-calls t) (env-table-at t) env-table.Post
+env-table-has-ends-requires t c κs = search needs
 
-pub convert-env-table-refuse-requires : (t : ℕ) → convert-env-table-lts.Need-refuse-requires (convert-env-table-calls t) (convert-env-table-at t) convert-env-table.Post
-convert-env-table-refuse-requires t c κs = search needs
+pub env-table-refuse-requires : (t : ℕ) → env-table-lts.Need-refuse-requires (env-table-calls t) (env-table-at t) env-table.Post
+env-table-refuse-requires t c κs = search needs
 
-pub convert-env-table-returns : (t : ℕ) → convert-env-table-lts.Need-returns (convert-env-table-calls t) (convert-env-table-at t) convert-env-table.Post
-convert-env-table-returns t c =
+pub env-table-returns : (t : ℕ) → env-table-lts.Need-returns (env-table-calls t) (env-table-at t) env-table.Post
+env-table-returns t c =
     let c₁ = c .before .before .before in
     let c₂ = c₁ .before .before .before .before .before in
     let c₃ = c₂ .before .before in
@@ -50,20 +50,20 @@ convert-env-table-returns t c =
     (sym (c .before .before .has-ends .ensures) ∙ not-true _ (c .before .if1 .taken)))
     (agrees-here (omega arith) (c .refuse .ensures))
 
-pub convert-env-table-inner-requires : (t : ℕ) → convert-env-table-lts.Need-inner-requires (convert-env-table-calls t) (convert-env-table-at t) convert-env-table.Post
-convert-env-table-inner-requires t c κs = search needs
+pub env-table-inner-requires : (t : ℕ) → env-table-lts.Need-inner-requires (env-table-calls t) (env-table-at t) env-table.Post
+env-table-inner-requires t c κs = search needs
 
-pub convert-env-table-trim-requires : (t : ℕ) → convert-env-table-lts.Need-trim-requires (convert-env-table-calls t) (convert-env-table-at t) convert-env-table.Post
-convert-env-table-trim-requires t c κs = search needs
+pub env-table-trim-requires : (t : ℕ) → env-table-lts.Need-trim-requires (env-table-calls t) (env-table-at t) env-table.Post
+env-table-trim-requires t c κs = search needs
 
-pub convert-env-table-letters-fit-requires : (t : ℕ) → convert-env-table-lts.Need-letters-fit-requires (convert-env-table-calls t) (convert-env-table-at t) convert-env-table.Post
-convert-env-table-letters-fit-requires t c κs = search needs
+pub env-table-letters-fit-requires : (t : ℕ) → env-table-lts.Need-letters-fit-requires (env-table-calls t) (env-table-at t) env-table.Post
+env-table-letters-fit-requires t c κs = search needs
 
-pub convert-env-table-refuse-requires-2 : (t : ℕ) → convert-env-table-lts.Need-refuse-requires-2 (convert-env-table-calls t) (convert-env-table-at t) convert-env-table.Post
-convert-env-table-refuse-requires-2 t c κs = search needs
+pub env-table-refuse-requires-2 : (t : ℕ) → env-table-lts.Need-refuse-requires-2 (env-table-calls t) (env-table-at t) env-table.Post
+env-table-refuse-requires-2 t c κs = search needs
 
-pub convert-env-table-returns-2 : (t : ℕ) → convert-env-table-lts.Need-returns-2 (convert-env-table-calls t) (convert-env-table-at t) convert-env-table.Post
-convert-env-table-returns-2 t c =
+pub env-table-returns-2 : (t : ℕ) → env-table-lts.Need-returns-2 (env-table-calls t) (env-table-at t) env-table.Post
+env-table-returns-2 t c =
     let c₁ = c .before .before .before in
     let c₂ = c₁ .before in
     let c₃ = c₂ .before in
@@ -80,15 +80,15 @@ convert-env-table-returns-2 t c =
     (sym (c .before .before .letters-fit .ensures) ∙ not-true _ (c .before .if2 .taken)))
     (agrees-here (omega arith) (c .refuse2 .ensures))
 
-pub convert-env-table-put-hash-begin-requires : (t : ℕ) → convert-env-table-lts.Need-put-hash-begin-requires (convert-env-table-calls t) (convert-env-table-at t) convert-env-table.Post
-convert-env-table-put-hash-begin-requires t c κs =
+pub env-table-put-hash-begin-requires : (t : ℕ) → env-table-lts.Need-put-hash-begin-requires (env-table-calls t) (env-table-at t) env-table.Post
+env-table-put-hash-begin-requires t c κs =
     let c₁ = c .before .before .before .before .before in
     let c₂ = c₁ .before .before .before .before .before in
     let c₃ = c₂ .before .before .before .before in
     (c₃ .pre .1 .0 .place, c₃ .pre .1 .0 .room)
 
-pub convert-env-table-put-table-head-requires : (t : ℕ) → convert-env-table-lts.Need-put-table-head-requires (convert-env-table-calls t) (convert-env-table-at t) convert-env-table.Post
-convert-env-table-put-table-head-requires t c κs =
+pub env-table-put-table-head-requires : (t : ℕ) → env-table-lts.Need-put-table-head-requires (env-table-calls t) (env-table-at t) env-table.Post
+env-table-put-table-head-requires t c κs =
     let c₁ = c .before .before .before in
     let c₂ = c₁ .before .before .before .before in
     let c₃ = c₂ .before in
@@ -105,8 +105,8 @@ convert-env-table-put-table-head-requires t c κs =
       ),
     )
 
-pub convert-env-table-add-each : (t : ℕ) → convert-env-table-lts.Need-add-each (convert-env-table-calls t) (convert-env-table-at t) convert-env-table.Post
-convert-env-table-add-each t c =
+pub env-table-add-each : (t : ℕ) → env-table-lts.Need-add-each (env-table-calls t) (env-table-at t) env-table.Post
+env-table-add-each t c =
     let c₁ = c .before .before .before .before .before in
     let c₂ = c₁ .before .before .before .before .before in
     let c₃ = c₂ .before .before .before .before .before in
@@ -114,8 +114,8 @@ convert-env-table-add-each t c =
     let c₅ = c₄ .before .before in
     omega (arith, c₅ .pre .1 .0 .low)
 
-pub convert-env-table-entered-env-requires : (t : ℕ) → convert-env-table-lts.Need-entered-env-requires (convert-env-table-calls t) (convert-env-table-at t) convert-env-table.Post
-convert-env-table-entered-env-requires t c κs =
+pub env-table-entered-env-requires : (t : ℕ) → env-table-lts.Need-entered-env-requires (env-table-calls t) (env-table-at t) env-table.Post
+env-table-entered-env-requires t c κs =
     let c₁ = c .before .before .before .before .before in
     let c₂ = c₁ .before .before .before .before .before in
     let c₃ = c₂ .before .before .before .before .before in
@@ -123,8 +123,8 @@ convert-env-table-entered-env-requires t c κs =
     let c₅ = c₄ .before .before in
     omega (arith, c₅ .pre .1 .0 .deep)
 
-pub convert-env-table-each-requires : (t : ℕ) → convert-env-table-lts.Need-each-requires (convert-env-table-calls t) (convert-env-table-at t) convert-env-table.Post
-convert-env-table-each-requires t c κs =
+pub env-table-each-requires : (t : ℕ) → env-table-lts.Need-each-requires (env-table-calls t) (env-table-at t) env-table.Post
+env-table-each-requires t c κs =
     let c₁ = c .before .before .before .before in
     let c₂ = c₁ .before .before .before .before in
     let c₃ = c₂ .before .before .before .before .before in
@@ -139,11 +139,11 @@ convert-env-table-each-requires t c κs =
       ),
     )
 
-pub convert-env-table-slice-aggregate-close : (t : ℕ) → convert-env-table-lts.Need-slice-aggregate-close (convert-env-table-calls t) (convert-env-table-at t) convert-env-table.Post
-convert-env-table-slice-aggregate-close t c = search needs
+pub env-table-slice-aggregate-close : (t : ℕ) → env-table-lts.Need-slice-aggregate-close (env-table-calls t) (env-table-at t) env-table.Post
+env-table-slice-aggregate-close t c = search needs
 
-pub convert-env-table-close-requires : (t : ℕ) → convert-env-table-lts.Need-close-requires (convert-env-table-calls t) (convert-env-table-at t) convert-env-table.Post
-convert-env-table-close-requires t c κs =
+pub env-table-close-requires : (t : ℕ) → env-table-lts.Need-close-requires (env-table-calls t) (env-table-at t) env-table.Post
+env-table-close-requires t c κs =
     let c₁ = c .before .before .before .before in
     let c₂ = c₁ .before in
     let c₃ = c₂ .before .before .before .before in
@@ -155,16 +155,16 @@ convert-env-table-close-requires t c κs =
       omega (arith, c₇ .pre .1 .0 .room, c₁ .each .kept .0, c₃ .put-table-head .kept .0, c₄ .put-hash-begin .kept .0),
     )
 
-pub convert-env-table-same-length : (t : ℕ) → convert-env-table-lts.Need-same-length (convert-env-table-calls t) (convert-env-table-at t) convert-env-table.Post
-convert-env-table-same-length t c =
+pub env-table-same-length : (t : ℕ) → env-table-lts.Need-same-length (env-table-calls t) (env-table-at t) env-table.Post
+env-table-same-length t c =
     let c₁ = c .before .before .before .before .before in
     let c₂ = c₁ .before .before in
     let c₃ = c₂ .before .before .before .before .before in
     let c₄ = c₃ .before .before .before .before in
     c .before .before .close .kept .0 ∙ c₂ .each .kept .0 ∙ c₃ .put-table-head .kept .0 ∙ c₄ .put-hash-begin .kept .0
 
-pub convert-env-table-returns-3 : (t : ℕ) → convert-env-table-lts.Need-returns-3 (convert-env-table-calls t) (convert-env-table-at t) convert-env-table.Post
-convert-env-table-returns-3 t c =
+pub env-table-returns-3 : (t : ℕ) → env-table-lts.Need-returns-3 (env-table-calls t) (env-table-at t) env-table.Post
+env-table-returns-3 t c =
     let c₁ = c .before .before .before .before .before in
     let c₂ = c₁ .before .before in
     let c₃ = c₂ .before in

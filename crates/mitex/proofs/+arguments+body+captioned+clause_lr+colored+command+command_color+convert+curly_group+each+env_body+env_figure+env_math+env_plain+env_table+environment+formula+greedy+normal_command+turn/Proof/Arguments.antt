@@ -16,10 +16,10 @@ use Rattle.mitex_state.specs.declared.Arguments.{Arguments}
 use Rattle.mitex_state.specs.declared.Loop.the-variants.{Separated, Bracketed}
 use Prim.Native.Nat.{ℕ}
 use Rattle.mitex.proofs.arguments.Reads as arguments
-use Rattle.mitex.proofs.+arguments+body+captioned+colored+command+convert+convert_clause_lr+convert_command_color+convert_curly_group+convert_env+convert_env_figure+convert_env_table+convert_formula+convert_normal_command+each+env_body+env_math+env_plain+greedy+turn.Lts-arguments as arguments-lts
+use Rattle.mitex.proofs.+arguments+body+captioned+clause_lr+colored+command+command_color+convert+curly_group+each+env_body+env_figure+env_math+env_plain+env_table+environment+formula+greedy+normal_command+turn.Lts-arguments as arguments-lts
 use Rattle.mitex.proofs.each.Reads as each
 use Rattle.mitex.proofs.greedy.Reads as greedy
-use Rattle.mitex.proofs.+arguments+body+captioned+colored+command+convert+convert_clause_lr+convert_command_color+convert_curly_group+convert_env+convert_env_figure+convert_env_table+convert_formula+convert_normal_command+each+env_body+env_math+env_plain+greedy+turn.Proof.Setup.{arguments-at, arguments-calls}
+use Rattle.mitex.proofs.+arguments+body+captioned+clause_lr+colored+command+command_color+convert+curly_group+each+env_body+env_figure+env_math+env_plain+env_table+environment+formula+greedy+normal_command+turn.Proof.Setup.{arguments-at, arguments-calls}
 
 pub arguments-enum-told : (t : ℕ) → arguments-lts.Need-enum-told (arguments-calls t) (arguments-at t) arguments.Post
 arguments-enum-told t c = search needs

@@ -16,10 +16,10 @@ use Rattle.mitex_state.specs.declared.Command.the-variants.{Item, Label, Includ
 use Rattle.mitex.proofs.Commanding.{body-number, arguments-number, command-is}
 use Prim.Native.Nat.{ℕ}
 use Rattle.mitex.proofs.command.Reads as command
-use Rattle.mitex.proofs.+arguments+body+captioned+colored+command+convert+convert_clause_lr+convert_command_color+convert_curly_group+convert_env+convert_env_figure+convert_env_table+convert_formula+convert_normal_command+each+env_body+env_math+env_plain+greedy+turn.Lts-command as command-lts
-use Rattle.mitex.proofs.convert_command_color.Reads as convert-command-color
-use Rattle.mitex.proofs.convert_normal_command.Reads as convert-normal-command
-use Rattle.mitex.proofs.+arguments+body+captioned+colored+command+convert+convert_clause_lr+convert_command_color+convert_curly_group+convert_env+convert_env_figure+convert_env_table+convert_formula+convert_normal_command+each+env_body+env_math+env_plain+greedy+turn.Proof.Setup.{command-at, command-calls}
+use Rattle.mitex.proofs.+arguments+body+captioned+clause_lr+colored+command+command_color+convert+curly_group+each+env_body+env_figure+env_math+env_plain+env_table+environment+formula+greedy+normal_command+turn.Lts-command as command-lts
+use Rattle.mitex.proofs.command_color.Reads as command-color
+use Rattle.mitex.proofs.normal_command.Reads as normal-command
+use Rattle.mitex.proofs.+arguments+body+captioned+clause_lr+colored+command+command_color+convert+curly_group+each+env_body+env_figure+env_math+env_plain+env_table+environment+formula+greedy+normal_command+turn.Proof.Setup.{command-at, command-calls}
 
 pub command-name-tok-requires : (t : ℕ) → command-lts.Need-name-tok-requires (command-calls t) (command-at t) command.Post
 command-name-tok-requires t c κs =
@@ -82,8 +82,8 @@ command-color-model-requires t c κs =
 pub command-body-loop-requires : (t : ℕ) → command-lts.Need-body-loop-requires (command-calls t) (command-at t) command.Post
 command-body-loop-requires t c κs = search needs
 
-pub command-convert-command-color-requires : (t : ℕ) → command-lts.Need-convert-command-color-requires (command-calls t) (command-at t) command.Post
-command-convert-command-color-requires t c κs =
+pub command-command-color-requires : (t : ℕ) → command-lts.Need-command-color-requires (command-calls t) (command-at t) command.Post
+command-command-color-requires t c κs =
     let c₁ = c .before .before .before .before .before in
     let c₂ = c₁ .before .before .before .before .before in
     let c₃ = c₂ .before .before .before in (
@@ -113,8 +113,8 @@ command-argument-model-requires t c κs =
 pub command-arguments-loop-requires : (t : ℕ) → command-lts.Need-arguments-loop-requires (command-calls t) (command-at t) command.Post
 command-arguments-loop-requires t c κs = search needs
 
-pub command-convert-command-color-requires-2 : (t : ℕ) → command-lts.Need-convert-command-color-requires-2 (command-calls t) (command-at t) command.Post
-command-convert-command-color-requires-2 t c κs =
+pub command-command-color-requires-2 : (t : ℕ) → command-lts.Need-command-color-requires-2 (command-calls t) (command-at t) command.Post
+command-command-color-requires-2 t c κs =
     let c₁ = c .before .before .before .before .before in
     let c₂ = c₁ .before .before .before .before .before in
     let c₃ = c₂ .before .before .before in (
@@ -135,8 +135,8 @@ command-convert-command-color-requires-2 t c κs =
 pub command-enum-told-7 : (t : ℕ) → command-lts.Need-enum-told-7 (command-calls t) (command-at t) command.Post
 command-enum-told-7 t c = search needs
 
-pub command-convert-normal-command-requires : (t : ℕ) → command-lts.Need-convert-normal-command-requires (command-calls t) (command-at t) command.Post
-command-convert-normal-command-requires t c κs =
+pub command-normal-command-requires : (t : ℕ) → command-lts.Need-normal-command-requires (command-calls t) (command-at t) command.Post
+command-normal-command-requires t c κs =
     let c₁ = c .before .before .before .before .before in
     let c₂ = c₁ .before .before .before .before .before in
     let c₃ = c₂ .before in
@@ -211,7 +211,7 @@ command-returns-4 t c =
     (agrees-done (c₅ .args .c) (c .went2 .ensures) refl refl (c₅ .pre .1 .0 .label) (wrote-nil _ _ (c₅ .pre .1 .0 .place)))
 
 pub command-same-length-4 : (t : ℕ) → command-lts.Need-same-length-4 (command-calls t) (command-at t) command.Post
-command-same-length-4 t c = c .before .before .convert-command-color .kept .0
+command-same-length-4 t c = c .before .before .command-color .kept .0
 
 pub command-returns-5 : (t : ℕ) → command-lts.Need-returns-5 (command-calls t) (command-at t) command.Post
 command-returns-5 t c =
@@ -231,10 +231,10 @@ command-returns-5 t c =
     (sym (c₄ .command-of .ensures) ∙ c₃ .enum-told5 .given .1)
     ∙ q .same _ (meaning n) (contextOf rs (c₈ .args .c)) (carryOf (c₈ .args .c)))
     (colors-how (c₈ .args .c) (c₅ .past-first .result .now) (c₂ .color-model .result) (c₁ .body-loop .ensures)
-    (c .before .before .convert-command-color .ensures) rs ready (q .model) f sp (q .found) n h)
+    (c .before .before .command-color .ensures) rs ready (q .model) f sp (q .found) n h)
 
 pub command-same-length-5 : (t : ℕ) → command-lts.Need-same-length-5 (command-calls t) (command-at t) command.Post
-command-same-length-5 t c = c .before .before .convert-command-color2 .kept .0
+command-same-length-5 t c = c .before .before .command-color2 .kept .0
 
 pub command-returns-6 : (t : ℕ) → command-lts.Need-returns-6 (command-calls t) (command-at t) command.Post
 command-returns-6 t c =
@@ -252,10 +252,10 @@ command-returns-6 t c =
     (c₅ .past-first .ensures ∙ ap (drop 1) (c₆ .name-tok .ensures f (all-begins sp)))
     (sym (c₄ .command-of .ensures) ∙ c₃ .enum-told6 .given .1))
     (colors-how (c₈ .args .c) (c₅ .past-first .result .now) (c₂ .argument-model .result) (c₁ .arguments-loop .ensures)
-    (c .before .before .convert-command-color2 .ensures) rs ready (argumentModel 1 f) f sp (c₂ .argument-model .ensures f sp) n h)
+    (c .before .before .command-color2 .ensures) rs ready (argumentModel 1 f) f sp (c₂ .argument-model .ensures f sp) n h)
 
 pub command-same-length-6 : (t : ℕ) → command-lts.Need-same-length-6 (command-calls t) (command-at t) command.Post
-command-same-length-6 t c = c .before .before .convert-normal-command .kept .0
+command-same-length-6 t c = c .before .before .normal-command .kept .0
 
 pub command-returns-7 : (t : ℕ) → command-lts.Need-returns-7 (command-calls t) (command-at t) command.Post
 command-returns-7 t c =
@@ -270,4 +270,4 @@ command-returns-7 t c =
     (command-is (meaning n) (contextOf rs (c₆ .args .c)) f (carryOf (c₆ .args .c)) _ Normal
     (c₃ .past-first .ensures ∙ ap (drop 1) (c₄ .name-tok .ensures f (all-begins sp)))
     (sym (c₂ .command-of .ensures) ∙ c₁ .enum-told7 .given .1))
-    (c .before .before .convert-normal-command .ensures rs ready f sp n h)
+    (c .before .before .normal-command .ensures rs ready f sp n h)

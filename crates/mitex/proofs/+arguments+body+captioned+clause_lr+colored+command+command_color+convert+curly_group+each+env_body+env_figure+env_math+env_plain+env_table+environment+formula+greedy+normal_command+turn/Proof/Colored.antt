@@ -25,10 +25,10 @@ use Rattle.mitex.proofs.Arms.{converts-as}
 use Rattle.mitex.proofs.Commanding.{colored-none, colored-more}
 use Prim.Native.Nat.{ℕ, _/_}
 use Rattle.mitex.proofs.colored.Reads as colored
-use Rattle.mitex.proofs.+arguments+body+captioned+colored+command+convert+convert_clause_lr+convert_command_color+convert_curly_group+convert_env+convert_env_figure+convert_env_table+convert_formula+convert_normal_command+each+env_body+env_math+env_plain+greedy+turn.Lts-colored as colored-lts
+use Rattle.mitex.proofs.+arguments+body+captioned+clause_lr+colored+command+command_color+convert+curly_group+each+env_body+env_figure+env_math+env_plain+env_table+environment+formula+greedy+normal_command+turn.Lts-colored as colored-lts
 use Rattle.mitex.proofs.convert.Reads as convert
 use Rattle.mitex.proofs.each.Reads as each
-use Rattle.mitex.proofs.+arguments+body+captioned+colored+command+convert+convert_clause_lr+convert_command_color+convert_curly_group+convert_env+convert_env_figure+convert_env_table+convert_formula+convert_normal_command+each+env_body+env_math+env_plain+greedy+turn.Proof.Setup.{colored-at, colored-calls}
+use Rattle.mitex.proofs.+arguments+body+captioned+clause_lr+colored+command+command_color+convert+curly_group+each+env_body+env_figure+env_math+env_plain+env_table+environment+formula+greedy+normal_command+turn.Proof.Setup.{colored-at, colored-calls}
 
 pub colored-put-black-requires : (t : ℕ) → colored-lts.Need-put-black-requires (colored-calls t) (colored-at t) colored.Post
 colored-put-black-requires t c κs =

@@ -10,9 +10,9 @@ use Rattle.mitex.proofs.Arms.{room-each}
 use Rattle.mitex_state.specs.declared.Loop.the-variants.{Figure}
 use Prim.Native.Nat.{ℕ}
 use Rattle.mitex.proofs.body.Reads as body
-use Rattle.mitex.proofs.+arguments+body+captioned+colored+command+convert+convert_clause_lr+convert_command_color+convert_curly_group+convert_env+convert_env_figure+convert_env_table+convert_formula+convert_normal_command+each+env_body+env_math+env_plain+greedy+turn.Lts-body as body-lts
+use Rattle.mitex.proofs.+arguments+body+captioned+clause_lr+colored+command+command_color+convert+curly_group+each+env_body+env_figure+env_math+env_plain+env_table+environment+formula+greedy+normal_command+turn.Lts-body as body-lts
 use Rattle.mitex.proofs.each.Reads as each
-use Rattle.mitex.proofs.+arguments+body+captioned+colored+command+convert+convert_clause_lr+convert_command_color+convert_curly_group+convert_env+convert_env_figure+convert_env_table+convert_formula+convert_normal_command+each+env_body+env_math+env_plain+greedy+turn.Proof.Setup.{body-at, body-calls}
+use Rattle.mitex.proofs.+arguments+body+captioned+clause_lr+colored+command+command_color+convert+curly_group+each+env_body+env_figure+env_math+env_plain+env_table+environment+formula+greedy+normal_command+turn.Proof.Setup.{body-at, body-calls}
 
 pub body-slice-aggregate-put : (t : ℕ) → body-lts.Need-slice-aggregate-put (body-calls t) (body-at t) body.Post
 body-slice-aggregate-put t c = search needs

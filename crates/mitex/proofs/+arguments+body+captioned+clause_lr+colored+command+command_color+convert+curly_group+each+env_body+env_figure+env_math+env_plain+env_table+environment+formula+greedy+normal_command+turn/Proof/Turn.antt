@@ -10,8 +10,8 @@ use Rattle.mitex.proofs.Walking.{turn-alone, turn-around, agrees-closed
 use Prim.Native.Nat.{ℕ}
 use Rattle.mitex.proofs.convert.Reads as convert
 use Rattle.mitex.proofs.turn.Reads as turn
-use Rattle.mitex.proofs.+arguments+body+captioned+colored+command+convert+convert_clause_lr+convert_command_color+convert_curly_group+convert_env+convert_env_figure+convert_env_table+convert_formula+convert_normal_command+each+env_body+env_math+env_plain+greedy+turn.Lts-turn as turn-lts
-use Rattle.mitex.proofs.+arguments+body+captioned+colored+command+convert+convert_clause_lr+convert_command_color+convert_curly_group+convert_env+convert_env_figure+convert_env_table+convert_formula+convert_normal_command+each+env_body+env_math+env_plain+greedy+turn.Proof.Setup.{turn-at, turn-calls}
+use Rattle.mitex.proofs.+arguments+body+captioned+clause_lr+colored+command+command_color+convert+curly_group+each+env_body+env_figure+env_math+env_plain+env_table+environment+formula+greedy+normal_command+turn.Lts-turn as turn-lts
+use Rattle.mitex.proofs.+arguments+body+captioned+clause_lr+colored+command+command_color+convert+curly_group+each+env_body+env_figure+env_math+env_plain+env_table+environment+formula+greedy+normal_command+turn.Proof.Setup.{turn-at, turn-calls}
 
 pub turn-put-before-requires : (t : ℕ) → turn-lts.Need-put-before-requires (turn-calls t) (turn-at t) turn.Post
 turn-put-before-requires t c κs =

@@ -1,4 +1,4 @@
--- The needs of `convert_normal_command`.
+-- The needs of `normal_command`.
 use Rattle.mitex_commands.specs.Leaves.{classOf}
 use native.Mathlib.Omega.{arith}
 use borrow.Author.Needs.{needs}
@@ -15,24 +15,24 @@ use Rattle.mitex.proofs.Arms.{walks-as}
 use Rattle.mitex.proofs.Commanding.{normal-absent, normal-found, normal-written, stack-indent, stack-label}
 use Prim.Native.Nat.{ℕ}
 use Rattle.mitex.proofs.arguments.Reads as arguments
-use Rattle.mitex.proofs.convert_normal_command.Reads as convert-normal-command
-use Rattle.mitex.proofs.+arguments+body+captioned+colored+command+convert+convert_clause_lr+convert_command_color+convert_curly_group+convert_env+convert_env_figure+convert_env_table+convert_formula+convert_normal_command+each+env_body+env_math+env_plain+greedy+turn.Lts-convert_normal_command as convert-normal-command-lts
-use Rattle.mitex.proofs.+arguments+body+captioned+colored+command+convert+convert_clause_lr+convert_command_color+convert_curly_group+convert_env+convert_env_figure+convert_env_table+convert_formula+convert_normal_command+each+env_body+env_math+env_plain+greedy+turn.Proof.Setup.{convert-normal-command-at, convert-normal-command-calls}
+use Rattle.mitex.proofs.normal_command.Reads as normal-command
+use Rattle.mitex.proofs.+arguments+body+captioned+clause_lr+colored+command+command_color+convert+curly_group+each+env_body+env_figure+env_math+env_plain+env_table+environment+formula+greedy+normal_command+turn.Lts-normal_command as normal-command-lts
+use Rattle.mitex.proofs.+arguments+body+captioned+clause_lr+colored+command+command_color+convert+curly_group+each+env_body+env_figure+env_math+env_plain+env_table+environment+formula+greedy+normal_command+turn.Proof.Setup.{normal-command-at, normal-command-calls}
 
-pub convert-normal-command-get-cmd-requires : (t : ℕ) → convert-normal-command-lts.Need-get-cmd-requires (convert-normal-command-calls t) (convert-normal-command-at t) convert-normal-command.Post
-convert-normal-command-get-cmd-requires t c κs =
+pub normal-command-get-cmd-requires : (t : ℕ) → normal-command-lts.Need-get-cmd-requires (normal-command-calls t) (normal-command-at t) normal-command.Post
+normal-command-get-cmd-requires t c κs =
     let c₁ = c .before .before .before .before .before in
     let c₂ = c₁ .before in
     c₂ .pre .1 .1 .0
 
-pub convert-normal-command-is-absent-requires : (t : ℕ) → convert-normal-command-lts.Need-is-absent-requires (convert-normal-command-calls t) (convert-normal-command-at t) convert-normal-command.Post
-convert-normal-command-is-absent-requires t c κs = search needs
+pub normal-command-is-absent-requires : (t : ℕ) → normal-command-lts.Need-is-absent-requires (normal-command-calls t) (normal-command-at t) normal-command.Post
+normal-command-is-absent-requires t c κs = search needs
 
-pub convert-normal-command-refuse-requires : (t : ℕ) → convert-normal-command-lts.Need-refuse-requires (convert-normal-command-calls t) (convert-normal-command-at t) convert-normal-command.Post
-convert-normal-command-refuse-requires t c κs = search needs
+pub normal-command-refuse-requires : (t : ℕ) → normal-command-lts.Need-refuse-requires (normal-command-calls t) (normal-command-at t) normal-command.Post
+normal-command-refuse-requires t c κs = search needs
 
-pub convert-normal-command-returns : (t : ℕ) → convert-normal-command-lts.Need-returns (convert-normal-command-calls t) (convert-normal-command-at t) convert-normal-command.Post
-convert-normal-command-returns t c =
+pub normal-command-returns : (t : ℕ) → normal-command-lts.Need-returns (normal-command-calls t) (normal-command-at t) normal-command.Post
+normal-command-returns t c =
     let c₁ = c .before .before .before in
     let c₂ = c₁ .before .before .before .before .before in
     let c₃ = c₂ .before .before in
@@ -42,33 +42,33 @@ convert-normal-command-returns t c =
     ((c₁ .get-cmd .ensures rs (ready .decodes)) .rule) (sym (c .before .before .is-absent .ensures) ∙ c .before .if1 .taken))
     (agrees-here (omega arith) (c .refuse .ensures))
 
-pub convert-normal-command-written-name-requires : (t : ℕ) → convert-normal-command-lts.Need-written-name-requires (convert-normal-command-calls t) (convert-normal-command-at t) convert-normal-command.Post
-convert-normal-command-written-name-requires t c κs =
+pub normal-command-written-name-requires : (t : ℕ) → normal-command-lts.Need-written-name-requires (normal-command-calls t) (normal-command-at t) normal-command.Post
+normal-command-written-name-requires t c κs =
     let c₁ = c .before .before .before .before .before in
     let c₂ = c₁ .before .before .before .before in
     (c .before .before .get-cmd .ensures (c₂ .pre .1 .1 .0 .rules) (c₂ .pre .1 .1 .0 .ready .decodes)) .inside
 
-pub convert-normal-command-put-typst-name-requires : (t : ℕ) → convert-normal-command-lts.Need-put-typst-name-requires (convert-normal-command-calls t) (convert-normal-command-at t) convert-normal-command.Post
-convert-normal-command-put-typst-name-requires t c κs =
+pub normal-command-put-typst-name-requires : (t : ℕ) → normal-command-lts.Need-put-typst-name-requires (normal-command-calls t) (normal-command-at t) normal-command.Post
+normal-command-put-typst-name-requires t c κs =
     let c₁ = c .before .before .before .before .before in
     let c₂ = c₁ .before .before .before .before .before in
     let c₃ = c₂ .before in
     (c₃ .pre .1 .0 .place, c₃ .pre .1 .0 .room)
 
-pub convert-normal-command-class-of-requires : (t : ℕ) → convert-normal-command-lts.Need-class-of-requires (convert-normal-command-calls t) (convert-normal-command-at t) convert-normal-command.Post
-convert-normal-command-class-of-requires t c κs = search needs
+pub normal-command-class-of-requires : (t : ℕ) → normal-command-lts.Need-class-of-requires (normal-command-calls t) (normal-command-at t) normal-command.Post
+normal-command-class-of-requires t c κs = search needs
 
-pub convert-normal-command-arguments-of-requires : (t : ℕ) → convert-normal-command-lts.Need-arguments-of-requires (convert-normal-command-calls t) (convert-normal-command-at t) convert-normal-command.Post
-convert-normal-command-arguments-of-requires t c κs = search needs
+pub normal-command-arguments-of-requires : (t : ℕ) → normal-command-lts.Need-arguments-of-requires (normal-command-calls t) (normal-command-at t) normal-command.Post
+normal-command-arguments-of-requires t c κs = search needs
 
-pub convert-normal-command-is-stack-requires : (t : ℕ) → convert-normal-command-lts.Need-is-stack-requires (convert-normal-command-calls t) (convert-normal-command-at t) convert-normal-command.Post
-convert-normal-command-is-stack-requires t c κs = search needs
+pub normal-command-is-stack-requires : (t : ℕ) → normal-command-lts.Need-is-stack-requires (normal-command-calls t) (normal-command-at t) normal-command.Post
+normal-command-is-stack-requires t c κs = search needs
 
-pub convert-normal-command-stacked-requires : (t : ℕ) → convert-normal-command-lts.Need-stacked-requires (convert-normal-command-calls t) (convert-normal-command-at t) convert-normal-command.Post
-convert-normal-command-stacked-requires t c κs = search needs
+pub normal-command-stacked-requires : (t : ℕ) → normal-command-lts.Need-stacked-requires (normal-command-calls t) (normal-command-at t) normal-command.Post
+normal-command-stacked-requires t c κs = search needs
 
-pub convert-normal-command-arguments-requires : (t : ℕ) → convert-normal-command-lts.Need-arguments-requires (convert-normal-command-calls t) (convert-normal-command-at t) convert-normal-command.Post
-convert-normal-command-arguments-requires t c κs =
+pub normal-command-arguments-requires : (t : ℕ) → normal-command-lts.Need-arguments-requires (normal-command-calls t) (normal-command-at t) normal-command.Post
+normal-command-arguments-requires t c κs =
     let c₁ = c .before .before .before .before .before in
     let c₂ = c₁ .before .before in
     let c₃ = c₂ .before .before .before .before .before in
@@ -85,11 +85,11 @@ convert-normal-command-arguments-requires t c κs =
       ),
     )
 
-pub convert-normal-command-slice-aggregate-close : (t : ℕ) → convert-normal-command-lts.Need-slice-aggregate-close (convert-normal-command-calls t) (convert-normal-command-at t) convert-normal-command.Post
-convert-normal-command-slice-aggregate-close t c = search needs
+pub normal-command-slice-aggregate-close : (t : ℕ) → normal-command-lts.Need-slice-aggregate-close (normal-command-calls t) (normal-command-at t) normal-command.Post
+normal-command-slice-aggregate-close t c = search needs
 
-pub convert-normal-command-close-requires : (t : ℕ) → convert-normal-command-lts.Need-close-requires (convert-normal-command-calls t) (convert-normal-command-at t) convert-normal-command.Post
-convert-normal-command-close-requires t c κs =
+pub normal-command-close-requires : (t : ℕ) → normal-command-lts.Need-close-requires (normal-command-calls t) (normal-command-at t) normal-command.Post
+normal-command-close-requires t c κs =
     let c₁ = c .before .before .before .before in
     let c₂ = c₁ .before .before in
     let c₃ = c₂ .before .before in
@@ -103,16 +103,16 @@ convert-normal-command-close-requires t c κs =
       omega (arith, c₇ .pre .1 .0 .room, c₁ .arguments .kept .0, c₄ .put-typst-name .kept .0),
     )
 
-pub convert-normal-command-same-length : (t : ℕ) → convert-normal-command-lts.Need-same-length (convert-normal-command-calls t) (convert-normal-command-at t) convert-normal-command.Post
-convert-normal-command-same-length t c =
+pub normal-command-same-length : (t : ℕ) → normal-command-lts.Need-same-length (normal-command-calls t) (normal-command-at t) normal-command.Post
+normal-command-same-length t c =
     let c₁ = c .before .before .before .before .before in
     let c₂ = c₁ .before .before in
     let c₃ = c₂ .before .before .before .before .before in
     let c₄ = c₃ .before .before .before in
     c .before .before .close .kept .0 ∙ c₂ .arguments .kept .0 ∙ c₄ .put-typst-name .kept .0
 
-pub convert-normal-command-returns-2 : (t : ℕ) → convert-normal-command-lts.Need-returns-2 (convert-normal-command-calls t) (convert-normal-command-at t) convert-normal-command.Post
-convert-normal-command-returns-2 t c =
+pub normal-command-returns-2 : (t : ℕ) → normal-command-lts.Need-returns-2 (normal-command-calls t) (normal-command-at t) normal-command.Post
+normal-command-returns-2 t c =
     let c₁ = c .before .before .before .before .before in
     let c₂ = c₁ .before .before in
     let c₃ = c₂ .before .before in

@@ -1,4 +1,4 @@
--- The needs of `convert_env`.
+-- The needs of `environment`.
 use native.Mathlib.Omega.{arith}
 use borrow.Author.Needs.{needs}
 use mathlib.Core.Path.{sym, ap, _∙_}
@@ -14,32 +14,32 @@ use Rattle.mitex_state.specs.Environments.{envOf, envBody, isList}
 use Rattle.mitex.proofs.Walking.{walks-good}
 use Rattle.mitex.proofs.Environing.{env-named, env-absent, env-found}
 use Prim.Native.Nat.{ℕ}
-use Rattle.mitex.proofs.convert_env.Reads as convert-env
-use Rattle.mitex.proofs.+arguments+body+captioned+colored+command+convert+convert_clause_lr+convert_command_color+convert_curly_group+convert_env+convert_env_figure+convert_env_table+convert_formula+convert_normal_command+each+env_body+env_math+env_plain+greedy+turn.Lts-convert_env as convert-env-lts
+use Rattle.mitex.proofs.environment.Reads as environment
+use Rattle.mitex.proofs.+arguments+body+captioned+clause_lr+colored+command+command_color+convert+curly_group+each+env_body+env_figure+env_math+env_plain+env_table+environment+formula+greedy+normal_command+turn.Lts-environment as environment-lts
 use Rattle.mitex.proofs.env_body.Reads as env-body
-use Rattle.mitex.proofs.+arguments+body+captioned+colored+command+convert+convert_clause_lr+convert_command_color+convert_curly_group+convert_env+convert_env_figure+convert_env_table+convert_formula+convert_normal_command+each+env_body+env_math+env_plain+greedy+turn.Proof.Setup.{convert-env-at, convert-env-calls}
+use Rattle.mitex.proofs.+arguments+body+captioned+clause_lr+colored+command+command_color+convert+curly_group+each+env_body+env_figure+env_math+env_plain+env_table+environment+formula+greedy+normal_command+turn.Proof.Setup.{environment-at, environment-calls}
 
-pub convert-env-env-name-requires : (t : ℕ) → convert-env-lts.Need-env-name-requires (convert-env-calls t) (convert-env-at t) convert-env.Post
-convert-env-env-name-requires t c κs =
+pub environment-env-name-requires : (t : ℕ) → environment-lts.Need-env-name-requires (environment-calls t) (environment-at t) environment.Post
+environment-env-name-requires t c κs =
     siblings-forest (c .before .before .before .before .before .pre .1 .0) (c .before .before .before .before .before .pre .1 .1 .1)
 
-pub convert-env-trim-requires : (t : ℕ) → convert-env-lts.Need-trim-requires (convert-env-calls t) (convert-env-at t) convert-env.Post
-convert-env-trim-requires t c κs = search needs
+pub environment-trim-requires : (t : ℕ) → environment-lts.Need-trim-requires (environment-calls t) (environment-at t) environment.Post
+environment-trim-requires t c κs = search needs
 
-pub convert-env-get-env-requires : (t : ℕ) → convert-env-lts.Need-get-env-requires (convert-env-calls t) (convert-env-at t) convert-env.Post
-convert-env-get-env-requires t c κs =
+pub environment-get-env-requires : (t : ℕ) → environment-lts.Need-get-env-requires (environment-calls t) (environment-at t) environment.Post
+environment-get-env-requires t c κs =
     let c₁ = c .before .before .before .before .before in
     let c₂ = c₁ .before .before in
     c₂ .pre .1 .1 .0
 
-pub convert-env-is-absent-requires : (t : ℕ) → convert-env-lts.Need-is-absent-requires (convert-env-calls t) (convert-env-at t) convert-env.Post
-convert-env-is-absent-requires t c κs = search needs
+pub environment-is-absent-requires : (t : ℕ) → environment-lts.Need-is-absent-requires (environment-calls t) (environment-at t) environment.Post
+environment-is-absent-requires t c κs = search needs
 
-pub convert-env-refuse-requires : (t : ℕ) → convert-env-lts.Need-refuse-requires (convert-env-calls t) (convert-env-at t) convert-env.Post
-convert-env-refuse-requires t c κs = search needs
+pub environment-refuse-requires : (t : ℕ) → environment-lts.Need-refuse-requires (environment-calls t) (environment-at t) environment.Post
+environment-refuse-requires t c κs = search needs
 
-pub convert-env-returns : (t : ℕ) → convert-env-lts.Need-returns (convert-env-calls t) (convert-env-at t) convert-env.Post
-convert-env-returns t c =
+pub environment-returns : (t : ℕ) → environment-lts.Need-returns (environment-calls t) (environment-at t) environment.Post
+environment-returns t c =
     let c₁ = c .before .before .before in
     let c₂ = c₁ .before in
     let c₃ = c₂ .before in
@@ -53,31 +53,31 @@ convert-env-returns t c =
     ((c₁ .get-env .ensures rs (ready .decodes)) .rule) (sym (c .before .before .is-absent .ensures) ∙ c .before .if1 .taken))
     (agrees-here (omega arith) (c .refuse .ensures))
 
-pub convert-env-class-of-requires : (t : ℕ) → convert-env-lts.Need-class-of-requires (convert-env-calls t) (convert-env-at t) convert-env.Post
-convert-env-class-of-requires t c κs = search needs
+pub environment-class-of-requires : (t : ℕ) → environment-lts.Need-class-of-requires (environment-calls t) (environment-at t) environment.Post
+environment-class-of-requires t c κs = search needs
 
-pub convert-env-env-of-requires : (t : ℕ) → convert-env-lts.Need-env-of-requires (convert-env-calls t) (convert-env-at t) convert-env.Post
-convert-env-env-of-requires t c κs = search needs
+pub environment-env-of-requires : (t : ℕ) → environment-lts.Need-env-of-requires (environment-calls t) (environment-at t) environment.Post
+environment-env-of-requires t c κs = search needs
 
-pub convert-env-written-name-requires : (t : ℕ) → convert-env-lts.Need-written-name-requires (convert-env-calls t) (convert-env-at t) convert-env.Post
-convert-env-written-name-requires t c κs =
+pub environment-written-name-requires : (t : ℕ) → environment-lts.Need-written-name-requires (environment-calls t) (environment-at t) environment.Post
+environment-written-name-requires t c κs =
     let c₁ = c .before .before .before .before in
     let c₂ = c₁ .before .before .before .before .before in
     let c₃ = c₂ .before .before .before in
     c₁ .get-env .ensures (c₃ .pre .1 .1 .0 .rules) (c₃ .pre .1 .1 .0 .ready .decodes) .inside
 
-pub convert-env-env-body-requires : (t : ℕ) → convert-env-lts.Need-env-body-requires (convert-env-calls t) (convert-env-at t) convert-env.Post
-convert-env-env-body-requires t c κs =
+pub environment-env-body-requires : (t : ℕ) → environment-lts.Need-env-body-requires (environment-calls t) (environment-at t) environment.Post
+environment-env-body-requires t c κs =
     let c₁ = c .before .before .before .before .before in
     let c₂ = c₁ .before .before .before .before .before in
     let c₃ = c₂ .before .before .before .before in
     (omega (arith, c₃ .pre .0), (c₃ .pre .1 .0, (c₃ .pre .1 .1 .0, c₃ .pre .1 .1 .1)))
 
-pub convert-env-is-list-requires : (t : ℕ) → convert-env-lts.Need-is-list-requires (convert-env-calls t) (convert-env-at t) convert-env.Post
-convert-env-is-list-requires t c κs = search needs
+pub environment-is-list-requires : (t : ℕ) → environment-lts.Need-is-list-requires (environment-calls t) (environment-at t) environment.Post
+environment-is-list-requires t c κs = search needs
 
-pub convert-env-take-label-requires : (t : ℕ) → convert-env-lts.Need-take-label-requires (convert-env-calls t) (convert-env-at t) convert-env.Post
-convert-env-take-label-requires t c κs =
+pub environment-take-label-requires : (t : ℕ) → environment-lts.Need-take-label-requires (environment-calls t) (environment-at t) environment.Post
+environment-take-label-requires t c κs =
     let c₁ = c .before .before .before .before in
     let c₂ = c₁ .before .before .before in
     let c₃ = c₂ .before .before .before .before .before in
@@ -89,14 +89,14 @@ convert-env-take-label-requires t c κs =
       omega (arith, c₅ .pre .1 .0 .room, c₁ .env-body .kept .0),
     )
 
-pub convert-env-same-length : (t : ℕ) → convert-env-lts.Need-same-length (convert-env-calls t) (convert-env-at t) convert-env.Post
-convert-env-same-length t c =
+pub environment-same-length : (t : ℕ) → environment-lts.Need-same-length (environment-calls t) (environment-at t) environment.Post
+environment-same-length t c =
     let c₁ = c .before .before .before .before .before in
     let c₂ = c₁ .before .before in
     c .before .before .take-label .kept .0 ∙ c₂ .env-body .kept .0
 
-pub convert-env-returns-2 : (t : ℕ) → convert-env-lts.Need-returns-2 (convert-env-calls t) (convert-env-at t) convert-env.Post
-convert-env-returns-2 t c =
+pub environment-returns-2 : (t : ℕ) → environment-lts.Need-returns-2 (environment-calls t) (environment-at t) environment.Post
+environment-returns-2 t c =
     let c₁ = c .before .before .before in
     let c₂ = c₁ .before .before .before .before in
     let c₃ = c₂ .before .before in

@@ -1,4 +1,4 @@
--- The needs of `convert_formula`.
+-- The needs of `formula`.
 use native.Mathlib.Omega.{arith}
 use borrow.Author.Needs.{needs}
 use mathlib.Core.Path.{sym, ap, _∙_}
@@ -15,20 +15,20 @@ use Rattle.mitex.proofs.Arms.{siblings-forest, room-each, loops-as, for
 use Rattle.mitex_syntax.proofs.Trees.{all-begins}
 use borrow.Author.Tests.{not-true, not-false}
 use Prim.Native.Nat.{ℕ}
-use Rattle.mitex.proofs.convert_formula.Reads as convert-formula
-use Rattle.mitex.proofs.+arguments+body+captioned+colored+command+convert+convert_clause_lr+convert_command_color+convert_curly_group+convert_env+convert_env_figure+convert_env_table+convert_formula+convert_normal_command+each+env_body+env_math+env_plain+greedy+turn.Lts-convert_formula as convert-formula-lts
+use Rattle.mitex.proofs.formula.Reads as formula
+use Rattle.mitex.proofs.+arguments+body+captioned+clause_lr+colored+command+command_color+convert+curly_group+each+env_body+env_figure+env_math+env_plain+env_table+environment+formula+greedy+normal_command+turn.Lts-formula as formula-lts
 use Rattle.mitex.proofs.each.Reads as each
-use Rattle.mitex.proofs.+arguments+body+captioned+colored+command+convert+convert_clause_lr+convert_command_color+convert_curly_group+convert_env+convert_env_figure+convert_env_table+convert_formula+convert_normal_command+each+env_body+env_math+env_plain+greedy+turn.Proof.Setup.{convert-formula-at, convert-formula-calls}
+use Rattle.mitex.proofs.+arguments+body+captioned+clause_lr+colored+command+command_color+convert+curly_group+each+env_body+env_figure+env_math+env_plain+env_table+environment+formula+greedy+normal_command+turn.Proof.Setup.{formula-at, formula-calls}
 
-pub convert-formula-is-valid-requires : (t : ℕ) → convert-formula-lts.Need-is-valid-requires (convert-formula-calls t) (convert-formula-at t) convert-formula.Post
-convert-formula-is-valid-requires t c κs =
+pub formula-is-valid-requires : (t : ℕ) → formula-lts.Need-is-valid-requires (formula-calls t) (formula-at t) formula.Post
+formula-is-valid-requires t c κs =
     siblings-forest (c .before .before .before .before .before .pre .1 .0) (c .before .before .before .before .before .pre .1 .1 .1)
 
-pub convert-formula-refuse-requires : (t : ℕ) → convert-formula-lts.Need-refuse-requires (convert-formula-calls t) (convert-formula-at t) convert-formula.Post
-convert-formula-refuse-requires t c κs = search needs
+pub formula-refuse-requires : (t : ℕ) → formula-lts.Need-refuse-requires (formula-calls t) (formula-at t) formula.Post
+formula-refuse-requires t c κs = search needs
 
-pub convert-formula-returns : (t : ℕ) → convert-formula-lts.Need-returns (convert-formula-calls t) (convert-formula-at t) convert-formula.Post
-convert-formula-returns t c =
+pub formula-returns : (t : ℕ) → formula-lts.Need-returns (formula-calls t) (formula-at t) formula.Post
+formula-returns t c =
     let c₁ = c .before .before .before .before .before in
     let c₂ = c₁ .before .before .before in
     λ rs ready f sp n h.
@@ -37,30 +37,30 @@ convert-formula-returns t c =
     (sym (c .before .before .is-valid .ensures f (all-begins sp)) ∙ not-true _ (c .before .if1 .taken)))
     (agrees-here (omega arith) (c .refuse .ensures))
 
-pub convert-formula-is-inline-requires : (t : ℕ) → convert-formula-lts.Need-is-inline-requires (convert-formula-calls t) (convert-formula-at t) convert-formula.Post
-convert-formula-is-inline-requires t c κs =
+pub formula-is-inline-requires : (t : ℕ) → formula-lts.Need-is-inline-requires (formula-calls t) (formula-at t) formula.Post
+formula-is-inline-requires t c κs =
     let c₁ = c .before .before .before .before .before in
     let c₂ = c₁ .before .before in
     siblings-forest (c₂ .pre .1 .0) (c₂ .pre .1 .1 .1)
 
-pub convert-formula-put-formula-begin-requires : (t : ℕ) → convert-formula-lts.Need-put-formula-begin-requires (convert-formula-calls t) (convert-formula-at t) convert-formula.Post
-convert-formula-put-formula-begin-requires t c κs =
+pub formula-put-formula-begin-requires : (t : ℕ) → formula-lts.Need-put-formula-begin-requires (formula-calls t) (formula-at t) formula.Post
+formula-put-formula-begin-requires t c κs =
     let c₁ = c .before .before .before .before .before in
     let c₂ = c₁ .before .before .before .before in
     (c₂ .pre .1 .0 .place, c₂ .pre .1 .0 .room)
 
-pub convert-formula-add-each : (t : ℕ) → convert-formula-lts.Need-add-each (convert-formula-calls t) (convert-formula-at t) convert-formula.Post
-convert-formula-add-each t c =
+pub formula-add-each : (t : ℕ) → formula-lts.Need-add-each (formula-calls t) (formula-at t) formula.Post
+formula-add-each t c =
     let c₁ = c .before .before .before .before .before in
     let c₂ = c₁ .before .before .before .before .before in
     let c₃ = c₂ .before .before .before in
     omega (arith, c₃ .pre .1 .0 .low)
 
-pub convert-formula-entered-mode-requires : (t : ℕ) → convert-formula-lts.Need-entered-mode-requires (convert-formula-calls t) (convert-formula-at t) convert-formula.Post
-convert-formula-entered-mode-requires t c κs = search needs
+pub formula-entered-mode-requires : (t : ℕ) → formula-lts.Need-entered-mode-requires (formula-calls t) (formula-at t) formula.Post
+formula-entered-mode-requires t c κs = search needs
 
-pub convert-formula-each-requires : (t : ℕ) → convert-formula-lts.Need-each-requires (convert-formula-calls t) (convert-formula-at t) convert-formula.Post
-convert-formula-each-requires t c κs =
+pub formula-each-requires : (t : ℕ) → formula-lts.Need-each-requires (formula-calls t) (formula-at t) formula.Post
+formula-each-requires t c κs =
     let c₁ = c .before .before .before .before in
     let c₂ = c₁ .before .before .before .before .before in
     let c₃ = c₂ .before .before .before .before .before in
@@ -74,8 +74,8 @@ convert-formula-each-requires t c κs =
       ),
     )
 
-pub convert-formula-close-formula-requires : (t : ℕ) → convert-formula-lts.Need-close-formula-requires (convert-formula-calls t) (convert-formula-at t) convert-formula.Post
-convert-formula-close-formula-requires t c κs =
+pub formula-close-formula-requires : (t : ℕ) → formula-lts.Need-close-formula-requires (formula-calls t) (formula-at t) formula.Post
+formula-close-formula-requires t c κs =
     let c₁ = c .before .before .before in
     let c₂ = c₁ .before in
     let c₃ = c₂ .before .before .before .before in
@@ -85,15 +85,15 @@ convert-formula-close-formula-requires t c κs =
       omega (arith, c₁ .each .kept .0, c₃ .put-formula-begin .kept .0, c₅ .pre .1 .0 .room),
     )
 
-pub convert-formula-same-length : (t : ℕ) → convert-formula-lts.Need-same-length (convert-formula-calls t) (convert-formula-at t) convert-formula.Post
-convert-formula-same-length t c =
+pub formula-same-length : (t : ℕ) → formula-lts.Need-same-length (formula-calls t) (formula-at t) formula.Post
+formula-same-length t c =
     let c₁ = c .before .before .before .before .before in
     let c₂ = c₁ .before in
     let c₃ = c₂ .before .before .before .before .before in
     c .before .before .close-formula .kept .0 ∙ c₂ .each .kept .0 ∙ c₃ .put-formula-begin .kept .0
 
-pub convert-formula-returns-2 : (t : ℕ) → convert-formula-lts.Need-returns-2 (convert-formula-calls t) (convert-formula-at t) convert-formula.Post
-convert-formula-returns-2 t c =
+pub formula-returns-2 : (t : ℕ) → formula-lts.Need-returns-2 (formula-calls t) (formula-at t) formula.Post
+formula-returns-2 t c =
     let c₁ = c .before .before .before .before .before in
     let c₂ = c₁ .before in
     let c₃ = c₂ .before in
