@@ -25,6 +25,7 @@ use Rattle.mitex_state.specs.Contract.Agrees.{declines, accepts}
 use Rattle.mitex_state.specs.Children.{actOf, before, converts, behind, nextLoop, turn, each}
 use Rattle.mitex_state.specs.Conversion.{convert}
 use Rattle.mitex_loops.specs.Given.{numberOf, OthersGiven}
+use Rattle.mitex_loops.proofs.Closing.{passes-alone}
 use Rattle.mitex_state.specs.declared.Loop.{Loop}
 use Rattle.mitex_state.specs.declared.Loop.the-variants.{Plain, Curly, Spaced, Attached, Greedy, Separated, Bracketed, Dollars, Arguments, Named, Inside, Figure, Table}
 use Rattle.mitex_state.specs.declared.Act.{Act}
@@ -239,26 +240,6 @@ next-number (Named n) k a = counted (eqb k ClauseArgument) n
 next-number Inside k a = omega arith
 next-number Figure k a = omega arith
 next-number (Table exterior) k a = omega arith
-
--- an act that converts nothing writes nothing behind the child
-passes-alone : (a : Act) → converts a ≡ false → behind a ≡ []
-passes-alone Skip e = refl
-passes-alone Convert e = refl
-passes-alone ThenSpace e = let z : _≡_ {A = ℕ} 0 1 = cc in absurd (omega arith)
-passes-alone Space e = refl
-passes-alone ThenComma e = let z : _≡_ {A = ℕ} 0 1 = cc in absurd (omega arith)
-passes-alone InBrackets e = let z : _≡_ {A = ℕ} 0 1 = cc in absurd (omega arith)
-passes-alone InDollars e = let z : _≡_ {A = ℕ} 0 1 = cc in absurd (omega arith)
-passes-alone SplitBare e = refl
-passes-alone SplitBased e = refl
-passes-alone (Name n) e = let z : _≡_ {A = ℕ} 0 1 = cc in absurd (omega arith)
-passes-alone Empty e = refl
-passes-alone EmptyLast e = refl
-passes-alone ThinRule e = refl
-passes-alone ThickRule e = refl
-passes-alone Open e = refl
-passes-alone Close e = refl
-passes-alone CloseLast e = refl
 
 pub turn-alone :
     (conv : Tree → Carry → Outcome) (a : Act) (t : Tree) (c : Carry) (s : List ℕ) → converts a ≡ false → s ≡ textOf t

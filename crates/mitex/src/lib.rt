@@ -74,6 +74,7 @@ use mitex_tables::has_ends;
 use mitex_tables::letters_fit;
 use mitex_tables::put_table_head;
 use mitex_tokens::convert_token;
+use mitex_tokens::turn_token;
 
 // An element.
 pub fn convert<'a>(
@@ -197,6 +198,11 @@ fn turn<'a>(
     requires { ⌜ SomeTree (now rows) (now text) ⌝ }
     ensures { λ r. ⌜ Turns (now (rules .entry)) (now (index .entry)) (now (rows .entry)) (now (text .entry)) row c at (now (out .entry)) r (now (out .exit)) act ⌝ }
 {
+    let kind = rows[0];
+    let element = element_of(kind);
+    if let Element::Token = element {
+        return turn_token(out, at, kind, text, row, rules, index, c, act);
+    }
     let p = put_before(out, at, act, text);
     if converts(act) {
         let a = convert(out, p, rows, text, row, rules, index, c);

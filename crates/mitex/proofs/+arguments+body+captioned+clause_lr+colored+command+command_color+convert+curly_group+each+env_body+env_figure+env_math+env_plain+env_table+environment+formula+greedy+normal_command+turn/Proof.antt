@@ -82,7 +82,7 @@ use Rattle.mitex.proofs.+arguments+body+captioned+clause_lr+colored+com
 use Rattle.mitex.proofs.+arguments+body+captioned+clause_lr+colored+command+command_color+convert+curly_group+each+env_body+env_figure+env_math+env_plain+env_table+environment+formula+greedy+normal_command+turn.Proof.EnvMath.{env-math-put-dollar-begin-requires, env-math-put-requires, env-math-slice-aggregate-put, env-math-put-requires-2, env-math-begin-part-requires, env-math-entered-mode-requires, env-math-sub-each, env-math-part-each-start, env-math-part-each-end, env-math-sub-each-2, env-math-part-each-start-2, env-math-part-each-end-2, env-math-add-each, env-math-add-each-2, env-math-entered-env-requires, env-math-each-requires, env-math-same-length, env-math-returns, env-math-add-each-3, env-math-each-requires-2, env-math-close-math-requires, env-math-same-length-2, env-math-returns-2}
 use Rattle.mitex.proofs.+arguments+body+captioned+clause_lr+colored+command+command_color+convert+curly_group+each+env_body+env_figure+env_math+env_plain+env_table+environment+formula+greedy+normal_command+turn.Proof.EnvPlain.{env-plain-put-env-begin-requires, env-plain-add-each, env-plain-entered-env-requires, env-plain-each-requires, env-plain-close-env-requires, env-plain-same-length, env-plain-returns}
 use Rattle.mitex.proofs.+arguments+body+captioned+clause_lr+colored+command+command_color+convert+curly_group+each+env_body+env_figure+env_math+env_plain+env_table+environment+formula+greedy+normal_command+turn.Proof.Greedy.{greedy-greedy-node-requires, greedy-enum-told, greedy-refuse-requires, greedy-enum-known-part, greedy-slice-aggregate-put, greedy-put-requires, greedy-sub-each, greedy-part-each-start, greedy-part-each-end, greedy-sub-each-2, greedy-part-each-start-2, greedy-part-each-end-2, greedy-add-each, greedy-add-each-2, greedy-each-requires, greedy-slice-aggregate-close, greedy-close-requires, greedy-returns, greedy-same-length, greedy-returns-2}
-use Rattle.mitex.proofs.+arguments+body+captioned+clause_lr+colored+command+command_color+convert+curly_group+each+env_body+env_figure+env_math+env_plain+env_table+environment+formula+greedy+normal_command+turn.Proof.Turn.{turn-put-before-requires, turn-converts-requires, turn-convert-requires, turn-close-turn-requires, turn-same-length, turn-returns, turn-went-requires, turn-same-length-2, turn-returns-2}
+use Rattle.mitex.proofs.+arguments+body+captioned+clause_lr+colored+command+command_color+convert+curly_group+each+env_body+env_figure+env_math+env_plain+env_table+environment+formula+greedy+normal_command+turn.Proof.Turn.{turn-shared-slice-read-kind, turn-element-of-requires, turn-enum-told, turn-turn-token-requires, turn-same-length, turn-returns, turn-put-before-requires, turn-converts-requires, turn-convert-requires, turn-close-turn-requires, turn-same-length-2, turn-returns-2, turn-went-requires, turn-same-length-3, turn-returns-3}
 
 pub +arguments+body+captioned+clause-lr+colored+command+command-color+convert+curly-group+each+env-body+env-figure+env-math+env-plain+env-table+environment+formula+greedy+normal-command+turn-spec :
     {M : Type 1} → statement M
@@ -603,12 +603,18 @@ pub +arguments+body+captioned+clause-lr+colored+command+command-color+convert+cu
     λ t. turn-lts.spec (turn-calls t)
     (turn-at t)
     turn.Post
+    (turn-shared-slice-read-kind t)
+    (turn-element-of-requires t)
+    (turn-enum-told t)
+    (turn-turn-token-requires t)
+    (turn-same-length t)
+    (turn-returns t)
     (turn-put-before-requires t)
     (turn-converts-requires t)
     (turn-convert-requires t)
     (turn-close-turn-requires t)
-    (turn-same-length t)
-    (turn-returns t)
-    (turn-went-requires t)
     (turn-same-length-2 t)
     (turn-returns-2 t)
+    (turn-went-requires t)
+    (turn-same-length-3 t)
+    (turn-returns-3 t)

@@ -126,6 +126,7 @@ use Rattle.mitex_tables.proofs.has_ends.Reads as has-ends-reads
 use Rattle.mitex_tables.proofs.letters_fit.Reads as letters-fit-reads
 use Rattle.mitex_tables.proofs.put_table_head.Reads as put-table-head-reads
 use Rattle.mitex_tokens.proofs.convert_token.Reads as convert-token-reads
+use Rattle.mitex_tokens.proofs.turn_token.Reads as turn-token-reads
 use Rattle.text.proofs.put.Reads as put-reads
 use Rattle.utf8.proofs.trim.Reads as trim-reads
 
@@ -367,4 +368,4 @@ abbrev pub greedy-calls : ℕ → greedy-lts.Claims
 greedy-calls t = (greedy-node-reads.Asked, greedy-node-reads.Learnt, refuse-reads.Asked, refuse-reads.Learnt, put-reads.Asked, put-reads.Learnt, each-below t, each.Post, close-reads.Asked, close-reads.Learnt)
 
 abbrev pub turn-calls : ℕ → turn-lts.Claims
-turn-calls t = (put-before-reads.Asked, put-before-reads.Learnt, converts-reads.Asked, converts-reads.Learnt, convert-below t, convert.Post, close-turn-reads.Asked, close-turn-reads.Learnt, went-reads.Asked, went-reads.Learnt)
+turn-calls t = (element-of-reads.Asked, element-of-reads.Learnt, turn-token-reads.Asked, turn-token-reads.Learnt, put-before-reads.Asked, put-before-reads.Learnt, converts-reads.Asked, converts-reads.Learnt, convert-below t, convert.Post, close-turn-reads.Asked, close-turn-reads.Learnt, went-reads.Asked, went-reads.Learnt)

@@ -1,0 +1,32 @@
+-- `mitex_tokens::put_break` meets its contract: the text, then the indent.
+use mathlib.Core.Path.{refl}
+use Rattle.text.proofs.Writing.{wrote-then}
+use Rattle.mitex_tokens.specs.Puts.Puts.{accepts}
+use borrow.Author.Needs.{needs}
+use Rattle.mitex_tokens.proofs.put_break.Statement.{statement}
+use Rattle.mitex_tokens.proofs.put_break.Tie as tie
+
+put-requires : tie.Need-put-requires
+put-requires c κs = search needs
+
+put-spaces-requires : tie.Need-put-spaces-requires
+put-spaces-requires c κs = search needs
+
+same-length : tie.Need-same-length
+same-length c = search needs
+
+returns : tie.Need-returns
+returns c =
+    let c₁ = c .before .before .before .before .before in
+    let c₂ = c₁ .before in
+    let c₃ = c₂ .before .before .before .before in
+    λ l. accepts refl (wrote-then (c₃ .pre .1) (c₂ .put .ensures) (c .before .before .put-spaces .ensures))
+
+pub put-break-spec : {M : Type 1} → statement M
+put-break-spec =
+    tie.close
+    (tie.spec
+    put-requires
+    put-spaces-requires
+    same-length
+    returns)

@@ -1,0 +1,24 @@
+-- `mitex_tokens::put_plain` meets its contract: the text alone.
+use mathlib.Core.Path.{refl}
+use Rattle.mitex_tokens.specs.Puts.Puts.{accepts}
+use borrow.Author.Needs.{needs}
+use Rattle.mitex_tokens.proofs.put_plain.Statement.{statement}
+use Rattle.mitex_tokens.proofs.put_plain.Tie as tie
+
+put-requires : tie.Need-put-requires
+put-requires c κs = search needs
+
+same-length : tie.Need-same-length
+same-length c = search needs
+
+returns : tie.Need-returns
+returns c =
+    λ l. accepts refl (c .before .before .put .ensures)
+
+pub put-plain-spec : {M : Type 1} → statement M
+put-plain-spec =
+    tie.close
+    (tie.spec
+    put-requires
+    same-length
+    returns)

@@ -1,0 +1,30 @@
+-- `mitex_tokens::turn_token` meets its contract: what the token comes to, and the converter behind it.
+use Rattle.mitex_state.specs.State.{carryOf}
+use Rattle.mitex_tokens.proofs.Putting.{settles-agrees}
+use borrow.Author.Needs.{needs}
+use Rattle.mitex_tokens.proofs.turn_token.Statement.{statement}
+use Rattle.mitex_tokens.proofs.turn_token.Tie as tie
+
+put-turn-requires : tie.Need-put-turn-requires
+put-turn-requires c κs = search needs
+
+settled-requires : tie.Need-settled-requires
+settled-requires c κs = search needs
+
+same-length : tie.Need-same-length
+same-length c = search needs
+
+returns : tie.Need-returns
+returns c =
+    let c₁ = c .before .before .before .before .before in
+    let c₂ = c₁ .before .before .before .before in
+    λ rs e. settles-agrees (c₂ .args .c) (c .before .before .before .put-turn .ensures rs (carryOf (c₂ .args .c) .label) e) (c .settled .ensures) (c₂ .pre .0 .2)
+
+pub turn-token-spec : {M : Type 1} → statement M
+turn-token-spec =
+    tie.close
+    (tie.spec
+    put-turn-requires
+    settled-requires
+    same-length
+    returns)
