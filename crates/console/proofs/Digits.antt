@@ -1,6 +1,6 @@
 -- A number read digit by digit: what is left to read continues the number that was read so far.
 use mathlib.Core.Path.{_≡_, refl, sym, ap, _∙_}
-use mathlib.Core.Bool.{Bool, true, false, cond, and-eq-true-iff}
+use mathlib.Core.Bool.{true, false, cond, and-eq-true-iff}
 use mathlib.Core.List.{List, [], _∷_}
 use Prim.Native.Nat.{ℕ, _+_, _≤_, _<_}
 use native.Mathlib.Numerals.{add-one}
@@ -11,7 +11,6 @@ use lib.ListN.{length, drop, getD, drop-of-length-le}
 use lib.Seq.{drop-cons}
 use Rattle.text.proofs.Compare.{by-test}
 use Rattle.console.specs.Request.{numberEnd, withDigit, goesOn, numberFrom, numberOf}
-use Rattle.console.specs.declared.Spelt.{Spelt}
 use Rattle.console.specs.declared.Spelt.the-variants.{Nothing as NoNumber, Number}
 
 -- ---- one digit

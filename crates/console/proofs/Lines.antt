@@ -1,21 +1,30 @@
--- The line that asks for an edit: what its tests find, and where it asks for nothing.
+-- The byte that names a mode, and the line that asks for an edit: what its tests find, and where it asks for nothing.
 use mathlib.Core.Path.{_≡_, refl, sym, ap, _∙_}
 use mathlib.Core.Bool.{cond}
 use mathlib.Core.List.{List, [], _∷_}
-use Prim.Native.Nat.{ℕ, _+_, _-_, _≤_, _<_}
+use Prim.Native.Nat.{ℕ, zero, suc, _+_, _-_, _≤_, _<_, min}
+use native.Mathlib.Decide.{decLe}
 use native.Mathlib.Omega.{arith}
 use lib.Dec.{eqb}
 use borrow.Author.Tests.{eq-eqb, ne-eqb, le-leb, lt-leb}
 use lib.ListN.{length, take, drop, getD, drop-of-length-le}
-use lib.Seq.{take-all}
+use lib.Seq.{take-all, take-take}
 use Rattle.text.specs.Compare.{indexOf}
+use Rattle.text.proofs.Compare.{by-test}
 use Rattle.text.proofs.Writing.{part-rest}
-use Rattle.console.specs.Mode.{modeBy}
+use Rattle.console.specs.Mode.{noMode, modeBy, modeIn}
 use Rattle.console.specs.Request.{numberOf, before, behind, both, lineRequest, lineMost, requestIn}
 use Rattle.console.specs.declared.Spelt.{Spelt}
 use Rattle.console.specs.declared.Spelt.the-variants.{Nothing as NoNumber, Number}
-use Rattle.console.specs.declared.Request.{Request}
-use Rattle.console.specs.declared.Request.the-variants.{Nothing as NoRequest, Edit}
+use Rattle.console.specs.declared.Request.the-variants.{Nothing as NoRequest}
+
+pub mode-empty : (l : List ℕ) → length l ≡ 0 → noMode ≡ modeIn l
+mode-empty [] h = refl
+mode-empty (x ∷ l) h = absurd (omega arith)
+
+pub mode-first : (l : List ℕ) → (length l ≡ 0 → ⊥) → {m : ℕ} → m ≡ modeBy (getD l 0 0) → m ≡ modeIn l
+mode-first [] h e = absurd (h refl)
+mode-first (x ∷ l) h e = e
 
 both-lacks : (m : ℕ) (s : Spelt) → both m s NoNumber ≡ NoRequest
 both-lacks m NoNumber = refl
@@ -56,9 +65,32 @@ pub request-long : (l : List ℕ) → lineMost ≤ indexOf 10 l → NoRequest �
 unfolding requestIn
 request-long l h = simp (le-leb lineMost (indexOf 10 l) h)
 
-pub request-line : (l : List ℕ) → indexOf 10 l < lineMost → lineRequest (take (indexOf 10 l) l) ≡ requestIn l
+pub request-line : (l : List ℕ) {k : ℕ} → k ≡ indexOf 10 l → indexOf 10 l < lineMost → lineRequest (take k l) ≡ requestIn l
 unfolding requestIn
-request-line l h = simp (lt-leb lineMost (indexOf 10 l) h)
+request-line l e h = simp (lt-leb lineMost (indexOf 10 l) h) (ap (λ k. lineRequest (take k l)) e)
 
 pub request-all : (l : List ℕ) → indexOf 10 l < lineMost → length l ≤ indexOf 10 l → lineRequest l ≡ requestIn l
-request-all l s h = ap lineRequest (sym (take-all (indexOf 10 l) l h)) ∙ request-line l s
+request-all l s h = ap lineRequest (sym (take-all (indexOf 10 l) l h)) ∙ request-line l refl s
+
+-- ---- the programs read no more than the beginning of the input, and what stands behind it changes nothing
+
+pub mode-reads : (l : List ℕ) → modeIn (take 1 l) ≡ modeIn l
+mode-reads [] = refl
+mode-reads (x ∷ l) = refl
+
+index-take : (b n : ℕ) (l : List ℕ) → indexOf b (take n l) ≡ min n (indexOf b l)
+unfolding indexOf
+index-take b zero l = omega arith
+index-take b (suc n) [] = omega arith
+index-take b (suc n) (x ∷ l) = by-test (eqb x b) (λ t. rw t (omega arith)) (λ t. let e = index-take b n l in rw t (omega arith))
+
+pub request-reads : (l : List ℕ) → requestIn (take lineMost l) ≡ requestIn l
+request-reads l =
+    let e = index-take 10 lineMost l in
+    elim (decLe lineMost (indexOf 10 l)) [
+      | yes far ↦ sym (request-long (take lineMost l) (omega arith)) ∙ request-long l far
+      | no near ↦
+          sym (request-line (take lineMost l) {k = indexOf 10 l} (omega arith) (omega arith))
+          ∙ ap lineRequest (take-take (indexOf 10 l) lineMost l (omega arith))
+          ∙ request-line l refl (omega arith)
+    ]

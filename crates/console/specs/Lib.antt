@@ -1,3 +1,4 @@
 pub mod Mode
 pub mod Request
+pub mod Answers
 pub mod Examples

@@ -1,12 +1,18 @@
 // What the programs share: a file read by its name, the letter of a mode, the line that asks for an edit, and the line of an answer.
+// Standard input and output are the programs' own: what is read or printed there is worked out here, over lent bytes.
 ghost use mathlib.Core.Path.{_≡_};
 ghost use mathlib.Core.Bool.{true};
+ghost use Prim.Native.Nat.{_≤_};
+ghost use lib.ListN.{length};
 ghost use Rattle.io.specs.Counts.{Counts};
-ghost use Rattle.console.specs.Mode.{modeBy};
+ghost use Rattle.text.specs.Writing.{cap, Wrote};
+ghost use Rattle.console.specs.Mode.{modeBy, modeIn};
 ghost use Rattle.console.specs.Request.{goesOn, withDigit, numberOf, before, behind, both, lineRequest, requestIn};
-use libc::STDIN_FILENO;
-use libc::STDOUT_FILENO;
+ghost use Rattle.console.specs.Answers.{difference, refusalLine, editedLine};
 use text::index_of;
+use text::put;
+use text::put_byte;
+use text::put_decimal;
 use text::wide;
 
 // What is no mode: it is refused as 1.
@@ -54,13 +60,14 @@ fn mode_by(letter: u8) -> u8
     NO_MODE
 }
 
-// The mode that the first byte of standard input names.
-pub fn read_mode() -> u8 {
-    let mut first = [0u8; 1];
-    if io::read_full(STDIN_FILENO, &mut first) == 0 {
+// The mode that the first byte of the input names.
+pub fn mode_in(input: &[u8]) -> u8
+    ensures { λ r. ⌜ r ≡ modeIn (now (input .entry)) ⌝ }
+{
+    if input.len() == 0 {
         return NO_MODE;
     }
-    mode_by(first[0])
+    mode_by(input[0])
 }
 
 // ---- the line that asks for an edit
@@ -155,10 +162,10 @@ fn line_request(line: &[u8]) -> Request
 }
 
 // Bytes that no line of the form has.
-const LINE_MOST: usize = 64;
+pub const LINE_MOST: usize = 64;
 
 // What the first line of the input asks for.
-fn asked(input: &[u8]) -> Request
+pub fn request_in(input: &[u8]) -> Request
     ensures { λ r. ⌜ r ≡ requestIn (now (input .entry)) ⌝ }
 {
     let end = index_of(input, b'\n');
@@ -171,41 +178,46 @@ fn asked(input: &[u8]) -> Request
     line_request(&input[..end])
 }
 
-// What the first line of standard input asks for.
-pub fn read_request() -> Request {
-    let mut line = [0u8; LINE_MOST];
-    let n = io::read_full(STDIN_FILENO, &mut line);
-    asked(&line[..n])
-}
+// ---- the line of an answer, from the start of a buffer that has room for it
 
-// ---- the line of an answer
+// No answer has more bytes: `ok`, three numbers of 20 digits, a sign, three spaces and a line feed.
+pub const ANSWER_MOST: usize = 67;
 
-// Writes the first number less the second.
-fn print_difference(a: usize, b: usize) {
+// The first number less the second.
+fn put_difference(out: &mut [u8], at: usize, a: usize, b: usize) -> usize
+    requires { ⌜ (at ≤ cap) × (length (now out) ≤ cap) ⌝ }
+    ensures { λ r. ⌜ Wrote at (now (out .entry)) (difference a b) r (now (out .exit)) ⌝ }
+{
     if b <= a {
-        io::print_decimal(STDOUT_FILENO, (a - b) as u64);
+        put_decimal(out, at, a - b)
     } else {
-        io::write_all(STDOUT_FILENO, b"-");
-        io::print_decimal(STDOUT_FILENO, (b - a) as u64);
+        let p = put_byte(out, at, b'-');
+        put_decimal(out, p, b - a)
     }
 }
 
-// Writes `ok 34 -31 2` and a line feed: the text's length, its growth since `kept`, and the count of blocks converted again.
-pub fn print_edited(length: usize, kept: usize, count: usize) {
-    io::write_all(STDOUT_FILENO, b"ok ");
-    io::print_decimal(STDOUT_FILENO, length as u64);
-    io::write_all(STDOUT_FILENO, b" ");
-    print_difference(length, kept);
-    io::write_all(STDOUT_FILENO, b" ");
-    io::print_decimal(STDOUT_FILENO, count as u64);
-    io::write_all(STDOUT_FILENO, b"\n");
+// `ok 34 -31 2` and a line feed: the text's length, its growth since `kept`, and the count of blocks converted again.
+pub fn put_edited(out: &mut [u8; ANSWER_MOST], length: usize, kept: usize, count: usize) -> usize
+    ensures { λ r. ⌜ Wrote 0 (now (out .entry)) (editedLine length kept count) r (now (out .exit)) ⌝ }
+    ensures { λ r. ⌜ Counts r (now (out .exit)) ⌝ }
+{
+    let a = put(out, 0, b"ok ");
+    let b = put_decimal(out, a, length);
+    let c = put_byte(out, b, b' ');
+    let d = put_difference(out, c, length, kept);
+    let e = put_byte(out, d, b' ');
+    let f = put_decimal(out, e, count);
+    put_byte(out, f, b'\n')
 }
 
-// Writes `refused 11 at 1` and a line feed.
-pub fn print_refusal(number: u8, row: usize) {
-    io::write_all(STDOUT_FILENO, b"refused ");
-    io::print_decimal(STDOUT_FILENO, wide(number) as u64);
-    io::write_all(STDOUT_FILENO, b" at ");
-    io::print_decimal(STDOUT_FILENO, row as u64);
-    io::write_all(STDOUT_FILENO, b"\n");
+// `refused 11 at 1` and a line feed.
+pub fn put_refusal(out: &mut [u8; ANSWER_MOST], number: u8, row: usize) -> usize
+    ensures { λ r. ⌜ Wrote 0 (now (out .entry)) (refusalLine number row) r (now (out .exit)) ⌝ }
+    ensures { λ r. ⌜ Counts r (now (out .exit)) ⌝ }
+{
+    let a = put(out, 0, b"refused ");
+    let b = put_decimal(out, a, wide(number));
+    let c = put(out, b, b" at ");
+    let d = put_decimal(out, c, row);
+    put_byte(out, d, b'\n')
 }

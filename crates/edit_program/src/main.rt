@@ -1,12 +1,15 @@
 // Edits a document that was kept: rules.bin, tree.bin (the new tree), text.bin and ledger.bin (both buffers, whole) in the current
 // folder, and a line `t 3 120` on standard input: the mode's letter, the block and the kept length. Writes `ok LENGTH GROWTH COUNT`
 // or `refused N at R`, a line feed, and every byte of both buffers.
+use console::ANSWER_MOST;
+use console::LINE_MOST;
 use console::Request;
-use console::print_edited;
-use console::print_refusal;
+use console::put_edited;
+use console::put_refusal;
 use console::read_file;
-use console::read_request;
+use console::request_in;
 use edit::Edited;
+use libc::STDIN_FILENO;
 use libc::STDOUT_FILENO;
 
 // A byte more than a file may have, so that a longer one is seen and refused.
@@ -14,6 +17,27 @@ const FILE_READ: usize = 65537;
 
 // How long the buffers that are kept may be.
 const BUFFER_MOST: usize = 65536;
+
+// What the first line of standard input asks for.
+fn read_request() -> Request {
+    let mut line = [0u8; LINE_MOST];
+    let n = io::read_full(STDIN_FILENO, &mut line);
+    request_in(&line[..n])
+}
+
+// Writes the line of a refusal.
+fn print_refusal(number: u8, row: usize) {
+    let mut line = [0u8; ANSWER_MOST];
+    let n = put_refusal(&mut line, number, row);
+    io::write_all(STDOUT_FILENO, &line[..n]);
+}
+
+// Writes the line of an edit.
+fn print_edited(length: usize, kept: usize, count: usize) {
+    let mut line = [0u8; ANSWER_MOST];
+    let n = put_edited(&mut line, length, kept, count);
+    io::write_all(STDOUT_FILENO, &line[..n]);
+}
 
 // Edits, and says what came of it. The growth is the new length less the kept one.
 fn edit_block(mode: u8, block: usize, kept: usize, text: &mut [u8], ledger: &mut [u8]) {

@@ -1,12 +1,29 @@
 // Converts the tree of tree.bin by the rules of rules.bin, both in the current folder, in the mode that standard input names (`t` or
 // `m`), and writes the text alone; or the number and the row of a refusal.
-use console::print_refusal;
+use console::ANSWER_MOST;
+use console::mode_in;
+use console::put_refusal;
 use console::read_file;
-use console::read_mode;
 use edit::Converted;
+use libc::STDIN_FILENO;
+use libc::STDOUT_FILENO;
 
 // A byte more than a file may have, so that a longer one is seen and refused.
 const FILE_READ: usize = 65537;
+
+// The mode that the first byte of standard input names.
+fn read_mode() -> u8 {
+    let mut first = [0u8; 1];
+    let n = io::read_full(STDIN_FILENO, &mut first);
+    mode_in(&first[..n])
+}
+
+// Writes the line of a refusal.
+fn print_refusal(number: u8, row: usize) {
+    let mut line = [0u8; ANSWER_MOST];
+    let n = put_refusal(&mut line, number, row);
+    io::write_all(STDOUT_FILENO, &line[..n]);
+}
 
 // Converts, and writes what came of it.
 fn convert<'a>(mode: u8, rules: &'a [u8], tree: &'a [u8]) {
@@ -15,7 +32,7 @@ fn convert<'a>(mode: u8, rules: &'a [u8], tree: &'a [u8]) {
     match edit::convert(mode, rules, tree, &mut text, &mut ledger) {
         Converted::Refused { number, row } => print_refusal(number, row),
         Converted::Done { length, blocks: _ } => {
-            io::write_all(libc::STDOUT_FILENO, &text[..length]);
+            io::write_all(STDOUT_FILENO, &text[..length]);
         }
     }
 }

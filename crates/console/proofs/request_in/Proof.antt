@@ -1,13 +1,11 @@
 -- The line ends before the first line feed; where there is none, it is all of the input.
-use mathlib.Core.Path.{sym, ap, _∙_}
+use mathlib.Core.Path.{sym, _∙_}
 use native.Mathlib.Omega.{arith}
-use lib.ListN.{take}
 use lib.Seq.{length-take-le}
-use Rattle.console.specs.Request.{lineRequest}
 use Rattle.console.proofs.Lines.{request-long, request-line, request-all}
 use borrow.Author.Needs.{needs}
-use Rattle.console.proofs.asked.Statement.{statement}
-use Rattle.console.proofs.asked.Tie as tie
+use Rattle.console.proofs.request_in.Statement.{statement}
+use Rattle.console.proofs.request_in.Tie as tie
 
 index-of-requires : tie.Need-index-of-requires
 index-of-requires c κs = search needs
@@ -34,10 +32,10 @@ returns-3 : tie.Need-returns-3
 returns-3 c =
     let d = c .before .before .before in
     let e = d .before .index-of .ensures in
-    c .line-request2 .ensures ∙ ap (λ k. lineRequest (take k (c .before .before .before .before .before .before .args .input .now))) e ∙ request-line _ (omega (arith, e, d .if1 .left))
+    c .line-request2 .ensures ∙ request-line _ e (omega (arith, e, d .if1 .left))
 
-pub asked-spec : {M : Type 1} → statement M
-asked-spec =
+pub request-in-spec : {M : Type 1} → statement M
+request-in-spec =
     tie.close
     (tie.spec
     index-of-requires
