@@ -1,12 +1,21 @@
--- Worked lines, which antt computes: a line beside what it asks for.
+-- Worked lines, which antt computes: a line beside what it asks for, and an answer beside its line.
 use mathlib.Core.Path.{_≡_, refl}
 use mathlib.Core.List.{List, [], _∷_, map}
+use Prim.Native.Nat.{ℕ}
 use Prim.Native.String.{String}
 use Rattle.text.specs.Ascii.{ascii}
 use Rattle.text.specs.Compare.{indexOf}
+use Rattle.text.specs.Writing.{digits}
+use Rattle.console.specs.Mode.{modeIn}
 use Rattle.console.specs.Request.{numberFrom, requestIn}
+use Rattle.console.specs.Answers.{refusalLine, editedLine}
 use Rattle.console.specs.declared.Request.{Request}
 use Rattle.console.specs.declared.Request.the-variants.{Nothing, Edit}
+
+-- ---- what is read
+
+modes : map (λ s. modeIn (ascii s)) ("t" ∷ "m" ∷ "m\n" ∷ "x" ∷ "" ∷ []) ≡ 0 ∷ 1 ∷ 1 ∷ 2 ∷ 2 ∷ []
+modes = refl
 
 pub record Line : Type 0 where
   pub bytes : String
@@ -42,3 +51,29 @@ lines =
 lines-ask : map (λ x. requestIn (ascii (x .bytes))) lines ≡ map (λ x. x .request) lines
 unfolding requestIn numberFrom indexOf
 lines-ask = refl
+
+-- ---- what is printed
+
+pub record Answer : Type 0 where
+  pub line : List ℕ
+  pub reads : String
+
+abbrev answer : List ℕ → String → Answer
+answer l s = record { line = l; reads = s }
+
+abbrev answers : List Answer
+answers =
+    answer (refusalLine 11 1) "refused 11 at 1\n"
+    ∷ answer (refusalLine 1 0) "refused 1 at 0\n"
+    -- a text that is shorter now, one as long as before, and a longer one
+    ∷ answer (editedLine 34 65 2) "ok 34 -31 2\n"
+    ∷ answer (editedLine 34 34 1) "ok 34 0 1\n"
+    ∷ answer (editedLine 120 34 10) "ok 120 86 10\n"
+    -- numbers of 64 bits
+    ∷ answer (editedLine 0 18446744073709551615 1) "ok 0 -18446744073709551615 1\n"
+    ∷ answer (editedLine 18446744073709551615 0 1) "ok 18446744073709551615 18446744073709551615 1\n"
+    ∷ []
+
+answers-read : map (λ x. x .line) answers ≡ map (λ x. ascii (x .reads)) answers
+unfolding digits
+answers-read = refl
