@@ -3,9 +3,11 @@ use mathlib.Core.Path.{_≡_, refl, sym, ap, subst, _∙_}
 use mathlib.Core.Bool.{Bool, true, false, cond}
 use mathlib.Core.Option.{Option}
 use mathlib.Core.Option.Option.{none as nothing, some}
-use mathlib.Core.List.{List, [], _++_, append-assoc}
+use mathlib.Core.List.{List, [], _∷_, _++_, append-assoc}
 use Prim.Native.Nat.{ℕ, _+_, _*_, _-_, _≤_}
 use native.Mathlib.Omega.{arith}
+use types.Run.{OneOf, miss}
+use denote.Enum.Declared.{tagOf}
 use lib.ListN.{length, drop, length-append, length-drop, length-take}
 use Rattle.utf8.specs.Trim.{trim}
 use Rattle.utf8.proofs.Trimming.{trim-length}
@@ -27,11 +29,12 @@ use Rattle.mitex_state.specs.Contract.{Place, Agrees}
 use Rattle.mitex_state.specs.Contract.Agrees.{declines, accepts}
 use Rattle.mitex_state.specs.Children.{each}
 use Rattle.mitex_state.specs.Tables.{lettersFit, tableHead}
-use Rattle.mitex_state.specs.Environments.{Caption, isCaption, captionAt, orLater, lastCaption, captioned, tableBy, tableWith, envOf, envWith, envBy, environment}
+use Rattle.mitex_state.specs.Environments.{Caption, isCaption, captionAt, orLater, lastCaption, captioned, tableBy, tableWith, envOf, envWith, envBy, environment, envBody, plainEnv, mathEnv}
 use Rattle.mitex_state.specs.Environments.Caption.{absent, bare, caption}
 use Rattle.mitex_state.specs.Parts.{CaptionStands, CaptionFound}
 use Rattle.mitex_state.specs.Parts.CaptionFound.{no-caption, bare-caption, caption-at}
 use Rattle.mitex_state.proofs.Outcomes.{closing-nil}
+use Rattle.mitex_state.proofs.LaTeXEnv.{the-type as env-type}
 use Rattle.mitex_state.specs.declared.LaTeXEnv.{LaTeXEnv}
 use Rattle.mitex_state.specs.declared.LaTeXEnv.the-variants.{None, Figure, Itemize, Enumerate, Math, Matrix, Cases, SubStack, MathCurlyGroup}
 use Rattle.mitex_state.specs.declared.LaTeXEnv.the-variants.{Table as TableEnv}
@@ -226,3 +229,33 @@ letters-short {f} {rows} {text} {s} sp e i =
       found-length (isOf ItemBegin) f,
       ap length (sp .text-is),
     )
+
+-- ---- the environments that share an arm, by the tags that the code tells them by
+
+pub plain-by-tag :
+    (e : LaTeXEnv) (w : List ℕ) (conv : Conv) (x : Context) (f : Forest) (c : Carry) → OneOf (0 ∷ 3 ∷ 4 ∷ []) (tagOf env-type e)
+    → envBody e w conv x f c ≡ plainEnv e w conv x f c
+plain-by-tag None w conv x f c h = refl
+plain-by-tag Figure w conv x f c h = absurd (miss (0 ∷ 3 ∷ 4 ∷ []) 1 tt h)
+plain-by-tag TableEnv w conv x f c h = absurd (miss (0 ∷ 3 ∷ 4 ∷ []) 2 tt h)
+plain-by-tag Itemize w conv x f c h = refl
+plain-by-tag Enumerate w conv x f c h = refl
+plain-by-tag Math w conv x f c h = absurd (miss (0 ∷ 3 ∷ 4 ∷ []) 5 tt h)
+plain-by-tag Matrix w conv x f c h = absurd (miss (0 ∷ 3 ∷ 4 ∷ []) 6 tt h)
+plain-by-tag Cases w conv x f c h = absurd (miss (0 ∷ 3 ∷ 4 ∷ []) 7 tt h)
+plain-by-tag SubStack w conv x f c h = absurd (miss (0 ∷ 3 ∷ 4 ∷ []) 8 tt h)
+plain-by-tag MathCurlyGroup w conv x f c h = absurd (miss (0 ∷ 3 ∷ 4 ∷ []) 9 tt h)
+
+pub math-by-tag :
+    (e : LaTeXEnv) (w : List ℕ) (conv : Conv) (x : Context) (f : Forest) (c : Carry) → OneOf (5 ∷ 6 ∷ 7 ∷ 8 ∷ 9 ∷ []) (tagOf env-type e)
+    → envBody e w conv x f c ≡ mathEnv e w conv x f c
+math-by-tag None w conv x f c h = absurd (miss (5 ∷ 6 ∷ 7 ∷ 8 ∷ 9 ∷ []) 0 tt h)
+math-by-tag Figure w conv x f c h = absurd (miss (5 ∷ 6 ∷ 7 ∷ 8 ∷ 9 ∷ []) 1 tt h)
+math-by-tag TableEnv w conv x f c h = absurd (miss (5 ∷ 6 ∷ 7 ∷ 8 ∷ 9 ∷ []) 2 tt h)
+math-by-tag Itemize w conv x f c h = absurd (miss (5 ∷ 6 ∷ 7 ∷ 8 ∷ 9 ∷ []) 3 tt h)
+math-by-tag Enumerate w conv x f c h = absurd (miss (5 ∷ 6 ∷ 7 ∷ 8 ∷ 9 ∷ []) 4 tt h)
+math-by-tag Math w conv x f c h = refl
+math-by-tag Matrix w conv x f c h = refl
+math-by-tag Cases w conv x f c h = refl
+math-by-tag SubStack w conv x f c h = refl
+math-by-tag MathCurlyGroup w conv x f c h = refl

@@ -11,7 +11,7 @@ use Rattle.mitex_syntax.specs.Spells.{Spells, SpellsAll, SomeTree}
 use Rattle.mitex_syntax.proofs.Trees.{under, size-node, size-some}
 use Rattle.mitex_state.specs.Outcome.{Context, Carry, Outcome, after, closing, flagged}
 use Rattle.mitex_state.specs.Outcome.Outcome.{refused, done}
-use Rattle.mitex_state.specs.State.{carryOf, Carried}
+use Rattle.mitex_state.specs.State.{contextOf, carryOf, Carried}
 use Rattle.mitex_state.specs.Contract.{Place, placeOf, Agrees}
 use Rattle.mitex_state.specs.Tokens.{tokenOut}
 use Rattle.mitex_state.specs.Children.{before, converts, behind, turn}
@@ -21,7 +21,8 @@ use Rattle.mitex_state.specs.declared.Element.the-variants.{Unexpected, Token}
 use Rattle.mitex_state.specs.declared.Act.{Act}
 use Rattle.mitex_state.specs.declared.Converter.{Converter}
 use Rattle.mitex_state.specs.declared.Walked.{Walked}
-use Rattle.mitex.specs.Walks.{Room, Siblings}
+use Rattle.mitex.specs.Walks.{Room, Siblings, Converts, Walks}
+use Rattle.mitex_state.proofs.Agreeing.{agrees-as}
 use Rattle.mitex_tokens.specs.Puts.{tokenTurn}
 use Rattle.mitex_commands.proofs.Elements.{ofNode, element-node, element-token, element-unexpected}
 use Rattle.mitex.proofs.Walking.{rest-rows, room-part}
@@ -122,3 +123,16 @@ carried-as {c} {d} {e} m o {a} {row} {at} {out} {out′} p =
     let same : placeOf d ≡ placeOf c = λ i. record { mode = m .mode i; env = m .env i; indent = m .indent i } in
     subst (λ (y : Place). Agrees a y row at out out′ (o y e)) same
     (subst (λ (z : Carry). Agrees a (placeOf d) row at out out′ (o (placeOf d) z)) (m .carry) p)
+
+-- an element of a node: it comes to what its children come to by its arm
+pub converts-arm :
+    {rules index rows text : List ℕ} {row : ℕ} {c d : Converter} {at : ℕ} {out : List ℕ} {a : Walked} {out′ : List ℕ} (e : Element)
+    → Carried c (flagged false (carryOf c)) d → elementOf (getD rows 0 0) ≡ e → ofNode e ≡ true
+    → Walks rules index (below rows) text row d at out a out′ (armBy e) → Converts rules index rows text row c at out a out′
+converts-arm {c = c} {d = d} e m q z w rs ready t sp n h =
+    let y = at-node (contextOf rs c) t (carryOf c) sp n h e q z in
+    agrees-as (y .is)
+    (carried-as m
+    (λ (p : Place) (k : Carry).
+    armBy e (convert (y .lower)) (record { rules = rs; mode = p .mode; env = p .env; indent = p .indent }) (y .forest) k)
+    (w rs ready (y .forest) (y .spells) (y .lower) (y .fits)))

@@ -94,88 +94,25 @@ pub fn convert<'a>(
 {
     let kind = rows[0];
     let element = element_of(kind);
+    let below = &rows[8..];
+    let d = c.with_flag(false);
     match element {
         Element::Unexpected => refuse(c, 7, row),
-        Element::Children => each(
-            out,
-            at,
-            &rows[8..],
-            text,
-            row + 1,
-            rules,
-            index,
-            c.with_flag(false),
-            Loop::Plain,
-        ),
-        Element::Formula => formula(
-            out,
-            at,
-            &rows[8..],
-            text,
-            row,
-            rules,
-            index,
-            c.with_flag(false),
-        ),
-        Element::CurlyGroup => curly_group(
-            out,
-            at,
-            &rows[8..],
-            text,
-            row,
-            rules,
-            index,
-            c.with_flag(false),
-        ),
-        Element::ClauseLr => clause_lr(
-            out,
-            at,
-            &rows[8..],
-            text,
-            row,
-            rules,
-            index,
-            c.with_flag(false),
-        ),
+        Element::Children => each(out, at, below, text, row + 1, rules, index, d, Loop::Plain),
+        Element::Formula => formula(out, at, below, text, row, rules, index, d),
+        Element::CurlyGroup => curly_group(out, at, below, text, row, rules, index, d),
+        Element::ClauseLr => clause_lr(out, at, below, text, row, rules, index, d),
         Element::AttachComponent => {
             let mode = c.mode;
             let how = attach_loop(mode);
-            each(
-                out,
-                at,
-                &rows[8..],
-                text,
-                row + 1,
-                rules,
-                index,
-                c.with_flag(false),
-                how,
-            )
+            each(out, at, below, text, row + 1, rules, index, d, how)
         }
-        Element::Silent => went(c.with_flag(false), at),
-        Element::Command => command(
-            out,
-            at,
-            &rows[8..],
-            text,
-            row,
-            rules,
-            index,
-            c.with_flag(false),
-        ),
-        Element::Environment => environment(
-            out,
-            at,
-            &rows[8..],
-            text,
-            row,
-            rules,
-            index,
-            c.with_flag(false),
-        ),
+        Element::Silent => went(d, at),
+        Element::Command => command(out, at, below, text, row, rules, index, d),
+        Element::Environment => environment(out, at, below, text, row, rules, index, d),
         Element::TypstCode => {
             let p = text::put(out, at, text);
-            went(c.with_flag(false), p)
+            went(d, p)
         }
         Element::Token => convert_token(out, at, kind, text, row, rules, index, c),
     }
@@ -720,16 +657,18 @@ fn env_body<'a>(
     ensures { λ r. ⌜ Walks (now (rules .entry)) (now (index .entry)) (now (rows .entry)) (now (text .entry)) row c at (now (out .entry)) r (now (out .exit)) (envBody env (now (name .entry))) ⌝ }
 {
     match env {
-        LaTeXEnv::None => env_plain(out, at, rows, text, row, rules, index, c, name, env),
+        LaTeXEnv::None | LaTeXEnv::Itemize | LaTeXEnv::Enumerate => {
+            env_plain(out, at, rows, text, row, rules, index, c, name, env)
+        }
         LaTeXEnv::Figure => env_figure(out, at, rows, text, row, rules, index, c, name),
         LaTeXEnv::Table => env_table(out, at, rows, text, row, rules, index, c, name),
-        LaTeXEnv::Itemize => env_plain(out, at, rows, text, row, rules, index, c, name, env),
-        LaTeXEnv::Enumerate => env_plain(out, at, rows, text, row, rules, index, c, name, env),
-        LaTeXEnv::Math => env_math(out, at, rows, text, row, rules, index, c, name, env),
-        LaTeXEnv::Matrix => env_math(out, at, rows, text, row, rules, index, c, name, env),
-        LaTeXEnv::Cases => env_math(out, at, rows, text, row, rules, index, c, name, env),
-        LaTeXEnv::SubStack => env_math(out, at, rows, text, row, rules, index, c, name, env),
-        LaTeXEnv::MathCurlyGroup => env_math(out, at, rows, text, row, rules, index, c, name, env),
+        LaTeXEnv::Math
+        | LaTeXEnv::Matrix
+        | LaTeXEnv::Cases
+        | LaTeXEnv::SubStack
+        | LaTeXEnv::MathCurlyGroup => {
+            env_math(out, at, rows, text, row, rules, index, c, name, env)
+        }
     }
 }
 

@@ -14,23 +14,23 @@ use Rattle.mitex.proofs.+arguments+body+captioned+clause_lr+colored+com
 use Rattle.mitex.proofs.each.Reads as each
 use Rattle.mitex.proofs.+arguments+body+captioned+clause_lr+colored+command+command_color+convert+curly_group+each+env_body+env_figure+env_math+env_plain+env_table+environment+formula+greedy+normal_command+turn.Proof.Setup.{body-at, body-calls}
 
-pub body-slice-aggregate-put : (t : ℕ) → body-lts.Need-slice-aggregate-put (body-calls t) (body-at t) body.Post
+body-slice-aggregate-put : (t : ℕ) → body-lts.Need-slice-aggregate-put (body-calls t) (body-at t) body.Post
 body-slice-aggregate-put t c = search needs
 
-pub body-put-requires : (t : ℕ) → body-lts.Need-put-requires (body-calls t) (body-at t) body.Post
+body-put-requires : (t : ℕ) → body-lts.Need-put-requires (body-calls t) (body-at t) body.Post
 body-put-requires t c κs =
     let c₁ = c .before .before .before .before .before in
     let c₂ = c₁ .before .before in
     (c₂ .pre .1 .0 .place, c₂ .pre .1 .0 .room)
 
-pub body-add-each : (t : ℕ) → body-lts.Need-add-each (body-calls t) (body-at t) body.Post
+body-add-each : (t : ℕ) → body-lts.Need-add-each (body-calls t) (body-at t) body.Post
 body-add-each t c =
     let c₁ = c .before .before .before .before .before in
     let c₂ = c₁ .before .before .before .before .before in
     let c₃ = c₂ .before in
     omega (arith, c₃ .pre .1 .0 .low)
 
-pub body-each-requires : (t : ℕ) → body-lts.Need-each-requires (body-calls t) (body-at t) body.Post
+body-each-requires : (t : ℕ) → body-lts.Need-each-requires (body-calls t) (body-at t) body.Post
 body-each-requires t c κs =
     let c₁ = c .before .before .before in
     let c₂ = c₁ .before .before .before .before .before in
@@ -42,10 +42,10 @@ body-each-requires t c κs =
       ),
     )
 
-pub body-slice-aggregate-close : (t : ℕ) → body-lts.Need-slice-aggregate-close (body-calls t) (body-at t) body.Post
+body-slice-aggregate-close : (t : ℕ) → body-lts.Need-slice-aggregate-close (body-calls t) (body-at t) body.Post
 body-slice-aggregate-close t c = search needs
 
-pub body-close-requires : (t : ℕ) → body-lts.Need-close-requires (body-calls t) (body-at t) body.Post
+body-close-requires : (t : ℕ) → body-lts.Need-close-requires (body-calls t) (body-at t) body.Post
 body-close-requires t c κs =
     let c₁ = c .before .before .before .before in
     let c₂ = c₁ .before .before .before .before in
@@ -55,14 +55,14 @@ body-close-requires t c κs =
       omega (arith, c₄ .pre .1 .0 .room, c₁ .each .kept .0, c₂ .put .kept .0),
     )
 
-pub body-same-length : (t : ℕ) → body-lts.Need-same-length (body-calls t) (body-at t) body.Post
+body-same-length : (t : ℕ) → body-lts.Need-same-length (body-calls t) (body-at t) body.Post
 body-same-length t c =
     let c₁ = c .before .before .before .before .before in
     let c₂ = c₁ .before .before in
     let c₃ = c₂ .before .before .before .before in
     c .before .before .close .kept .0 ∙ c₂ .each .kept .0 ∙ c₃ .put .kept .0
 
-pub body-returns : (t : ℕ) → body-lts.Need-returns (body-calls t) (body-at t) body.Post
+body-returns : (t : ℕ) → body-lts.Need-returns (body-calls t) (body-at t) body.Post
 body-returns t c =
     let c₁ = c .before .before .before .before .before in
     let c₂ = c₁ .before .before in
@@ -73,3 +73,18 @@ body-returns t c =
     agrees-after (c₅ .pre .1 .0 .room) (c₃ .put .ensures)
     (agrees-close (omega (arith, c₅ .pre .1 .0 .room, c₃ .put .kept .0))
     (loops-at 1 (c₅ .args .c) Figure (c₂ .each .ensures) rs ready f sp n h) (c .before .before .close .ensures))
+
+-- its code meets what it promises, if those it calls do where less is left
+pub body-closed : {M : Type 1} (t : ℕ) → body-lts.Closed (body-calls t) (body-at t) body.Post M
+body-closed t =
+    body-lts.spec (body-calls t)
+    (body-at t)
+    body.Post
+    (body-slice-aggregate-put t)
+    (body-put-requires t)
+    (body-add-each t)
+    (body-each-requires t)
+    (body-slice-aggregate-close t)
+    (body-close-requires t)
+    (body-same-length t)
+    (body-returns t)

@@ -22,25 +22,25 @@ use Rattle.mitex.proofs.+arguments+body+captioned+clause_lr+colored+com
 use Rattle.mitex.proofs.convert.Reads as convert
 use Rattle.mitex.proofs.+arguments+body+captioned+clause_lr+colored+command+command_color+convert+curly_group+each+env_body+env_figure+env_math+env_plain+env_table+environment+formula+greedy+normal_command+turn.Proof.Setup.{captioned-at, captioned-calls}
 
-pub captioned-enum-told : (t : ℕ) → captioned-lts.Need-enum-told (captioned-calls t) (captioned-at t) captioned.Post
+captioned-enum-told : (t : ℕ) → captioned-lts.Need-enum-told (captioned-calls t) (captioned-at t) captioned.Post
 captioned-enum-told t c = search needs
 
-pub captioned-body-requires : (t : ℕ) → captioned-lts.Need-body-requires (captioned-calls t) (captioned-at t) captioned.Post
+captioned-body-requires : (t : ℕ) → captioned-lts.Need-body-requires (captioned-calls t) (captioned-at t) captioned.Post
 captioned-body-requires t c κs =
     let c₁ = c .before .before .before .before .before in
     let c₂ = c₁ .before .before .before in
     (omega (arith, c₂ .pre .0), (c₂ .pre .1 .0, (c₂ .pre .1 .1 .0, c₂ .pre .1 .1 .1 .0)))
 
-pub captioned-enum-known-part : (t : ℕ) → captioned-lts.Need-enum-known-part (captioned-calls t) (captioned-at t) captioned.Post
+captioned-enum-known-part : (t : ℕ) → captioned-lts.Need-enum-known-part (captioned-calls t) (captioned-at t) captioned.Post
 captioned-enum-known-part t c = search needs
 
-pub captioned-add-refuse : (t : ℕ) → captioned-lts.Need-add-refuse (captioned-calls t) (captioned-at t) captioned.Post
+captioned-add-refuse : (t : ℕ) → captioned-lts.Need-add-refuse (captioned-calls t) (captioned-at t) captioned.Post
 captioned-add-refuse t c =
     let c₁ = c .before .before .before .before .before in
     let c₂ = c₁ .before .before .before in
     omega (arith, c₂ .pre .1 .0 .low)
 
-pub captioned-add-refuse-2 : (t : ℕ) → captioned-lts.Need-add-refuse-2 (captioned-calls t) (captioned-at t) captioned.Post
+captioned-add-refuse-2 : (t : ℕ) → captioned-lts.Need-add-refuse-2 (captioned-calls t) (captioned-at t) captioned.Post
 captioned-add-refuse-2 t c =
     let c₁ = c .before .before .before .before .before in
     let c₂ = c₁ .before .before .before in
@@ -50,22 +50,22 @@ captioned-add-refuse-2 t c =
       bare-low _ (c₂ .pre .1 .1 .1 .1 .spells) (caption-bare (c₂ .pre .1 .1 .1 .1 .found) (c .before .part .given .1)),
     )
 
-pub captioned-refuse-requires : (t : ℕ) → captioned-lts.Need-refuse-requires (captioned-calls t) (captioned-at t) captioned.Post
+captioned-refuse-requires : (t : ℕ) → captioned-lts.Need-refuse-requires (captioned-calls t) (captioned-at t) captioned.Post
 captioned-refuse-requires t c κs = search needs
 
-pub captioned-enum-known-part-2 : (t : ℕ) → captioned-lts.Need-enum-known-part-2 (captioned-calls t) (captioned-at t) captioned.Post
+captioned-enum-known-part-2 : (t : ℕ) → captioned-lts.Need-enum-known-part-2 (captioned-calls t) (captioned-at t) captioned.Post
 captioned-enum-known-part-2 t c = search needs
 
-pub captioned-slice-aggregate-put : (t : ℕ) → captioned-lts.Need-slice-aggregate-put (captioned-calls t) (captioned-at t) captioned.Post
+captioned-slice-aggregate-put : (t : ℕ) → captioned-lts.Need-slice-aggregate-put (captioned-calls t) (captioned-at t) captioned.Post
 captioned-slice-aggregate-put t c = search needs
 
-pub captioned-put-requires : (t : ℕ) → captioned-lts.Need-put-requires (captioned-calls t) (captioned-at t) captioned.Post
+captioned-put-requires : (t : ℕ) → captioned-lts.Need-put-requires (captioned-calls t) (captioned-at t) captioned.Post
 captioned-put-requires t c κs =
     let c₁ = c .before .before .before .before .before in
     let c₂ = c₁ .before .before .before .before .before in
     (c₂ .pre .1 .0 .place, c₂ .pre .1 .0 .room)
 
-pub captioned-sub-convert : (t : ℕ) → captioned-lts.Need-sub-convert (captioned-calls t) (captioned-at t) captioned.Post
+captioned-sub-convert : (t : ℕ) → captioned-lts.Need-sub-convert (captioned-calls t) (captioned-at t) captioned.Post
 captioned-sub-convert t c =
     let c₁ = c .before .before .before .before .before in
     let c₂ = c₁ .before .before in
@@ -73,7 +73,7 @@ captioned-sub-convert t c =
     let c₄ = c₃ .before .before in
     (caption-stands (c₄ .pre .1 .1 .1 .1 .found) (c₂ .part2 .given .1)) .inside .low
 
-pub captioned-part-convert-start : (t : ℕ) → captioned-lts.Need-part-convert-start (captioned-calls t) (captioned-at t) captioned.Post
+captioned-part-convert-start : (t : ℕ) → captioned-lts.Need-part-convert-start (captioned-calls t) (captioned-at t) captioned.Post
 captioned-part-convert-start t c =
     let c₁ = c .before .before .before .before .before in
     let c₂ = c₁ .before .before in
@@ -81,7 +81,7 @@ captioned-part-convert-start t c =
     let c₄ = c₃ .before .before in
     (caption-stands (c₄ .pre .1 .1 .1 .1 .found) (c₂ .part2 .given .1)) .inside .low
 
-pub captioned-part-convert-end : (t : ℕ) → captioned-lts.Need-part-convert-end (captioned-calls t) (captioned-at t) captioned.Post
+captioned-part-convert-end : (t : ℕ) → captioned-lts.Need-part-convert-end (captioned-calls t) (captioned-at t) captioned.Post
 captioned-part-convert-end t c =
     let c₁ = c .before .before .before .before .before in
     let c₂ = c₁ .before .before in
@@ -89,7 +89,7 @@ captioned-part-convert-end t c =
     let c₄ = c₃ .before .before in
     (caption-stands (c₄ .pre .1 .1 .1 .1 .found) (c₂ .part2 .given .1)) .inside .high
 
-pub captioned-sub-convert-2 : (t : ℕ) → captioned-lts.Need-sub-convert-2 (captioned-calls t) (captioned-at t) captioned.Post
+captioned-sub-convert-2 : (t : ℕ) → captioned-lts.Need-sub-convert-2 (captioned-calls t) (captioned-at t) captioned.Post
 captioned-sub-convert-2 t c =
     let c₁ = c .before .before .before .before .before in
     let c₂ = c₁ .before .before .before in
@@ -97,7 +97,7 @@ captioned-sub-convert-2 t c =
     let c₄ = c₃ .before .before in
     (caption-stands (c₄ .pre .1 .1 .1 .1 .found) (c₂ .part2 .given .1)) .inside .begun
 
-pub captioned-part-convert-start-2 : (t : ℕ) → captioned-lts.Need-part-convert-start-2 (captioned-calls t) (captioned-at t) captioned.Post
+captioned-part-convert-start-2 : (t : ℕ) → captioned-lts.Need-part-convert-start-2 (captioned-calls t) (captioned-at t) captioned.Post
 captioned-part-convert-start-2 t c =
     let c₁ = c .before .before .before .before .before in
     let c₂ = c₁ .before .before .before in
@@ -105,7 +105,7 @@ captioned-part-convert-start-2 t c =
     let c₄ = c₃ .before .before in
     (caption-stands (c₄ .pre .1 .1 .1 .1 .found) (c₂ .part2 .given .1)) .inside .begun
 
-pub captioned-part-convert-end-2 : (t : ℕ) → captioned-lts.Need-part-convert-end-2 (captioned-calls t) (captioned-at t) captioned.Post
+captioned-part-convert-end-2 : (t : ℕ) → captioned-lts.Need-part-convert-end-2 (captioned-calls t) (captioned-at t) captioned.Post
 captioned-part-convert-end-2 t c =
     let c₁ = c .before .before .before .before .before in
     let c₂ = c₁ .before .before .before in
@@ -113,7 +113,7 @@ captioned-part-convert-end-2 t c =
     let c₄ = c₃ .before .before in
     (caption-stands (c₄ .pre .1 .1 .1 .1 .found) (c₂ .part2 .given .1)) .inside .stop
 
-pub captioned-add-convert : (t : ℕ) → captioned-lts.Need-add-convert (captioned-calls t) (captioned-at t) captioned.Post
+captioned-add-convert : (t : ℕ) → captioned-lts.Need-add-convert (captioned-calls t) (captioned-at t) captioned.Post
 captioned-add-convert t c =
     let c₁ = c .before .before .before .before .before in
     let c₂ = c₁ .before .before .before .before .before in
@@ -121,7 +121,7 @@ captioned-add-convert t c =
     let c₄ = c₃ .before in
     omega (arith, c₄ .pre .1 .0 .low)
 
-pub captioned-add-convert-2 : (t : ℕ) → captioned-lts.Need-add-convert-2 (captioned-calls t) (captioned-at t) captioned.Post
+captioned-add-convert-2 : (t : ℕ) → captioned-lts.Need-add-convert-2 (captioned-calls t) (captioned-at t) captioned.Post
 captioned-add-convert-2 t c =
     let c₁ = c .before .before .before .before .before in
     let c₂ = c₁ .before .before .before .before in
@@ -130,7 +130,7 @@ captioned-add-convert-2 t c =
     let q = (caption-stands (c₄ .pre .1 .1 .1 .1 .found) (c₂ .part2 .given .1)) .inside in
     omega (arith, c₄ .pre .1 .0 .low, q .low, q .high)
 
-pub captioned-convert-requires : (t : ℕ) → captioned-lts.Need-convert-requires (captioned-calls t) (captioned-at t) captioned.Post
+captioned-convert-requires : (t : ℕ) → captioned-lts.Need-convert-requires (captioned-calls t) (captioned-at t) captioned.Post
 captioned-convert-requires t c κs =
     let c₁ = c .before .before .before .before .before in
     let c₂ = c₁ .before .before .before .before in
@@ -147,10 +147,10 @@ captioned-convert-requires t c κs =
       ),
     )
 
-pub captioned-slice-aggregate-close : (t : ℕ) → captioned-lts.Need-slice-aggregate-close (captioned-calls t) (captioned-at t) captioned.Post
+captioned-slice-aggregate-close : (t : ℕ) → captioned-lts.Need-slice-aggregate-close (captioned-calls t) (captioned-at t) captioned.Post
 captioned-slice-aggregate-close t c = search needs
 
-pub captioned-close-requires : (t : ℕ) → captioned-lts.Need-close-requires (captioned-calls t) (captioned-at t) captioned.Post
+captioned-close-requires : (t : ℕ) → captioned-lts.Need-close-requires (captioned-calls t) (captioned-at t) captioned.Post
 captioned-close-requires t c κs =
     let c₁ = c .before .before .before .before in
     let c₂ = c₁ .before .before .before .before .before in
@@ -163,7 +163,7 @@ captioned-close-requires t c κs =
       omega (arith, c₆ .pre .1 .0 .room, c₁ .convert .kept .0, c₃ .put .kept .0),
     )
 
-pub captioned-same-length : (t : ℕ) → captioned-lts.Need-same-length (captioned-calls t) (captioned-at t) captioned.Post
+captioned-same-length : (t : ℕ) → captioned-lts.Need-same-length (captioned-calls t) (captioned-at t) captioned.Post
 captioned-same-length t c =
     let c₁ = c .before .before .before .before in
     let c₂ = c₁ .before .before .before .before .before in
@@ -171,7 +171,7 @@ captioned-same-length t c =
     let c₄ = c₃ .before in
     c₁ .close .kept .0 ∙ c₂ .convert .kept .0 ∙ c₄ .put .kept .0
 
-pub captioned-returns : (t : ℕ) → captioned-lts.Need-returns (captioned-calls t) (captioned-at t) captioned.Post
+captioned-returns : (t : ℕ) → captioned-lts.Need-returns (captioned-calls t) (captioned-at t) captioned.Post
 captioned-returns t c =
     let c₁ = c .before .before .before .before in
     let c₂ = c₁ .before .before .before .before .before in
@@ -190,7 +190,7 @@ captioned-returns t c =
     (converts-row (c₇ .args .c) (omega (arith, q .row)) (c₂ .convert .ensures) rs ready (q .tree) (q .spells) n
     (omega (arith, h, q .fits)))) (c₁ .close .ensures)) (c .if1 .taken)))
 
-pub captioned-body-requires-2 : (t : ℕ) → captioned-lts.Need-body-requires-2 (captioned-calls t) (captioned-at t) captioned.Post
+captioned-body-requires-2 : (t : ℕ) → captioned-lts.Need-body-requires-2 (captioned-calls t) (captioned-at t) captioned.Post
 captioned-body-requires-2 t c κs =
     let c₁ = c .before .before .before .before .before in
     let c₂ = c₁ .before in
@@ -212,10 +212,10 @@ captioned-body-requires-2 t c κs =
       ),
     )
 
-pub captioned-same-length-2 : (t : ℕ) → captioned-lts.Need-same-length-2 (captioned-calls t) (captioned-at t) captioned.Post
+captioned-same-length-2 : (t : ℕ) → captioned-lts.Need-same-length-2 (captioned-calls t) (captioned-at t) captioned.Post
 captioned-same-length-2 t c = c .before .before .body .kept .0
 
-pub captioned-returns-2 : (t : ℕ) → captioned-lts.Need-returns-2 (captioned-calls t) (captioned-at t) captioned.Post
+captioned-returns-2 : (t : ℕ) → captioned-lts.Need-returns-2 (captioned-calls t) (captioned-at t) captioned.Post
 captioned-returns-2 t c =
     let c₁ = c .before .before .before .before in
     let c₂ = c₁ .before .before .before .before .before in
@@ -225,7 +225,7 @@ captioned-returns-2 t c =
     (captioned-as absent (meaning n) (contextOf rs (c₃ .args .c)) f (carryOf (c₃ .args .c))
     (caption-none found (c₁ .enum-told .given .1))) (c .before .before .body .ensures rs ready f sp n h)
 
-pub captioned-returns-3 : (t : ℕ) → captioned-lts.Need-returns-3 (captioned-calls t) (captioned-at t) captioned.Post
+captioned-returns-3 : (t : ℕ) → captioned-lts.Need-returns-3 (captioned-calls t) (captioned-at t) captioned.Post
 captioned-returns-3 t c =
     let c₁ = c .before .before .before .before .before in
     let c₂ = c₁ .before .before .before .before in
@@ -235,7 +235,7 @@ captioned-returns-3 t c =
     (caption-bare found (c .before .before .part .given .1)))
     (agrees-refused _ (omega arith) (declined-row (omega arith) (c .refuse .ensures)))
 
-pub captioned-same-length-3 : (t : ℕ) → captioned-lts.Need-same-length-3 (captioned-calls t) (captioned-at t) captioned.Post
+captioned-same-length-3 : (t : ℕ) → captioned-lts.Need-same-length-3 (captioned-calls t) (captioned-at t) captioned.Post
 captioned-same-length-3 t c =
     let c₁ = c .before .before .before .before .before in
     let c₂ = c₁ .before .before .before .before in
@@ -244,7 +244,7 @@ captioned-same-length-3 t c =
     let c₅ = c₄ .before in
     c .before .before .body2 .kept .0 ∙ c₂ .close .kept .0 ∙ c₃ .convert .kept .0 ∙ c₅ .put .kept .0
 
-pub captioned-returns-4 : (t : ℕ) → captioned-lts.Need-returns-4 (captioned-calls t) (captioned-at t) captioned.Post
+captioned-returns-4 : (t : ℕ) → captioned-lts.Need-returns-4 (captioned-calls t) (captioned-at t) captioned.Post
 captioned-returns-4 t c =
     let c₁ = c .before .before .before .before .before in
     let c₂ = c₁ .before .before .before .before in
@@ -268,3 +268,38 @@ captioned-returns-4 t c =
     (omega (arith, h, q .fits)))) (c₂ .close .ensures)) (c₁ .if1 .left)
     (walks-placed rs n (c₂ .close .result .converter) (w .placed-so) figureBody f
     (c .before .before .body2 .ensures rs ready f sp n h))))
+
+-- its code meets what it promises, if those it calls do where less is left
+pub captioned-closed : {M : Type 1} (t : ℕ) → captioned-lts.Closed (captioned-calls t) (captioned-at t) captioned.Post M
+captioned-closed t =
+    captioned-lts.spec (captioned-calls t)
+    (captioned-at t)
+    captioned.Post
+    (captioned-enum-told t)
+    (captioned-body-requires t)
+    (captioned-enum-known-part t)
+    (captioned-add-refuse t)
+    (captioned-add-refuse-2 t)
+    (captioned-refuse-requires t)
+    (captioned-enum-known-part-2 t)
+    (captioned-slice-aggregate-put t)
+    (captioned-put-requires t)
+    (captioned-sub-convert t)
+    (captioned-part-convert-start t)
+    (captioned-part-convert-end t)
+    (captioned-sub-convert-2 t)
+    (captioned-part-convert-start-2 t)
+    (captioned-part-convert-end-2 t)
+    (captioned-add-convert t)
+    (captioned-add-convert-2 t)
+    (captioned-convert-requires t)
+    (captioned-slice-aggregate-close t)
+    (captioned-close-requires t)
+    (captioned-same-length t)
+    (captioned-returns t)
+    (captioned-body-requires-2 t)
+    (captioned-same-length-2 t)
+    (captioned-returns-2 t)
+    (captioned-returns-3 t)
+    (captioned-same-length-3 t)
+    (captioned-returns-4 t)

@@ -40,10 +40,10 @@ apart-here t c =
     apart (s .pre .1 .1 .1 .spells) (some-rows t (c .before)) (s .pre .1 .0 .few) (s .pre .1 .0 .short) _ _ (c .span-at .ensures .0)
     (c .span-at .ensures .1)
 
-pub clause-lr-went-requires : (t : ℕ) → clause-lr-lts.Need-went-requires (clause-lr-calls t) (clause-lr-at t) clause-lr.Post
+clause-lr-went-requires : (t : ℕ) → clause-lr-lts.Need-went-requires (clause-lr-calls t) (clause-lr-at t) clause-lr.Post
 clause-lr-went-requires t c κs = search needs
 
-pub clause-lr-returns : (t : ℕ) → clause-lr-lts.Need-returns (clause-lr-calls t) (clause-lr-at t) clause-lr.Post
+clause-lr-returns : (t : ℕ) → clause-lr-lts.Need-returns (clause-lr-calls t) (clause-lr-at t) clause-lr.Post
 clause-lr-returns t c =
     let c₁ = c .before .before .before .before .before in
     let c₂ = c₁ .before .before in
@@ -52,61 +52,61 @@ clause-lr-returns t c =
     (lr-none (meaning n) (contextOf rs (c₂ .args .c)) f (carryOf (c₂ .args .c)) (no-left f (sp .rows-are) (c .before .if1 .taken)))
     (agrees-done (c₂ .args .c) (c .went .ensures) refl refl (c₂ .pre .1 .0 .label) (wrote-nil _ _ (c₂ .pre .1 .0 .place)))
 
-pub clause-lr-span-at-requires : (t : ℕ) → clause-lr-lts.Need-span-at-requires (clause-lr-calls t) (clause-lr-at t) clause-lr.Post
+clause-lr-span-at-requires : (t : ℕ) → clause-lr-lts.Need-span-at-requires (clause-lr-calls t) (clause-lr-at t) clause-lr.Post
 clause-lr-span-at-requires t c κs =
     let c₁ = c .before .before .before .before .before in
     let c₂ = c₁ .before in
     head-spans (c₂ .pre .1 .1 .1 .spells) (some-rows t (c)) (c₂ .pre .1 .0 .few) (c₂ .pre .1 .0 .short)
 
-pub clause-lr-slice-aggregate-past-first : (t : ℕ) → clause-lr-lts.Need-slice-aggregate-past-first (clause-lr-calls t) (clause-lr-at t) clause-lr.Post
+clause-lr-slice-aggregate-past-first : (t : ℕ) → clause-lr-lts.Need-slice-aggregate-past-first (clause-lr-calls t) (clause-lr-at t) clause-lr.Post
 clause-lr-slice-aggregate-past-first t c = sym (length-take-le _ _ (apart-here t (c .before) .stop))
 
-pub clause-lr-past-first-requires : (t : ℕ) → clause-lr-lts.Need-past-first-requires (clause-lr-calls t) (clause-lr-at t) clause-lr.Post
+clause-lr-past-first-requires : (t : ℕ) → clause-lr-lts.Need-past-first-requires (clause-lr-calls t) (clause-lr-at t) clause-lr.Post
 clause-lr-past-first-requires t c κs = search needs
 
-pub clause-lr-put-lr-begin-requires : (t : ℕ) → clause-lr-lts.Need-put-lr-begin-requires (clause-lr-calls t) (clause-lr-at t) clause-lr.Post
+clause-lr-put-lr-begin-requires : (t : ℕ) → clause-lr-lts.Need-put-lr-begin-requires (clause-lr-calls t) (clause-lr-at t) clause-lr.Post
 clause-lr-put-lr-begin-requires t c κs =
     let c₁ = c .before .before .before .before .before in
     let c₂ = c₁ .before .before .before .before .before in
     (c₂ .pre .1 .0 .place, c₂ .pre .1 .0 .room)
 
-pub clause-lr-sub-each : (t : ℕ) → clause-lr-lts.Need-sub-each (clause-lr-calls t) (clause-lr-at t) clause-lr.Post
+clause-lr-sub-each : (t : ℕ) → clause-lr-lts.Need-sub-each (clause-lr-calls t) (clause-lr-at t) clause-lr.Post
 clause-lr-sub-each t c =
     let c₁ = c .before .before .before .before .before in
     let c₂ = c₁ .before .before in
     let x = apart-here t (c₂) in omega (arith, x .end)
 
-pub clause-lr-part-each-start : (t : ℕ) → clause-lr-lts.Need-part-each-start (clause-lr-calls t) (clause-lr-at t) clause-lr.Post
+clause-lr-part-each-start : (t : ℕ) → clause-lr-lts.Need-part-each-start (clause-lr-calls t) (clause-lr-at t) clause-lr.Post
 clause-lr-part-each-start t c =
     let c₁ = c .before .before .before .before .before in
     let c₂ = c₁ .before .before in
     let x = apart-here t (c₂) in omega (arith, x .end)
 
-pub clause-lr-part-each-end : (t : ℕ) → clause-lr-lts.Need-part-each-end (clause-lr-calls t) (clause-lr-at t) clause-lr.Post
+clause-lr-part-each-end : (t : ℕ) → clause-lr-lts.Need-part-each-end (clause-lr-calls t) (clause-lr-at t) clause-lr.Post
 clause-lr-part-each-end t c =
     let c₁ = c .before .before .before .before .before in
     let c₂ = c₁ .before .before in
     let x = apart-here t (c₂) in omega (arith, x .end)
 
-pub clause-lr-sub-each-2 : (t : ℕ) → clause-lr-lts.Need-sub-each-2 (clause-lr-calls t) (clause-lr-at t) clause-lr.Post
+clause-lr-sub-each-2 : (t : ℕ) → clause-lr-lts.Need-sub-each-2 (clause-lr-calls t) (clause-lr-at t) clause-lr.Post
 clause-lr-sub-each-2 t c =
     let c₁ = c .before .before .before .before .before in
     let c₂ = c₁ .before .before .before in
     let x = apart-here t (c₂) in omega (arith, x .stop)
 
-pub clause-lr-part-each-start-2 : (t : ℕ) → clause-lr-lts.Need-part-each-start-2 (clause-lr-calls t) (clause-lr-at t) clause-lr.Post
+clause-lr-part-each-start-2 : (t : ℕ) → clause-lr-lts.Need-part-each-start-2 (clause-lr-calls t) (clause-lr-at t) clause-lr.Post
 clause-lr-part-each-start-2 t c =
     let c₁ = c .before .before .before .before .before in
     let c₂ = c₁ .before .before .before in
     let x = apart-here t (c₂) in omega (arith, x .stop)
 
-pub clause-lr-part-each-end-2 : (t : ℕ) → clause-lr-lts.Need-part-each-end-2 (clause-lr-calls t) (clause-lr-at t) clause-lr.Post
+clause-lr-part-each-end-2 : (t : ℕ) → clause-lr-lts.Need-part-each-end-2 (clause-lr-calls t) (clause-lr-at t) clause-lr.Post
 clause-lr-part-each-end-2 t c =
     let c₁ = c .before .before .before .before .before in
     let c₂ = c₁ .before .before .before in
     let x = apart-here t (c₂) in omega (arith, x .stop)
 
-pub clause-lr-add-each : (t : ℕ) → clause-lr-lts.Need-add-each (clause-lr-calls t) (clause-lr-at t) clause-lr.Post
+clause-lr-add-each : (t : ℕ) → clause-lr-lts.Need-add-each (clause-lr-calls t) (clause-lr-at t) clause-lr.Post
 clause-lr-add-each t c =
     let c₁ = c .before .before .before .before .before in
     let c₂ = c₁ .before .before .before .before .before in
@@ -114,7 +114,7 @@ clause-lr-add-each t c =
     let c₄ = c₃ .before in
     omega (arith, c₄ .pre .1 .0 .low)
 
-pub clause-lr-add-each-2 : (t : ℕ) → clause-lr-lts.Need-add-each-2 (clause-lr-calls t) (clause-lr-at t) clause-lr.Post
+clause-lr-add-each-2 : (t : ℕ) → clause-lr-lts.Need-add-each-2 (clause-lr-calls t) (clause-lr-at t) clause-lr.Post
 clause-lr-add-each-2 t c =
     let c₁ = c .before .before .before .before .before in
     let c₂ = c₁ .before .before .before .before in
@@ -122,7 +122,7 @@ clause-lr-add-each-2 t c =
     let c₄ = c₃ .before .before in
     let x = apart-here t (c₂) in omega (arith, x .end, c₄ .pre .1 .0 .low)
 
-pub clause-lr-each-requires : (t : ℕ) → clause-lr-lts.Need-each-requires (clause-lr-calls t) (clause-lr-at t) clause-lr.Post
+clause-lr-each-requires : (t : ℕ) → clause-lr-lts.Need-each-requires (clause-lr-calls t) (clause-lr-at t) clause-lr.Post
 clause-lr-each-requires t c κs =
     let c₁ = c .before .before .before .before .before in
     let c₂ = c₁ .before .before .before .before in
@@ -144,7 +144,7 @@ clause-lr-each-requires t c κs =
       ),
     )
 
-pub clause-lr-close-lr-requires : (t : ℕ) → clause-lr-lts.Need-close-lr-requires (clause-lr-calls t) (clause-lr-at t) clause-lr.Post
+clause-lr-close-lr-requires : (t : ℕ) → clause-lr-lts.Need-close-lr-requires (clause-lr-calls t) (clause-lr-at t) clause-lr.Post
 clause-lr-close-lr-requires t c κs =
     let c₁ = c .before .before .before in
     let c₂ = c₁ .before .before .before .before .before in
@@ -157,7 +157,7 @@ clause-lr-close-lr-requires t c κs =
       omega (arith, c₁ .each .kept .0, c₃ .put-lr-begin .kept .0, c₆ .pre .1 .0 .room),
     )
 
-pub clause-lr-same-length : (t : ℕ) → clause-lr-lts.Need-same-length (clause-lr-calls t) (clause-lr-at t) clause-lr.Post
+clause-lr-same-length : (t : ℕ) → clause-lr-lts.Need-same-length (clause-lr-calls t) (clause-lr-at t) clause-lr.Post
 clause-lr-same-length t c =
     let c₁ = c .before .before .before .before .before in
     let c₂ = c₁ .before in
@@ -165,7 +165,7 @@ clause-lr-same-length t c =
     let c₄ = c₃ .before in
     c .before .before .close-lr .kept .0 ∙ c₂ .each .kept .0 ∙ c₄ .put-lr-begin .kept .0
 
-pub clause-lr-returns-2 : (t : ℕ) → clause-lr-lts.Need-returns-2 (clause-lr-calls t) (clause-lr-at t) clause-lr.Post
+clause-lr-returns-2 : (t : ℕ) → clause-lr-lts.Need-returns-2 (clause-lr-calls t) (clause-lr-at t) clause-lr.Post
 clause-lr-returns-2 t c =
     let c₁ = c .before .before .before .before .before in
     let c₂ = c₁ .before in
@@ -188,3 +188,28 @@ clause-lr-returns-2 t c =
     (loops-at (1 + c₆ .span-at .result .rows / 8) (c₉ .args .c) Spaced
     (loops-row (c₉ .args .c) Spaced (omega arith) (c₂ .each .ensures)) rs ready (x .others) (x .behind) n
     (omega (arith, h, ap sizes (x .is), size-more (x .tree) (x .others)))) (c .before .before .close-lr .ensures)))
+
+-- its code meets what it promises, if those it calls do where less is left
+pub clause-lr-closed : {M : Type 1} (t : ℕ) → clause-lr-lts.Closed (clause-lr-calls t) (clause-lr-at t) clause-lr.Post M
+clause-lr-closed t =
+    clause-lr-lts.spec (clause-lr-calls t)
+    (clause-lr-at t)
+    clause-lr.Post
+    (clause-lr-went-requires t)
+    (clause-lr-returns t)
+    (clause-lr-span-at-requires t)
+    (clause-lr-slice-aggregate-past-first t)
+    (clause-lr-past-first-requires t)
+    (clause-lr-put-lr-begin-requires t)
+    (clause-lr-sub-each t)
+    (clause-lr-part-each-start t)
+    (clause-lr-part-each-end t)
+    (clause-lr-sub-each-2 t)
+    (clause-lr-part-each-start-2 t)
+    (clause-lr-part-each-end-2 t)
+    (clause-lr-add-each t)
+    (clause-lr-add-each-2 t)
+    (clause-lr-each-requires t)
+    (clause-lr-close-lr-requires t)
+    (clause-lr-same-length t)
+    (clause-lr-returns-2 t)

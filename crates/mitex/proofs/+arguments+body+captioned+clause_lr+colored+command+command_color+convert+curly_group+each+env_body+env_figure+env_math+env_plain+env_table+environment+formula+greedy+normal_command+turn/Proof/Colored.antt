@@ -30,19 +30,19 @@ use Rattle.mitex.proofs.convert.Reads as convert
 use Rattle.mitex.proofs.each.Reads as each
 use Rattle.mitex.proofs.+arguments+body+captioned+clause_lr+colored+command+command_color+convert+curly_group+each+env_body+env_figure+env_math+env_plain+env_table+environment+formula+greedy+normal_command+turn.Proof.Setup.{colored-at, colored-calls}
 
-pub colored-put-black-requires : (t : ℕ) → colored-lts.Need-put-black-requires (colored-calls t) (colored-at t) colored.Post
+colored-put-black-requires : (t : ℕ) → colored-lts.Need-put-black-requires (colored-calls t) (colored-at t) colored.Post
 colored-put-black-requires t c κs =
     let c₁ = c .before .before .before .before .before in
     let c₂ = c₁ .before .before in
     (c₂ .pre .1 .0 .place, c₂ .pre .1 .0 .room)
 
-pub colored-went-requires : (t : ℕ) → colored-lts.Need-went-requires (colored-calls t) (colored-at t) colored.Post
+colored-went-requires : (t : ℕ) → colored-lts.Need-went-requires (colored-calls t) (colored-at t) colored.Post
 colored-went-requires t c κs = search needs
 
-pub colored-same-length : (t : ℕ) → colored-lts.Need-same-length (colored-calls t) (colored-at t) colored.Post
+colored-same-length : (t : ℕ) → colored-lts.Need-same-length (colored-calls t) (colored-at t) colored.Post
 colored-same-length t c = c .before .before .before .put-black .kept .0
 
-pub colored-returns : (t : ℕ) → colored-lts.Need-returns (colored-calls t) (colored-at t) colored.Post
+colored-returns : (t : ℕ) → colored-lts.Need-returns (colored-calls t) (colored-at t) colored.Post
 colored-returns t c =
     let c₁ = c .before .before .before in
     let c₂ = c₁ .before .before in
@@ -54,13 +54,13 @@ colored-returns t c =
     (no-left f (sp .rows-are) (c₂ .if1 .taken)))
     (agrees-done (c₄ .args .c) (c .went .ensures) refl refl (c₄ .pre .1 .0 .label) (c₁ .put-black .ensures))
 
-pub colored-span-at-requires : (t : ℕ) → colored-lts.Need-span-at-requires (colored-calls t) (colored-at t) colored.Post
+colored-span-at-requires : (t : ℕ) → colored-lts.Need-span-at-requires (colored-calls t) (colored-at t) colored.Post
 colored-span-at-requires t c κs =
     let c₁ = c .before .before .before .before .before in
     let c₂ = c₁ .before in
     head-spans (c₂ .pre .1 .1 .1 .0 .spells) (positive (c .if1 .left)) (c₂ .pre .1 .0 .few) (c₂ .pre .1 .0 .short)
 
-pub colored-slice-aggregate-convert : (t : ℕ) → colored-lts.Need-slice-aggregate-convert (colored-calls t) (colored-at t) colored.Post
+colored-slice-aggregate-convert : (t : ℕ) → colored-lts.Need-slice-aggregate-convert (colored-calls t) (colored-at t) colored.Post
 colored-slice-aggregate-convert t c =
     let c₁ = c .before .before .before in
     let c₂ = c₁ .before .before .before .before .before in
@@ -70,7 +70,7 @@ colored-slice-aggregate-convert t c =
     ((apart (c₃ .pre .1 .1 .1 .0 .spells) (positive (c₁ .if1 .left)) (c₃ .pre .1 .0 .few) (c₃ .pre .1 .0 .short) _ _
     (c .before .before .span-at .ensures .0) (c .before .before .span-at .ensures .1)) .end))
 
-pub colored-slice-aggregate-convert-2 : (t : ℕ) → colored-lts.Need-slice-aggregate-convert-2 (colored-calls t) (colored-at t) colored.Post
+colored-slice-aggregate-convert-2 : (t : ℕ) → colored-lts.Need-slice-aggregate-convert-2 (colored-calls t) (colored-at t) colored.Post
 colored-slice-aggregate-convert-2 t c =
     let c₁ = c .before .before .before in
     let c₂ = c₁ .before in
@@ -81,10 +81,10 @@ colored-slice-aggregate-convert-2 t c =
     ((apart (c₄ .pre .1 .1 .1 .0 .spells) (positive (c₂ .if1 .left)) (c₄ .pre .1 .0 .few) (c₄ .pre .1 .0 .short) _ _
     (c₁ .span-at .ensures .0) (c₁ .span-at .ensures .1)) .stop))
 
-pub colored-entered-mode-requires : (t : ℕ) → colored-lts.Need-entered-mode-requires (colored-calls t) (colored-at t) colored.Post
+colored-entered-mode-requires : (t : ℕ) → colored-lts.Need-entered-mode-requires (colored-calls t) (colored-at t) colored.Post
 colored-entered-mode-requires t c κs = search needs
 
-pub colored-convert-requires : (t : ℕ) → colored-lts.Need-convert-requires (colored-calls t) (colored-at t) colored.Post
+colored-convert-requires : (t : ℕ) → colored-lts.Need-convert-requires (colored-calls t) (colored-at t) colored.Post
 colored-convert-requires t c κs =
     let c₁ = c .before .before .before .before in
     let c₂ = c₁ .before in
@@ -105,10 +105,10 @@ colored-convert-requires t c κs =
       ),
     )
 
-pub colored-slice-aggregate-close : (t : ℕ) → colored-lts.Need-slice-aggregate-close (colored-calls t) (colored-at t) colored.Post
+colored-slice-aggregate-close : (t : ℕ) → colored-lts.Need-slice-aggregate-close (colored-calls t) (colored-at t) colored.Post
 colored-slice-aggregate-close t c = search needs
 
-pub colored-close-requires : (t : ℕ) → colored-lts.Need-close-requires (colored-calls t) (colored-at t) colored.Post
+colored-close-requires : (t : ℕ) → colored-lts.Need-close-requires (colored-calls t) (colored-at t) colored.Post
 colored-close-requires t c κs =
     let c₁ = c .before .before .before .before in
     let c₂ = c₁ .before in
@@ -125,13 +125,13 @@ colored-close-requires t c κs =
       omega (arith, c₆ .pre .1 .0 .room, c₁ .convert .kept .0),
     )
 
-pub colored-same-length-2 : (t : ℕ) → colored-lts.Need-same-length-2 (colored-calls t) (colored-at t) colored.Post
+colored-same-length-2 : (t : ℕ) → colored-lts.Need-same-length-2 (colored-calls t) (colored-at t) colored.Post
 colored-same-length-2 t c =
     let c₁ = c .before .before .before .before in
     let c₂ = c₁ .before .before .before .before .before in
     c₁ .close .kept .0 ∙ c₂ .convert .kept .0
 
-pub colored-returns-2 : (t : ℕ) → colored-lts.Need-returns-2 (colored-calls t) (colored-at t) colored.Post
+colored-returns-2 : (t : ℕ) → colored-lts.Need-returns-2 (colored-calls t) (colored-at t) colored.Post
 colored-returns-2 t c =
     let c₁ = c .before .before .before .before in
     let c₂ = c₁ .before .before .before .before .before in
@@ -155,7 +155,7 @@ colored-returns-2 t c =
     (converts-as (c₃ .entered-mode .ensures) (c₂ .convert .ensures) rs ready (x .tree) (x .first) n
     (omega (arith, h, ap sizes (x .is), size-more (x .tree) (x .others)))) (c₁ .close .ensures)) (c .if2 .taken))
 
-pub colored-sub-each : (t : ℕ) → colored-lts.Need-sub-each (colored-calls t) (colored-at t) colored.Post
+colored-sub-each : (t : ℕ) → colored-lts.Need-sub-each (colored-calls t) (colored-at t) colored.Post
 colored-sub-each t c =
     let c₁ = c .before .before .before .before .before in
     let c₂ = c₁ .before .before .before .before .before in
@@ -169,7 +169,7 @@ colored-sub-each t c =
     (c₄ .span-at .ensures .0) (c₄ .span-at .ensures .1)) in
     omega (arith, x .end)
 
-pub colored-part-each-start : (t : ℕ) → colored-lts.Need-part-each-start (colored-calls t) (colored-at t) colored.Post
+colored-part-each-start : (t : ℕ) → colored-lts.Need-part-each-start (colored-calls t) (colored-at t) colored.Post
 colored-part-each-start t c =
     let c₁ = c .before .before .before .before .before in
     let c₂ = c₁ .before .before .before .before .before in
@@ -183,7 +183,7 @@ colored-part-each-start t c =
     (c₄ .span-at .ensures .0) (c₄ .span-at .ensures .1)) in
     omega (arith, x .end)
 
-pub colored-part-each-end : (t : ℕ) → colored-lts.Need-part-each-end (colored-calls t) (colored-at t) colored.Post
+colored-part-each-end : (t : ℕ) → colored-lts.Need-part-each-end (colored-calls t) (colored-at t) colored.Post
 colored-part-each-end t c =
     let c₁ = c .before .before .before .before .before in
     let c₂ = c₁ .before .before .before .before .before in
@@ -197,7 +197,7 @@ colored-part-each-end t c =
     (c₄ .span-at .ensures .0) (c₄ .span-at .ensures .1)) in
     omega (arith, x .end)
 
-pub colored-sub-each-2 : (t : ℕ) → colored-lts.Need-sub-each-2 (colored-calls t) (colored-at t) colored.Post
+colored-sub-each-2 : (t : ℕ) → colored-lts.Need-sub-each-2 (colored-calls t) (colored-at t) colored.Post
 colored-sub-each-2 t c =
     let c₁ = c .before .before .before .before .before in
     let c₂ = c₁ .before .before .before .before .before in
@@ -211,7 +211,7 @@ colored-sub-each-2 t c =
     (c₄ .span-at .ensures .0) (c₄ .span-at .ensures .1)) in
     omega (arith, x .stop)
 
-pub colored-part-each-start-2 : (t : ℕ) → colored-lts.Need-part-each-start-2 (colored-calls t) (colored-at t) colored.Post
+colored-part-each-start-2 : (t : ℕ) → colored-lts.Need-part-each-start-2 (colored-calls t) (colored-at t) colored.Post
 colored-part-each-start-2 t c =
     let c₁ = c .before .before .before .before .before in
     let c₂ = c₁ .before .before .before .before .before in
@@ -225,7 +225,7 @@ colored-part-each-start-2 t c =
     (c₄ .span-at .ensures .0) (c₄ .span-at .ensures .1)) in
     omega (arith, x .stop)
 
-pub colored-part-each-end-2 : (t : ℕ) → colored-lts.Need-part-each-end-2 (colored-calls t) (colored-at t) colored.Post
+colored-part-each-end-2 : (t : ℕ) → colored-lts.Need-part-each-end-2 (colored-calls t) (colored-at t) colored.Post
 colored-part-each-end-2 t c =
     let c₁ = c .before .before .before .before .before in
     let c₂ = c₁ .before .before .before .before .before in
@@ -239,7 +239,7 @@ colored-part-each-end-2 t c =
     (c₄ .span-at .ensures .0) (c₄ .span-at .ensures .1)) in
     omega (arith, x .stop)
 
-pub colored-add-each : (t : ℕ) → colored-lts.Need-add-each (colored-calls t) (colored-at t) colored.Post
+colored-add-each : (t : ℕ) → colored-lts.Need-add-each (colored-calls t) (colored-at t) colored.Post
 colored-add-each t c =
     let c₁ = c .before .before .before .before .before in
     let c₂ = c₁ .before .before .before .before .before in
@@ -253,7 +253,7 @@ colored-add-each t c =
     (c₄ .span-at .ensures .0) (c₄ .span-at .ensures .1)) in
     omega (arith, x .end, c₇ .pre .1 .0 .low)
 
-pub colored-each-requires : (t : ℕ) → colored-lts.Need-each-requires (colored-calls t) (colored-at t) colored.Post
+colored-each-requires : (t : ℕ) → colored-lts.Need-each-requires (colored-calls t) (colored-at t) colored.Post
 colored-each-requires t c κs =
     let c₁ = c .before .before .before .before in
     let c₂ = c₁ .before .before .before .before in
@@ -284,7 +284,7 @@ colored-each-requires t c κs =
       ),
     )
 
-pub colored-close-body-requires : (t : ℕ) → colored-lts.Need-close-body-requires (colored-calls t) (colored-at t) colored.Post
+colored-close-body-requires : (t : ℕ) → colored-lts.Need-close-body-requires (colored-calls t) (colored-at t) colored.Post
 colored-close-body-requires t c κs =
     let c₁ = c .before .before .before in
     let c₂ = c₁ .before .before .before .before .before in
@@ -303,7 +303,7 @@ colored-close-body-requires t c κs =
       omega (arith, c₈ .pre .1 .0 .room, c₁ .each .kept .0, c₃ .close .kept .0, c₄ .convert .kept .0),
     )
 
-pub colored-same-length-3 : (t : ℕ) → colored-lts.Need-same-length-3 (colored-calls t) (colored-at t) colored.Post
+colored-same-length-3 : (t : ℕ) → colored-lts.Need-same-length-3 (colored-calls t) (colored-at t) colored.Post
 colored-same-length-3 t c =
     let c₁ = c .before .before .before .before .before in
     let c₂ = c₁ .before in
@@ -312,7 +312,7 @@ colored-same-length-3 t c =
     let c₅ = c₄ .before .before .before .before .before in
     c .before .before .close-body .kept .0 ∙ c₂ .each .kept .0 ∙ c₄ .close .kept .0 ∙ c₅ .convert .kept .0
 
-pub colored-returns-3 : (t : ℕ) → colored-lts.Need-returns-3 (colored-calls t) (colored-at t) colored.Post
+colored-returns-3 : (t : ℕ) → colored-lts.Need-returns-3 (colored-calls t) (colored-at t) colored.Post
 colored-returns-3 t c =
     let c₁ = c .before .before .before .before .before in
     let c₂ = c₁ .before in
@@ -347,3 +347,34 @@ colored-returns-3 t c =
     (loops-at (c₇ .span-at .result .rows / 8) (c₄ .close .result .converter) (c₁₀ .args .how) (c₂ .each .ensures) rs ready
     (x .others) (x .behind) n (omega (arith, h, ap sizes (x .is), size-more (x .tree) (x .others)))))
     (c .before .before .close-body .ensures)))
+
+-- its code meets what it promises, if those it calls do where less is left
+pub colored-closed : {M : Type 1} (t : ℕ) → colored-lts.Closed (colored-calls t) (colored-at t) colored.Post M
+colored-closed t =
+    colored-lts.spec (colored-calls t)
+    (colored-at t)
+    colored.Post
+    (colored-put-black-requires t)
+    (colored-went-requires t)
+    (colored-same-length t)
+    (colored-returns t)
+    (colored-span-at-requires t)
+    (colored-slice-aggregate-convert t)
+    (colored-slice-aggregate-convert-2 t)
+    (colored-entered-mode-requires t)
+    (colored-convert-requires t)
+    (colored-slice-aggregate-close t)
+    (colored-close-requires t)
+    (colored-same-length-2 t)
+    (colored-returns-2 t)
+    (colored-sub-each t)
+    (colored-part-each-start t)
+    (colored-part-each-end t)
+    (colored-sub-each-2 t)
+    (colored-part-each-start-2 t)
+    (colored-part-each-end-2 t)
+    (colored-add-each t)
+    (colored-each-requires t)
+    (colored-close-body-requires t)
+    (colored-same-length-3 t)
+    (colored-returns-3 t)

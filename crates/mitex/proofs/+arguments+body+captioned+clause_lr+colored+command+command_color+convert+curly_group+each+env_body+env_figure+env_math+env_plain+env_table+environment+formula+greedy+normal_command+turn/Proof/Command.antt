@@ -21,68 +21,68 @@ use Rattle.mitex.proofs.command_color.Reads as command-color
 use Rattle.mitex.proofs.normal_command.Reads as normal-command
 use Rattle.mitex.proofs.+arguments+body+captioned+clause_lr+colored+command+command_color+convert+curly_group+each+env_body+env_figure+env_math+env_plain+env_table+environment+formula+greedy+normal_command+turn.Proof.Setup.{command-at, command-calls}
 
-pub command-name-tok-requires : (t : ℕ) → command-lts.Need-name-tok-requires (command-calls t) (command-at t) command.Post
+command-name-tok-requires : (t : ℕ) → command-lts.Need-name-tok-requires (command-calls t) (command-at t) command.Post
 command-name-tok-requires t c κs =
     siblings-forest (c .before .before .before .before .before .pre .1 .0) (c .before .before .before .before .before .pre .1 .1 .1)
 
-pub command-past-first-requires : (t : ℕ) → command-lts.Need-past-first-requires (command-calls t) (command-at t) command.Post
+command-past-first-requires : (t : ℕ) → command-lts.Need-past-first-requires (command-calls t) (command-at t) command.Post
 command-past-first-requires t c κs = search needs
 
-pub command-command-of-requires : (t : ℕ) → command-lts.Need-command-of-requires (command-calls t) (command-at t) command.Post
+command-command-of-requires : (t : ℕ) → command-lts.Need-command-of-requires (command-calls t) (command-at t) command.Post
 command-command-of-requires t c κs = search needs
 
-pub command-enum-told : (t : ℕ) → command-lts.Need-enum-told (command-calls t) (command-at t) command.Post
+command-enum-told : (t : ℕ) → command-lts.Need-enum-told (command-calls t) (command-at t) command.Post
 command-enum-told t c = search needs
 
-pub command-convert-command-item-requires : (t : ℕ) → command-lts.Need-convert-command-item-requires (command-calls t) (command-at t) command.Post
+command-convert-command-item-requires : (t : ℕ) → command-lts.Need-convert-command-item-requires (command-calls t) (command-at t) command.Post
 command-convert-command-item-requires t c κs =
     let c₁ = c .before .before .before .before .before in
     let c₂ = c₁ .before .before .before .before .before in
     let c₃ = c₂ .before in
     ((c₃ .pre .1 .0 .place, c₃ .pre .1 .0 .room), c₃ .pre .1 .0 .label)
 
-pub command-enum-told-2 : (t : ℕ) → command-lts.Need-enum-told-2 (command-calls t) (command-at t) command.Post
+command-enum-told-2 : (t : ℕ) → command-lts.Need-enum-told-2 (command-calls t) (command-at t) command.Post
 command-enum-told-2 t c = search needs
 
-pub command-convert-command-label-requires : (t : ℕ) → command-lts.Need-convert-command-label-requires (command-calls t) (command-at t) command.Post
+command-convert-command-label-requires : (t : ℕ) → command-lts.Need-convert-command-label-requires (command-calls t) (command-at t) command.Post
 command-convert-command-label-requires t c κs =
     let c₁ = c .before .before .before .before .before in
     let c₂ = c₁ .before .before .before .before .before in
     let c₃ = c₂ .before in
     ((c₃ .pre .1 .0 .place, c₃ .pre .1 .0 .room), (siblings-forest (c₃ .pre .1 .0) (c₃ .pre .1 .1 .1), c₃ .pre .1 .0 .label))
 
-pub command-enum-told-3 : (t : ℕ) → command-lts.Need-enum-told-3 (command-calls t) (command-at t) command.Post
+command-enum-told-3 : (t : ℕ) → command-lts.Need-enum-told-3 (command-calls t) (command-at t) command.Post
 command-enum-told-3 t c = search needs
 
-pub command-convert-command-includegraphics-requires : (t : ℕ) → command-lts.Need-convert-command-includegraphics-requires (command-calls t) (command-at t) command.Post
+command-convert-command-includegraphics-requires : (t : ℕ) → command-lts.Need-convert-command-includegraphics-requires (command-calls t) (command-at t) command.Post
 command-convert-command-includegraphics-requires t c κs =
     let c₁ = c .before .before .before .before .before in
     let c₂ = c₁ .before .before .before .before .before in
     let c₃ = c₂ .before in
     (c₃ .pre .1 .0 .place, c₃ .pre .1 .0 .room, siblings-forest (c₃ .pre .1 .0) (c₃ .pre .1 .1 .1))
 
-pub command-went-requires : (t : ℕ) → command-lts.Need-went-requires (command-calls t) (command-at t) command.Post
+command-went-requires : (t : ℕ) → command-lts.Need-went-requires (command-calls t) (command-at t) command.Post
 command-went-requires t c κs = search needs
 
-pub command-enum-told-4 : (t : ℕ) → command-lts.Need-enum-told-4 (command-calls t) (command-at t) command.Post
+command-enum-told-4 : (t : ℕ) → command-lts.Need-enum-told-4 (command-calls t) (command-at t) command.Post
 command-enum-told-4 t c = search needs
 
-pub command-went-requires-2 : (t : ℕ) → command-lts.Need-went-requires-2 (command-calls t) (command-at t) command.Post
+command-went-requires-2 : (t : ℕ) → command-lts.Need-went-requires-2 (command-calls t) (command-at t) command.Post
 command-went-requires-2 t c κs = search needs
 
-pub command-enum-told-5 : (t : ℕ) → command-lts.Need-enum-told-5 (command-calls t) (command-at t) command.Post
+command-enum-told-5 : (t : ℕ) → command-lts.Need-enum-told-5 (command-calls t) (command-at t) command.Post
 command-enum-told-5 t c = search needs
 
-pub command-color-model-requires : (t : ℕ) → command-lts.Need-color-model-requires (command-calls t) (command-at t) command.Post
+command-color-model-requires : (t : ℕ) → command-lts.Need-color-model-requires (command-calls t) (command-at t) command.Post
 command-color-model-requires t c κs =
     let c₁ = c .before .before .before .before .before in
     let c₂ = c₁ .before .before .before .before .before in
     siblings-forest (c₂ .pre .1 .0) (c₂ .pre .1 .1 .1)
 
-pub command-body-loop-requires : (t : ℕ) → command-lts.Need-body-loop-requires (command-calls t) (command-at t) command.Post
+command-body-loop-requires : (t : ℕ) → command-lts.Need-body-loop-requires (command-calls t) (command-at t) command.Post
 command-body-loop-requires t c κs = search needs
 
-pub command-command-color-requires : (t : ℕ) → command-lts.Need-command-color-requires (command-calls t) (command-at t) command.Post
+command-command-color-requires : (t : ℕ) → command-lts.Need-command-color-requires (command-calls t) (command-at t) command.Post
 command-command-color-requires t c κs =
     let c₁ = c .before .before .before .before .before in
     let c₂ = c₁ .before .before .before .before .before in
@@ -101,19 +101,19 @@ command-command-color-requires t c κs =
       ),
     )
 
-pub command-enum-told-6 : (t : ℕ) → command-lts.Need-enum-told-6 (command-calls t) (command-at t) command.Post
+command-enum-told-6 : (t : ℕ) → command-lts.Need-enum-told-6 (command-calls t) (command-at t) command.Post
 command-enum-told-6 t c = search needs
 
-pub command-argument-model-requires : (t : ℕ) → command-lts.Need-argument-model-requires (command-calls t) (command-at t) command.Post
+command-argument-model-requires : (t : ℕ) → command-lts.Need-argument-model-requires (command-calls t) (command-at t) command.Post
 command-argument-model-requires t c κs =
     let c₁ = c .before .before .before .before .before in
     let c₂ = c₁ .before .before .before .before .before in
     siblings-forest (c₂ .pre .1 .0) (c₂ .pre .1 .1 .1)
 
-pub command-arguments-loop-requires : (t : ℕ) → command-lts.Need-arguments-loop-requires (command-calls t) (command-at t) command.Post
+command-arguments-loop-requires : (t : ℕ) → command-lts.Need-arguments-loop-requires (command-calls t) (command-at t) command.Post
 command-arguments-loop-requires t c κs = search needs
 
-pub command-command-color-requires-2 : (t : ℕ) → command-lts.Need-command-color-requires-2 (command-calls t) (command-at t) command.Post
+command-command-color-requires-2 : (t : ℕ) → command-lts.Need-command-color-requires-2 (command-calls t) (command-at t) command.Post
 command-command-color-requires-2 t c κs =
     let c₁ = c .before .before .before .before .before in
     let c₂ = c₁ .before .before .before .before .before in
@@ -132,20 +132,20 @@ command-command-color-requires-2 t c κs =
       ),
     )
 
-pub command-enum-told-7 : (t : ℕ) → command-lts.Need-enum-told-7 (command-calls t) (command-at t) command.Post
+command-enum-told-7 : (t : ℕ) → command-lts.Need-enum-told-7 (command-calls t) (command-at t) command.Post
 command-enum-told-7 t c = search needs
 
-pub command-normal-command-requires : (t : ℕ) → command-lts.Need-normal-command-requires (command-calls t) (command-at t) command.Post
+command-normal-command-requires : (t : ℕ) → command-lts.Need-normal-command-requires (command-calls t) (command-at t) command.Post
 command-normal-command-requires t c κs =
     let c₁ = c .before .before .before .before .before in
     let c₂ = c₁ .before .before .before .before .before in
     let c₃ = c₂ .before in
     (omega (arith, c₃ .pre .0), (c₃ .pre .1 .0, (c₃ .pre .1 .1 .0, c₃ .pre .1 .1 .1)))
 
-pub command-same-length : (t : ℕ) → command-lts.Need-same-length (command-calls t) (command-at t) command.Post
+command-same-length : (t : ℕ) → command-lts.Need-same-length (command-calls t) (command-at t) command.Post
 command-same-length t c = c .before .before .convert-command-item .kept .0
 
-pub command-returns : (t : ℕ) → command-lts.Need-returns (command-calls t) (command-at t) command.Post
+command-returns : (t : ℕ) → command-lts.Need-returns (command-calls t) (command-at t) command.Post
 command-returns t c =
     let c₁ = c .before .before .before .before in
     let c₂ = c₁ .before .before in
@@ -159,10 +159,10 @@ command-returns t c =
     (c₃ .past-first .ensures ∙ ap (drop 1) (c₄ .name-tok .ensures f (all-begins sp)))
     (sym (c₂ .command-of .ensures) ∙ c₁ .enum-told .given .1)) (c .before .before .convert-command-item .ensures)
 
-pub command-same-length-2 : (t : ℕ) → command-lts.Need-same-length-2 (command-calls t) (command-at t) command.Post
+command-same-length-2 : (t : ℕ) → command-lts.Need-same-length-2 (command-calls t) (command-at t) command.Post
 command-same-length-2 t c = c .before .before .convert-command-label .kept .0
 
-pub command-returns-2 : (t : ℕ) → command-lts.Need-returns-2 (command-calls t) (command-at t) command.Post
+command-returns-2 : (t : ℕ) → command-lts.Need-returns-2 (command-calls t) (command-at t) command.Post
 command-returns-2 t c =
     let c₁ = c .before .before .before .before in
     let c₂ = c₁ .before .before in
@@ -176,10 +176,10 @@ command-returns-2 t c =
     (c₃ .past-first .ensures ∙ ap (drop 1) (c₄ .name-tok .ensures f (all-begins sp)))
     (sym (c₂ .command-of .ensures) ∙ c₁ .enum-told2 .given .1)) (c .before .before .convert-command-label .ensures f sp)
 
-pub command-same-length-3 : (t : ℕ) → command-lts.Need-same-length-3 (command-calls t) (command-at t) command.Post
+command-same-length-3 : (t : ℕ) → command-lts.Need-same-length-3 (command-calls t) (command-at t) command.Post
 command-same-length-3 t c = c .before .before .before .convert-command-includegraphics .kept .0
 
-pub command-returns-3 : (t : ℕ) → command-lts.Need-returns-3 (command-calls t) (command-at t) command.Post
+command-returns-3 : (t : ℕ) → command-lts.Need-returns-3 (command-calls t) (command-at t) command.Post
 command-returns-3 t c =
     let c₁ = c .before .before .before in
     let c₂ = c₁ .before .before in
@@ -196,7 +196,7 @@ command-returns-3 t c =
     (agrees-done (c₇ .args .c) (c .went .ensures) refl refl (c₇ .pre .1 .0 .label)
     (c₁ .convert-command-includegraphics .ensures f (all-begins sp)))
 
-pub command-returns-4 : (t : ℕ) → command-lts.Need-returns-4 (command-calls t) (command-at t) command.Post
+command-returns-4 : (t : ℕ) → command-lts.Need-returns-4 (command-calls t) (command-at t) command.Post
 command-returns-4 t c =
     let c₁ = c .before .before .before in
     let c₂ = c₁ .before in
@@ -210,10 +210,10 @@ command-returns-4 t c =
     (sym (c₁ .command-of .ensures) ∙ c .before .enum-told4 .given .1))
     (agrees-done (c₅ .args .c) (c .went2 .ensures) refl refl (c₅ .pre .1 .0 .label) (wrote-nil _ _ (c₅ .pre .1 .0 .place)))
 
-pub command-same-length-4 : (t : ℕ) → command-lts.Need-same-length-4 (command-calls t) (command-at t) command.Post
+command-same-length-4 : (t : ℕ) → command-lts.Need-same-length-4 (command-calls t) (command-at t) command.Post
 command-same-length-4 t c = c .before .before .command-color .kept .0
 
-pub command-returns-5 : (t : ℕ) → command-lts.Need-returns-5 (command-calls t) (command-at t) command.Post
+command-returns-5 : (t : ℕ) → command-lts.Need-returns-5 (command-calls t) (command-at t) command.Post
 command-returns-5 t c =
     let c₁ = c .before .before .before in
     let c₂ = c₁ .before .before in
@@ -233,10 +233,10 @@ command-returns-5 t c =
     (colors-how (c₈ .args .c) (c₅ .past-first .result .now) (c₂ .color-model .result) (c₁ .body-loop .ensures)
     (c .before .before .command-color .ensures) rs ready (q .model) f sp (q .found) n h)
 
-pub command-same-length-5 : (t : ℕ) → command-lts.Need-same-length-5 (command-calls t) (command-at t) command.Post
+command-same-length-5 : (t : ℕ) → command-lts.Need-same-length-5 (command-calls t) (command-at t) command.Post
 command-same-length-5 t c = c .before .before .command-color2 .kept .0
 
-pub command-returns-6 : (t : ℕ) → command-lts.Need-returns-6 (command-calls t) (command-at t) command.Post
+command-returns-6 : (t : ℕ) → command-lts.Need-returns-6 (command-calls t) (command-at t) command.Post
 command-returns-6 t c =
     let c₁ = c .before .before .before in
     let c₂ = c₁ .before .before in
@@ -254,10 +254,10 @@ command-returns-6 t c =
     (colors-how (c₈ .args .c) (c₅ .past-first .result .now) (c₂ .argument-model .result) (c₁ .arguments-loop .ensures)
     (c .before .before .command-color2 .ensures) rs ready (argumentModel 1 f) f sp (c₂ .argument-model .ensures f sp) n h)
 
-pub command-same-length-6 : (t : ℕ) → command-lts.Need-same-length-6 (command-calls t) (command-at t) command.Post
+command-same-length-6 : (t : ℕ) → command-lts.Need-same-length-6 (command-calls t) (command-at t) command.Post
 command-same-length-6 t c = c .before .before .normal-command .kept .0
 
-pub command-returns-7 : (t : ℕ) → command-lts.Need-returns-7 (command-calls t) (command-at t) command.Post
+command-returns-7 : (t : ℕ) → command-lts.Need-returns-7 (command-calls t) (command-at t) command.Post
 command-returns-7 t c =
     let c₁ = c .before .before .before .before in
     let c₂ = c₁ .before .before in
@@ -271,3 +271,45 @@ command-returns-7 t c =
     (c₃ .past-first .ensures ∙ ap (drop 1) (c₄ .name-tok .ensures f (all-begins sp)))
     (sym (c₂ .command-of .ensures) ∙ c₁ .enum-told7 .given .1))
     (c .before .before .normal-command .ensures rs ready f sp n h)
+
+-- its code meets what it promises, if those it calls do where less is left
+pub command-closed : {M : Type 1} (t : ℕ) → command-lts.Closed (command-calls t) (command-at t) command.Post M
+command-closed t =
+    command-lts.spec (command-calls t)
+    (command-at t)
+    command.Post
+    (command-name-tok-requires t)
+    (command-past-first-requires t)
+    (command-command-of-requires t)
+    (command-enum-told t)
+    (command-convert-command-item-requires t)
+    (command-enum-told-2 t)
+    (command-convert-command-label-requires t)
+    (command-enum-told-3 t)
+    (command-convert-command-includegraphics-requires t)
+    (command-went-requires t)
+    (command-enum-told-4 t)
+    (command-went-requires-2 t)
+    (command-enum-told-5 t)
+    (command-color-model-requires t)
+    (command-body-loop-requires t)
+    (command-command-color-requires t)
+    (command-enum-told-6 t)
+    (command-argument-model-requires t)
+    (command-arguments-loop-requires t)
+    (command-command-color-requires-2 t)
+    (command-enum-told-7 t)
+    (command-normal-command-requires t)
+    (command-same-length t)
+    (command-returns t)
+    (command-same-length-2 t)
+    (command-returns-2 t)
+    (command-same-length-3 t)
+    (command-returns-3 t)
+    (command-returns-4 t)
+    (command-same-length-4 t)
+    (command-returns-5 t)
+    (command-same-length-5 t)
+    (command-returns-6 t)
+    (command-same-length-6 t)
+    (command-returns-7 t)

@@ -16,13 +16,13 @@ use Rattle.mitex.proofs.command_color.Reads as command-color
 use Rattle.mitex.proofs.+arguments+body+captioned+clause_lr+colored+command+command_color+convert+curly_group+each+env_body+env_figure+env_math+env_plain+env_table+environment+formula+greedy+normal_command+turn.Lts-command_color as command-color-lts
 use Rattle.mitex.proofs.+arguments+body+captioned+clause_lr+colored+command+command_color+convert+curly_group+each+env_body+env_figure+env_math+env_plain+env_table+environment+formula+greedy+normal_command+turn.Proof.Setup.{command-color-at, command-color-calls}
 
-pub command-color-get-cmd-requires : (t : ℕ) → command-color-lts.Need-get-cmd-requires (command-color-calls t) (command-color-at t) command-color.Post
+command-color-get-cmd-requires : (t : ℕ) → command-color-lts.Need-get-cmd-requires (command-color-calls t) (command-color-at t) command-color.Post
 command-color-get-cmd-requires t c κs =
     let c₁ = c .before .before .before .before .before in
     let c₂ = c₁ .before in
     c₂ .pre .1 .1 .0
 
-pub command-color-put-color-head-requires : (t : ℕ) → command-color-lts.Need-put-color-head-requires (command-color-calls t) (command-color-at t) command-color.Post
+command-color-put-color-head-requires : (t : ℕ) → command-color-lts.Need-put-color-head-requires (command-color-calls t) (command-color-at t) command-color.Post
 command-color-put-color-head-requires t c κs =
     let c₁ = c .before .before .before .before .before in
     let c₂ = c₁ .before .before .before in (
@@ -33,63 +33,63 @@ command-color-put-color-head-requires t c κs =
       ),
     )
 
-pub command-color-sub-colored : (t : ℕ) → command-color-lts.Need-sub-colored (command-color-calls t) (command-color-at t) command-color.Post
+command-color-sub-colored : (t : ℕ) → command-color-lts.Need-sub-colored (command-color-calls t) (command-color-at t) command-color.Post
 command-color-sub-colored t c =
     let c₁ = c .before .before .before .before .before in
     let c₂ = c₁ .before .before .before .before .before in
     let c₃ = c₂ .before .before .before in
     c₃ .pre .1 .1 .1 .1 .found .inside .low
 
-pub command-color-part-colored-start : (t : ℕ) → command-color-lts.Need-part-colored-start (command-color-calls t) (command-color-at t) command-color.Post
+command-color-part-colored-start : (t : ℕ) → command-color-lts.Need-part-colored-start (command-color-calls t) (command-color-at t) command-color.Post
 command-color-part-colored-start t c =
     let c₁ = c .before .before .before .before .before in
     let c₂ = c₁ .before .before .before .before .before in
     let c₃ = c₂ .before .before .before in
     c₃ .pre .1 .1 .1 .1 .found .inside .low
 
-pub command-color-part-colored-end : (t : ℕ) → command-color-lts.Need-part-colored-end (command-color-calls t) (command-color-at t) command-color.Post
+command-color-part-colored-end : (t : ℕ) → command-color-lts.Need-part-colored-end (command-color-calls t) (command-color-at t) command-color.Post
 command-color-part-colored-end t c =
     let c₁ = c .before .before .before .before .before in
     let c₂ = c₁ .before .before .before .before .before in
     let c₃ = c₂ .before .before .before in
     c₃ .pre .1 .1 .1 .1 .found .inside .high
 
-pub command-color-sub-colored-2 : (t : ℕ) → command-color-lts.Need-sub-colored-2 (command-color-calls t) (command-color-at t) command-color.Post
+command-color-sub-colored-2 : (t : ℕ) → command-color-lts.Need-sub-colored-2 (command-color-calls t) (command-color-at t) command-color.Post
 command-color-sub-colored-2 t c =
     let c₁ = c .before .before .before .before .before in
     let c₂ = c₁ .before .before .before .before .before in
     let c₃ = c₂ .before .before .before .before in
     c₃ .pre .1 .1 .1 .1 .found .inside .begun
 
-pub command-color-part-colored-start-2 : (t : ℕ) → command-color-lts.Need-part-colored-start-2 (command-color-calls t) (command-color-at t) command-color.Post
+command-color-part-colored-start-2 : (t : ℕ) → command-color-lts.Need-part-colored-start-2 (command-color-calls t) (command-color-at t) command-color.Post
 command-color-part-colored-start-2 t c =
     let c₁ = c .before .before .before .before .before in
     let c₂ = c₁ .before .before .before .before .before in
     let c₃ = c₂ .before .before .before .before in
     c₃ .pre .1 .1 .1 .1 .found .inside .begun
 
-pub command-color-part-colored-end-2 : (t : ℕ) → command-color-lts.Need-part-colored-end-2 (command-color-calls t) (command-color-at t) command-color.Post
+command-color-part-colored-end-2 : (t : ℕ) → command-color-lts.Need-part-colored-end-2 (command-color-calls t) (command-color-at t) command-color.Post
 command-color-part-colored-end-2 t c =
     let c₁ = c .before .before .before .before .before in
     let c₂ = c₁ .before .before .before .before .before in
     let c₃ = c₂ .before .before .before .before in
     c₃ .pre .1 .1 .1 .1 .found .inside .stop
 
-pub command-color-add-colored : (t : ℕ) → command-color-lts.Need-add-colored (command-color-calls t) (command-color-at t) command-color.Post
+command-color-add-colored : (t : ℕ) → command-color-lts.Need-add-colored (command-color-calls t) (command-color-at t) command-color.Post
 command-color-add-colored t c =
     let c₁ = c .before .before .before .before .before in
     let c₂ = c₁ .before .before .before .before .before in
     let c₃ = c₂ .before .before .before .before .before in
     omega (arith, c₃ .pre .1 .0 .low)
 
-pub command-color-add-colored-2 : (t : ℕ) → command-color-lts.Need-add-colored-2 (command-color-calls t) (command-color-at t) command-color.Post
+command-color-add-colored-2 : (t : ℕ) → command-color-lts.Need-add-colored-2 (command-color-calls t) (command-color-at t) command-color.Post
 command-color-add-colored-2 t c =
     let c₁ = c .before .before .before .before .before in
     let c₂ = c₁ .before .before .before .before .before in
     let c₃ = c₂ .before .before .before .before .before in
     let q = c₃ .pre .1 .1 .1 .1 .found .inside in omega (arith, c₃ .pre .1 .0 .low, q .low, q .high)
 
-pub command-color-colored-requires : (t : ℕ) → command-color-lts.Need-colored-requires (command-color-calls t) (command-color-at t) command-color.Post
+command-color-colored-requires : (t : ℕ) → command-color-lts.Need-colored-requires (command-color-calls t) (command-color-at t) command-color.Post
 command-color-colored-requires t c κs =
     let c₁ = c .before .before .before .before .before in
     let c₂ = c₁ .before in
@@ -106,13 +106,13 @@ command-color-colored-requires t c κs =
       ),
     )
 
-pub command-color-same-length : (t : ℕ) → command-color-lts.Need-same-length (command-color-calls t) (command-color-at t) command-color.Post
+command-color-same-length : (t : ℕ) → command-color-lts.Need-same-length (command-color-calls t) (command-color-at t) command-color.Post
 command-color-same-length t c =
     let c₁ = c .before .before .before .before .before in
     let c₂ = c₁ .before .before .before .before in
     c .before .before .colored .kept .0 ∙ c₂ .put-color-head .kept .0
 
-pub command-color-returns : (t : ℕ) → command-color-lts.Need-returns (command-color-calls t) (command-color-at t) command-color.Post
+command-color-returns : (t : ℕ) → command-color-lts.Need-returns (command-color-calls t) (command-color-at t) command-color.Post
 command-color-returns t c =
     let c₁ = c .before .before .before .before .before in
     let c₂ = c₁ .before .before .before .before in
@@ -129,3 +129,23 @@ command-color-returns t c =
     (agrees-shift (m .behind .rows)
     (colored-row (c₅ .args .c) (c₅ .args .how) (let r = found .row in omega arith) (c .before .before .colored .ensures) rs ready
     (m .behind .elements) (found .spells) n (omega (arith, h, found .fits)))))
+
+-- its code meets what it promises, if those it calls do where less is left
+pub command-color-closed : {M : Type 1} (t : ℕ) → command-color-lts.Closed (command-color-calls t) (command-color-at t) command-color.Post M
+command-color-closed t =
+    command-color-lts.spec (command-color-calls t)
+    (command-color-at t)
+    command-color.Post
+    (command-color-get-cmd-requires t)
+    (command-color-put-color-head-requires t)
+    (command-color-sub-colored t)
+    (command-color-part-colored-start t)
+    (command-color-part-colored-end t)
+    (command-color-sub-colored-2 t)
+    (command-color-part-colored-start-2 t)
+    (command-color-part-colored-end-2 t)
+    (command-color-add-colored t)
+    (command-color-add-colored-2 t)
+    (command-color-colored-requires t)
+    (command-color-same-length t)
+    (command-color-returns t)

@@ -18,16 +18,16 @@ use Rattle.mitex.proofs.+arguments+body+captioned+clause_lr+colored+com
 use Rattle.mitex.proofs.each.Reads as each
 use Rattle.mitex.proofs.+arguments+body+captioned+clause_lr+colored+command+command_color+convert+curly_group+each+env_body+env_figure+env_math+env_plain+env_table+environment+formula+greedy+normal_command+turn.Proof.Setup.{curly-group-at, curly-group-calls}
 
-pub curly-group-enum-told : (t : ℕ) → curly-group-lts.Need-enum-told (curly-group-calls t) (curly-group-at t) curly-group.Post
+curly-group-enum-told : (t : ℕ) → curly-group-lts.Need-enum-told (curly-group-calls t) (curly-group-at t) curly-group.Post
 curly-group-enum-told t c = search needs
 
-pub curly-group-add-each : (t : ℕ) → curly-group-lts.Need-add-each (curly-group-calls t) (curly-group-at t) curly-group.Post
+curly-group-add-each : (t : ℕ) → curly-group-lts.Need-add-each (curly-group-calls t) (curly-group-at t) curly-group.Post
 curly-group-add-each t c =
     let c₁ = c .before .before .before .before .before in
     let c₂ = c₁ .before .before .before in
     omega (arith, c₂ .pre .1 .0 .low)
 
-pub curly-group-each-requires : (t : ℕ) → curly-group-lts.Need-each-requires (curly-group-calls t) (curly-group-at t) curly-group.Post
+curly-group-each-requires : (t : ℕ) → curly-group-lts.Need-each-requires (curly-group-calls t) (curly-group-at t) curly-group.Post
 curly-group-each-requires t c κs =
     let c₁ = c .before .before .before .before .before in
     let c₂ = c₁ .before .before .before in
@@ -36,25 +36,25 @@ curly-group-each-requires t c κs =
       (room-each r (c₂ .args .c) (omega arith) (r .label) refl (r .place), (c₂ .pre .1 .1 .0, (c₂ .pre .1 .1 .1, omega (arith, r .few)))),
     )
 
-pub curly-group-enum-told-2 : (t : ℕ) → curly-group-lts.Need-enum-told-2 (curly-group-calls t) (curly-group-at t) curly-group.Post
+curly-group-enum-told-2 : (t : ℕ) → curly-group-lts.Need-enum-told-2 (curly-group-calls t) (curly-group-at t) curly-group.Post
 curly-group-enum-told-2 t c = search needs
 
-pub curly-group-add-each-2 : (t : ℕ) → curly-group-lts.Need-add-each-2 (curly-group-calls t) (curly-group-at t) curly-group.Post
+curly-group-add-each-2 : (t : ℕ) → curly-group-lts.Need-add-each-2 (curly-group-calls t) (curly-group-at t) curly-group.Post
 curly-group-add-each-2 t c =
     let c₁ = c .before .before .before .before .before in
     let c₂ = c₁ .before .before .before in
     omega (arith, c₂ .pre .1 .0 .low)
 
-pub curly-group-group-env-requires : (t : ℕ) → curly-group-lts.Need-group-env-requires (curly-group-calls t) (curly-group-at t) curly-group.Post
+curly-group-group-env-requires : (t : ℕ) → curly-group-lts.Need-group-env-requires (curly-group-calls t) (curly-group-at t) curly-group.Post
 curly-group-group-env-requires t c κs = search needs
 
-pub curly-group-entered-env-requires : (t : ℕ) → curly-group-lts.Need-entered-env-requires (curly-group-calls t) (curly-group-at t) curly-group.Post
+curly-group-entered-env-requires : (t : ℕ) → curly-group-lts.Need-entered-env-requires (curly-group-calls t) (curly-group-at t) curly-group.Post
 curly-group-entered-env-requires t c κs =
     let c₁ = c .before .before .before .before .before in
     let c₂ = c₁ .before .before .before .before in
     omega (arith, ap stepOf (c .group-env .ensures), group-step (c₂ .args .c .env), c₂ .pre .1 .0 .deep)
 
-pub curly-group-each-requires-2 : (t : ℕ) → curly-group-lts.Need-each-requires-2 (curly-group-calls t) (curly-group-at t) curly-group.Post
+curly-group-each-requires-2 : (t : ℕ) → curly-group-lts.Need-each-requires-2 (curly-group-calls t) (curly-group-at t) curly-group.Post
 curly-group-each-requires-2 t c κs =
     let c₁ = c .before .before .before .before .before in
     let c₂ = c₁ .before .before .before .before .before in
@@ -69,10 +69,10 @@ curly-group-each-requires-2 t c κs =
       ),
     )
 
-pub curly-group-slice-aggregate-close : (t : ℕ) → curly-group-lts.Need-slice-aggregate-close (curly-group-calls t) (curly-group-at t) curly-group.Post
+curly-group-slice-aggregate-close : (t : ℕ) → curly-group-lts.Need-slice-aggregate-close (curly-group-calls t) (curly-group-at t) curly-group.Post
 curly-group-slice-aggregate-close t c = search needs
 
-pub curly-group-close-requires : (t : ℕ) → curly-group-lts.Need-close-requires (curly-group-calls t) (curly-group-at t) curly-group.Post
+curly-group-close-requires : (t : ℕ) → curly-group-lts.Need-close-requires (curly-group-calls t) (curly-group-at t) curly-group.Post
 curly-group-close-requires t c κs =
     let c₁ = c .before .before .before .before in
     let c₂ = c₁ .before in
@@ -82,10 +82,10 @@ curly-group-close-requires t c κs =
       omega (arith, c₁ .each2 .kept .0, c₄ .pre .1 .0 .room),
     )
 
-pub curly-group-same-length : (t : ℕ) → curly-group-lts.Need-same-length (curly-group-calls t) (curly-group-at t) curly-group.Post
+curly-group-same-length : (t : ℕ) → curly-group-lts.Need-same-length (curly-group-calls t) (curly-group-at t) curly-group.Post
 curly-group-same-length t c = c .before .before .each .kept .0
 
-pub curly-group-returns : (t : ℕ) → curly-group-lts.Need-returns (curly-group-calls t) (curly-group-at t) curly-group.Post
+curly-group-returns : (t : ℕ) → curly-group-lts.Need-returns (curly-group-calls t) (curly-group-at t) curly-group.Post
 curly-group-returns t c =
     let c₁ = c .before .before .before .before in
     let c₂ = c₁ .before .before .before .before .before in
@@ -94,13 +94,13 @@ curly-group-returns t c =
     agrees-as (curly-text (meaning n) (contextOf rs (c₃ .args .c)) f (carryOf (c₃ .args .c)) (c₁ .enum-told .given .1))
     (loops-at 1 (c₃ .args .c) Plain (c .before .before .each .ensures) rs ready f sp n h)
 
-pub curly-group-same-length-2 : (t : ℕ) → curly-group-lts.Need-same-length-2 (curly-group-calls t) (curly-group-at t) curly-group.Post
+curly-group-same-length-2 : (t : ℕ) → curly-group-lts.Need-same-length-2 (curly-group-calls t) (curly-group-at t) curly-group.Post
 curly-group-same-length-2 t c =
     let c₁ = c .before .before .before .before .before in
     let c₂ = c₁ .before .before in
     c .before .before .close .kept .0 ∙ c₂ .each2 .kept .0
 
-pub curly-group-returns-2 : (t : ℕ) → curly-group-lts.Need-returns-2 (curly-group-calls t) (curly-group-at t) curly-group.Post
+curly-group-returns-2 : (t : ℕ) → curly-group-lts.Need-returns-2 (curly-group-calls t) (curly-group-at t) curly-group.Post
 curly-group-returns-2 t c =
     let c₁ = c .before .before .before .before .before in
     let c₂ = c₁ .before .before in
@@ -117,3 +117,24 @@ curly-group-returns-2 t c =
     (loops-at 1 (enteredEnv (c₄ .group-env .result) (c₇ .args .c)) (Curly true)
     (loops-as (Curly true) (c₃ .entered-env .ensures) (c₂ .each2 .ensures)) rs ready f sp n h)
     (c .before .before .close .ensures))
+
+-- its code meets what it promises, if those it calls do where less is left
+pub curly-group-closed : {M : Type 1} (t : ℕ) → curly-group-lts.Closed (curly-group-calls t) (curly-group-at t) curly-group.Post M
+curly-group-closed t =
+    curly-group-lts.spec (curly-group-calls t)
+    (curly-group-at t)
+    curly-group.Post
+    (curly-group-enum-told t)
+    (curly-group-add-each t)
+    (curly-group-each-requires t)
+    (curly-group-enum-told-2 t)
+    (curly-group-add-each-2 t)
+    (curly-group-group-env-requires t)
+    (curly-group-entered-env-requires t)
+    (curly-group-each-requires-2 t)
+    (curly-group-slice-aggregate-close t)
+    (curly-group-close-requires t)
+    (curly-group-same-length t)
+    (curly-group-returns t)
+    (curly-group-same-length-2 t)
+    (curly-group-returns-2 t)

@@ -64,7 +64,7 @@ behind-here t c =
     let l = c .before .before .loop in
     child-behind (start t c .pre .1 .0) (l .inv .0) (c .before .loop-test .taken) _ _ (c .span-at .ensures .0) (c .span-at .ensures .1) (left-spells t c .spells)
 
-pub each-loop-holds : (t : ℕ) → each-lts.Need-loop-holds (each-calls t) (each-at t) each.Post each-Inv-loop each-μ-loop
+each-loop-holds : (t : ℕ) → each-lts.Need-loop-holds (each-calls t) (each-at t) each.Post each-Inv-loop each-μ-loop
 each-loop-holds t c = (
   stands-start (c .before .before .before .before .before .pre .1 .0),
   omega arith,
@@ -75,7 +75,7 @@ each-loop-holds t c = (
       (c .before .before .before .before .before .args .how) g (carryOf (c .before .before .before .before .before .args .c))) sp h,
 )
 
-pub each-span-at-requires : (t : ℕ) → each-lts.Need-span-at-requires (each-calls t) (each-at t) each.Post each-Inv-loop each-μ-loop
+each-span-at-requires : (t : ℕ) → each-lts.Need-span-at-requires (each-calls t) (each-at t) each.Post each-Inv-loop each-μ-loop
 each-span-at-requires t c κs =
     let c₁ = c .before .before .before .before .before in
     let c₂ = c₁ .before .before in
@@ -83,72 +83,72 @@ each-span-at-requires t c κs =
     (c .before .loop .inv .2 (c₂ .pre .1 .1 .0 .rules) (c₂ .pre .1 .1 .0 .ready) (c₂ .pre .1 .1 .1 .0 .forest)
     (c₂ .pre .1 .1 .1 .0 .spells) (sizes (c₂ .pre .1 .1 .1 .0 .forest)) (omega arith) .spells)
 
-pub each-add-e : (t : ℕ) → each-lts.Need-add-e (each-calls t) (each-at t) each.Post each-Inv-loop each-μ-loop
+each-add-e : (t : ℕ) → each-lts.Need-add-e (each-calls t) (each-at t) each.Post each-Inv-loop each-μ-loop
 each-add-e t c = let x = child-here t (c .before) in omega (arith, x .end, x .room .few)
 
-pub each-add-u : (t : ℕ) → each-lts.Need-add-u (each-calls t) (each-at t) each.Post each-Inv-loop each-μ-loop
+each-add-u : (t : ℕ) → each-lts.Need-add-u (each-calls t) (each-at t) each.Post each-Inv-loop each-μ-loop
 each-add-u t c =
     let c₁ = c .before .before .before .before .before in
     let c₂ = c₁ .before .before .before .before .before in
     let x = child-here t (c .before .before) in let r = c₂ .pre .1 .0 in omega (arith, x .stop, r .short)
 
-pub each-sub-act-of : (t : ℕ) → each-lts.Need-sub-act-of (each-calls t) (each-at t) each.Post each-Inv-loop each-μ-loop
+each-sub-act-of : (t : ℕ) → each-lts.Need-sub-act-of (each-calls t) (each-at t) each.Post each-Inv-loop each-μ-loop
 each-sub-act-of t c = omega arith
 
-pub each-part-act-of-start : (t : ℕ) → each-lts.Need-part-act-of-start (each-calls t) (each-at t) each.Post each-Inv-loop each-μ-loop
+each-part-act-of-start : (t : ℕ) → each-lts.Need-part-act-of-start (each-calls t) (each-at t) each.Post each-Inv-loop each-μ-loop
 each-part-act-of-start t c = omega arith
 
-pub each-part-act-of-end : (t : ℕ) → each-lts.Need-part-act-of-end (each-calls t) (each-at t) each.Post each-Inv-loop each-μ-loop
+each-part-act-of-end : (t : ℕ) → each-lts.Need-part-act-of-end (each-calls t) (each-at t) each.Post each-Inv-loop each-μ-loop
 each-part-act-of-end t c = let x = child-here t (c .before .before) in omega (arith, x .end)
 
-pub each-sub-act-of-2 : (t : ℕ) → each-lts.Need-sub-act-of-2 (each-calls t) (each-at t) each.Post each-Inv-loop each-μ-loop
+each-sub-act-of-2 : (t : ℕ) → each-lts.Need-sub-act-of-2 (each-calls t) (each-at t) each.Post each-Inv-loop each-μ-loop
 each-sub-act-of-2 t c = omega arith
 
-pub each-part-act-of-start-2 : (t : ℕ) → each-lts.Need-part-act-of-start-2 (each-calls t) (each-at t) each.Post each-Inv-loop each-μ-loop
+each-part-act-of-start-2 : (t : ℕ) → each-lts.Need-part-act-of-start-2 (each-calls t) (each-at t) each.Post each-Inv-loop each-μ-loop
 each-part-act-of-start-2 t c = omega arith
 
-pub each-part-act-of-end-2 : (t : ℕ) → each-lts.Need-part-act-of-end-2 (each-calls t) (each-at t) each.Post each-Inv-loop each-μ-loop
+each-part-act-of-end-2 : (t : ℕ) → each-lts.Need-part-act-of-end-2 (each-calls t) (each-at t) each.Post each-Inv-loop each-μ-loop
 each-part-act-of-end-2 t c = let x = child-here t (c .before .before .before) in omega (arith, x .stop)
 
-pub each-sub-act-of-3 : (t : ℕ) → each-lts.Need-sub-act-of-3 (each-calls t) (each-at t) each.Post each-Inv-loop each-μ-loop
+each-sub-act-of-3 : (t : ℕ) → each-lts.Need-sub-act-of-3 (each-calls t) (each-at t) each.Post each-Inv-loop each-μ-loop
 each-sub-act-of-3 t c = let x = child-here t (c .before .before .before .before) in omega (arith, x .end)
 
-pub each-part-act-of-start-3 : (t : ℕ) → each-lts.Need-part-act-of-start-3 (each-calls t) (each-at t) each.Post each-Inv-loop each-μ-loop
+each-part-act-of-start-3 : (t : ℕ) → each-lts.Need-part-act-of-start-3 (each-calls t) (each-at t) each.Post each-Inv-loop each-μ-loop
 each-part-act-of-start-3 t c = let x = child-here t (c .before .before .before .before) in omega (arith, x .end)
 
-pub each-part-act-of-end-3 : (t : ℕ) → each-lts.Need-part-act-of-end-3 (each-calls t) (each-at t) each.Post each-Inv-loop each-μ-loop
+each-part-act-of-end-3 : (t : ℕ) → each-lts.Need-part-act-of-end-3 (each-calls t) (each-at t) each.Post each-Inv-loop each-μ-loop
 each-part-act-of-end-3 t c = let x = child-here t (c .before .before .before .before) in omega (arith, x .end)
 
-pub each-act-of-requires : (t : ℕ) → each-lts.Need-act-of-requires (each-calls t) (each-at t) each.Post each-Inv-loop each-μ-loop
+each-act-of-requires : (t : ℕ) → each-lts.Need-act-of-requires (each-calls t) (each-at t) each.Post each-Inv-loop each-μ-loop
 each-act-of-requires t c κs =
     let x = child-here t (c .before .before .before .before .before) in
     (record { few = x .room .few; short = x .room .short; child = x .given }, behind-here t (c .before .before .before .before .before))
 
-pub each-sub-turn : (t : ℕ) → each-lts.Need-sub-turn (each-calls t) (each-at t) each.Post each-Inv-loop each-μ-loop
+each-sub-turn : (t : ℕ) → each-lts.Need-sub-turn (each-calls t) (each-at t) each.Post each-Inv-loop each-μ-loop
 each-sub-turn t c = omega arith
 
-pub each-part-turn-start : (t : ℕ) → each-lts.Need-part-turn-start (each-calls t) (each-at t) each.Post each-Inv-loop each-μ-loop
+each-part-turn-start : (t : ℕ) → each-lts.Need-part-turn-start (each-calls t) (each-at t) each.Post each-Inv-loop each-μ-loop
 each-part-turn-start t c = omega arith
 
-pub each-part-turn-end : (t : ℕ) → each-lts.Need-part-turn-end (each-calls t) (each-at t) each.Post each-Inv-loop each-μ-loop
+each-part-turn-end : (t : ℕ) → each-lts.Need-part-turn-end (each-calls t) (each-at t) each.Post each-Inv-loop each-μ-loop
 each-part-turn-end t c =
     let c₁ = c .before .before .before .before .before in
     let c₂ = c₁ .before .before in
     let x = child-here t (c₂) in omega (arith, x .end)
 
-pub each-sub-turn-2 : (t : ℕ) → each-lts.Need-sub-turn-2 (each-calls t) (each-at t) each.Post each-Inv-loop each-μ-loop
+each-sub-turn-2 : (t : ℕ) → each-lts.Need-sub-turn-2 (each-calls t) (each-at t) each.Post each-Inv-loop each-μ-loop
 each-sub-turn-2 t c = omega arith
 
-pub each-part-turn-start-2 : (t : ℕ) → each-lts.Need-part-turn-start-2 (each-calls t) (each-at t) each.Post each-Inv-loop each-μ-loop
+each-part-turn-start-2 : (t : ℕ) → each-lts.Need-part-turn-start-2 (each-calls t) (each-at t) each.Post each-Inv-loop each-μ-loop
 each-part-turn-start-2 t c = omega arith
 
-pub each-part-turn-end-2 : (t : ℕ) → each-lts.Need-part-turn-end-2 (each-calls t) (each-at t) each.Post each-Inv-loop each-μ-loop
+each-part-turn-end-2 : (t : ℕ) → each-lts.Need-part-turn-end-2 (each-calls t) (each-at t) each.Post each-Inv-loop each-μ-loop
 each-part-turn-end-2 t c =
     let c₁ = c .before .before .before .before .before in
     let c₂ = c₁ .before .before .before in
     let x = child-here t (c₂) in omega (arith, x .stop)
 
-pub each-add-turn : (t : ℕ) → each-lts.Need-add-turn (each-calls t) (each-at t) each.Post each-Inv-loop each-μ-loop
+each-add-turn : (t : ℕ) → each-lts.Need-add-turn (each-calls t) (each-at t) each.Post each-Inv-loop each-μ-loop
 each-add-turn t c =
     let c₁ = c .before .before .before .before .before in
     let c₂ = c₁ .before .before .before .before in
@@ -156,7 +156,7 @@ each-add-turn t c =
     let c₄ = c₃ .before .before .before in
     let x = child-here t (c₂) in omega (arith, x .end, c₄ .pre .1 .0 .low)
 
-pub each-turn-requires : (t : ℕ) → each-lts.Need-turn-requires (each-calls t) (each-at t) each.Post each-Inv-loop each-μ-loop
+each-turn-requires : (t : ℕ) → each-lts.Need-turn-requires (each-calls t) (each-at t) each.Post each-Inv-loop each-μ-loop
 each-turn-requires t c κs =
     let c₁ = c .before .before .before .before .before in
     let c₂ = c₁ .before .before .before .before in
@@ -164,7 +164,7 @@ each-turn-requires t c κs =
     let c₄ = c₃ .before .before .before in
     let x = child-here t (c₂) in (omega (arith, x .long, x .end, c₄ .pre .0), (x .room, (c₄ .pre .1 .1 .0, x .given)))
 
-pub each-same-length : (t : ℕ) → each-lts.Need-same-length (each-calls t) (each-at t) each.Post each-Inv-loop each-μ-loop
+each-same-length : (t : ℕ) → each-lts.Need-same-length (each-calls t) (each-at t) each.Post each-Inv-loop each-μ-loop
 each-same-length t c =
     let c₁ = c .before .before .before .before in
     let c₂ = c₁ .before .before .before .before .before in
@@ -172,7 +172,7 @@ each-same-length t c =
     let c₄ = c₃ .before .before in
     c₁ .turn .kept .0 ∙ c₄ .loop .inv .0 .same
 
-pub each-returns : (t : ℕ) → each-lts.Need-returns (each-calls t) (each-at t) each.Post each-Inv-loop each-μ-loop
+each-returns : (t : ℕ) → each-lts.Need-returns (each-calls t) (each-at t) each.Post each-Inv-loop each-μ-loop
 each-returns t c =
     let c₁ = c .before .before .before .before in
     let c₂ = c₁ .before .before .before .before in
@@ -188,7 +188,7 @@ each-returns t c =
     (λ u g su e. c₂ .act-of .ensures u g su (rest-rows (c₈ .args .rows .now) (c₆ .loop .i + c₄ .span-at .result .rows) ∙ e)) rs ready n
     (c₆ .loop .inv .2 rs ready f sp n h) (c .if1 .taken)
 
-pub each-shared-slice-read-next-loop : (t : ℕ) → each-lts.Need-shared-slice-read-next-loop (each-calls t) (each-at t) each.Post each-Inv-loop each-μ-loop
+each-shared-slice-read-next-loop : (t : ℕ) → each-lts.Need-shared-slice-read-next-loop (each-calls t) (each-at t) each.Post each-Inv-loop each-μ-loop
 each-shared-slice-read-next-loop t c =
     let c₁ = c .before .before .before .before .before in
     let c₂ = c₁ .before .before .before .before .before in
@@ -196,7 +196,7 @@ each-shared-slice-read-next-loop t c =
     let c₄ = c₃ .before in
     c₄ .loop-test .taken
 
-pub each-next-loop-requires : (t : ℕ) → each-lts.Need-next-loop-requires (each-calls t) (each-at t) each.Post each-Inv-loop each-μ-loop
+each-next-loop-requires : (t : ℕ) → each-lts.Need-next-loop-requires (each-calls t) (each-at t) each.Post each-Inv-loop each-μ-loop
 each-next-loop-requires t c κs =
     let c₁ = c .before .before .before .before .before in
     let c₂ = c₁ .before .before .before .before .before in
@@ -207,7 +207,7 @@ each-next-loop-requires t c κs =
     let c₇ = c₆ .before in
     omega (arith, c₅ .loop .inv .1, c₄ .loop-test .taken, c₇ .pre .1 .1 .1 .1)
 
-pub each-loop-less : (t : ℕ) → each-lts.Need-loop-less (each-calls t) (each-at t) each.Post each-Inv-loop each-μ-loop
+each-loop-less : (t : ℕ) → each-lts.Need-loop-less (each-calls t) (each-at t) each.Post each-Inv-loop each-μ-loop
 each-loop-less t c =
     let c₁ = c .before .before .before .before .before in
     let c₂ = c₁ .before .before .before .before .before in
@@ -215,7 +215,7 @@ each-loop-less t c =
     let c₄ = c₃ .before .before in
     let x = child-here t (c₄) in omega (arith, x .some, x .end)
 
-pub each-loop-again : (t : ℕ) → each-lts.Need-loop-again (each-calls t) (each-at t) each.Post each-Inv-loop each-μ-loop
+each-loop-again : (t : ℕ) → each-lts.Need-loop-again (each-calls t) (each-at t) each.Post each-Inv-loop each-μ-loop
 each-loop-again t c =
     let c₁ = c .before .before .before in
     let c₂ = c₁ .before .before .before .before in
@@ -243,22 +243,22 @@ each-loop-again t c =
           (c₇ .loop .inv .2 rs ready f sp n h) (c₁ .if1 .left) _ (c .before .next-loop .ensures),
     )
 
-pub each-put-loop-end-requires : (t : ℕ) → each-lts.Need-put-loop-end-requires (each-calls t) (each-at t) each.Post each-Inv-loop each-μ-loop
+each-put-loop-end-requires : (t : ℕ) → each-lts.Need-put-loop-end-requires (each-calls t) (each-at t) each.Post each-Inv-loop each-μ-loop
 each-put-loop-end-requires t c κs =
     let c₁ = c .before .before .before .before .before in
     let c₂ = c₁ .before .before .before in
     (c .before .before .loop .inv .0 .place, omega (arith, c .before .before .loop .inv .0 .same, c₂ .pre .1 .0 .room))
 
-pub each-went-requires : (t : ℕ) → each-lts.Need-went-requires (each-calls t) (each-at t) each.Post each-Inv-loop each-μ-loop
+each-went-requires : (t : ℕ) → each-lts.Need-went-requires (each-calls t) (each-at t) each.Post each-Inv-loop each-μ-loop
 each-went-requires t c κs = search needs
 
-pub each-same-length-2 : (t : ℕ) → each-lts.Need-same-length-2 (each-calls t) (each-at t) each.Post each-Inv-loop each-μ-loop
+each-same-length-2 : (t : ℕ) → each-lts.Need-same-length-2 (each-calls t) (each-at t) each.Post each-Inv-loop each-μ-loop
 each-same-length-2 t c =
     let c₁ = c .before .before .before in
     let c₂ = c₁ .before .before .before in
     c₁ .put-loop-end .kept .0 ∙ c₂ .loop .inv .0 .same
 
-pub each-returns-2 : (t : ℕ) → each-lts.Need-returns-2 (each-calls t) (each-at t) each.Post each-Inv-loop each-μ-loop
+each-returns-2 : (t : ℕ) → each-lts.Need-returns-2 (each-calls t) (each-at t) each.Post each-Inv-loop each-μ-loop
 each-returns-2 t c =
     let c₁ = c .before .before .before in
     let c₂ = c₁ .before .before in
@@ -268,3 +268,44 @@ each-returns-2 t c =
     (agrees-as (each-none _ _ _ _)
     (agrees-done (c₃ .loop .d) (c .went .ensures) (c₃ .loop .inv .0 .placed-so) refl (c₃ .loop .inv .0 .short)
     (c₁ .put-loop-end .ensures)))
+
+-- its code meets what it promises, if those it calls do where less is left
+pub each-closed : {M : Type 1} (t : ℕ) → each-lts.Closed (each-calls t) (each-at t) each.Post M
+each-closed t =
+    each-lts.spec (each-calls t)
+    (each-at t)
+    each.Post
+    each-Inv-loop
+    each-μ-loop
+    (each-loop-holds t)
+    (each-span-at-requires t)
+    (each-add-e t)
+    (each-add-u t)
+    (each-sub-act-of t)
+    (each-part-act-of-start t)
+    (each-part-act-of-end t)
+    (each-sub-act-of-2 t)
+    (each-part-act-of-start-2 t)
+    (each-part-act-of-end-2 t)
+    (each-sub-act-of-3 t)
+    (each-part-act-of-start-3 t)
+    (each-part-act-of-end-3 t)
+    (each-act-of-requires t)
+    (each-sub-turn t)
+    (each-part-turn-start t)
+    (each-part-turn-end t)
+    (each-sub-turn-2 t)
+    (each-part-turn-start-2 t)
+    (each-part-turn-end-2 t)
+    (each-add-turn t)
+    (each-turn-requires t)
+    (each-same-length t)
+    (each-returns t)
+    (each-shared-slice-read-next-loop t)
+    (each-next-loop-requires t)
+    (each-loop-less t)
+    (each-loop-again t)
+    (each-put-loop-end-requires t)
+    (each-went-requires t)
+    (each-same-length-2 t)
+    (each-returns-2 t)

@@ -23,26 +23,26 @@ use Rattle.mitex.proofs.env_figure.Reads as env-figure
 use Rattle.mitex.proofs.+arguments+body+captioned+clause_lr+colored+command+command_color+convert+curly_group+each+env_body+env_figure+env_math+env_plain+env_table+environment+formula+greedy+normal_command+turn.Lts-env_figure as env-figure-lts
 use Rattle.mitex.proofs.+arguments+body+captioned+clause_lr+colored+command+command_color+convert+curly_group+each+env_body+env_figure+env_math+env_plain+env_table+environment+formula+greedy+normal_command+turn.Proof.Setup.{env-figure-at, env-figure-calls}
 
-pub env-figure-last-caption-requires : (t : ℕ) → env-figure-lts.Need-last-caption-requires (env-figure-calls t) (env-figure-at t) env-figure.Post
+env-figure-last-caption-requires : (t : ℕ) → env-figure-lts.Need-last-caption-requires (env-figure-calls t) (env-figure-at t) env-figure.Post
 env-figure-last-caption-requires t c κs =
     let c₁ = c .before .before .before .before .before in
     let c₂ = c₁ .before in
     siblings-forest (c₂ .pre .1 .0) (c₂ .pre .1 .1 .1)
 
-pub env-figure-put-hash-begin-requires : (t : ℕ) → env-figure-lts.Need-put-hash-begin-requires (env-figure-calls t) (env-figure-at t) env-figure.Post
+env-figure-put-hash-begin-requires : (t : ℕ) → env-figure-lts.Need-put-hash-begin-requires (env-figure-calls t) (env-figure-at t) env-figure.Post
 env-figure-put-hash-begin-requires t c κs =
     let c₁ = c .before .before .before .before .before in
     let c₂ = c₁ .before .before .before in
     (c₂ .pre .1 .0 .place, c₂ .pre .1 .0 .room)
 
-pub env-figure-entered-env-requires : (t : ℕ) → env-figure-lts.Need-entered-env-requires (env-figure-calls t) (env-figure-at t) env-figure.Post
+env-figure-entered-env-requires : (t : ℕ) → env-figure-lts.Need-entered-env-requires (env-figure-calls t) (env-figure-at t) env-figure.Post
 env-figure-entered-env-requires t c κs =
     let c₁ = c .before .before .before .before .before in
     let c₂ = c₁ .before .before .before .before .before in
     let c₃ = c₂ .before .before in
     omega (arith, c₃ .pre .1 .0 .deep)
 
-pub env-figure-captioned-requires : (t : ℕ) → env-figure-lts.Need-captioned-requires (env-figure-calls t) (env-figure-at t) env-figure.Post
+env-figure-captioned-requires : (t : ℕ) → env-figure-lts.Need-captioned-requires (env-figure-calls t) (env-figure-at t) env-figure.Post
 env-figure-captioned-requires t c κs =
     let c₁ = c .before .before .before .before in
     let c₂ = c₁ .before .before in
@@ -65,10 +65,10 @@ env-figure-captioned-requires t c κs =
       ),
     )
 
-pub env-figure-slice-aggregate-close : (t : ℕ) → env-figure-lts.Need-slice-aggregate-close (env-figure-calls t) (env-figure-at t) env-figure.Post
+env-figure-slice-aggregate-close : (t : ℕ) → env-figure-lts.Need-slice-aggregate-close (env-figure-calls t) (env-figure-at t) env-figure.Post
 env-figure-slice-aggregate-close t c = search needs
 
-pub env-figure-close-requires : (t : ℕ) → env-figure-lts.Need-close-requires (env-figure-calls t) (env-figure-at t) env-figure.Post
+env-figure-close-requires : (t : ℕ) → env-figure-lts.Need-close-requires (env-figure-calls t) (env-figure-at t) env-figure.Post
 env-figure-close-requires t c κs =
     let c₁ = c .before .before .before .before in
     let c₂ = c₁ .before in
@@ -84,14 +84,14 @@ env-figure-close-requires t c κs =
       omega (arith, c₆ .pre .1 .0 .room, c₁ .captioned .kept .0, c₃ .put-hash-begin .kept .0),
     )
 
-pub env-figure-same-length : (t : ℕ) → env-figure-lts.Need-same-length (env-figure-calls t) (env-figure-at t) env-figure.Post
+env-figure-same-length : (t : ℕ) → env-figure-lts.Need-same-length (env-figure-calls t) (env-figure-at t) env-figure.Post
 env-figure-same-length t c =
     let c₁ = c .before .before .before .before .before in
     let c₂ = c₁ .before .before in
     let c₃ = c₂ .before .before .before .before .before in
     c .before .before .close .kept .0 ∙ c₂ .captioned .kept .0 ∙ c₃ .put-hash-begin .kept .0
 
-pub env-figure-returns : (t : ℕ) → env-figure-lts.Need-returns (env-figure-calls t) (env-figure-at t) env-figure.Post
+env-figure-returns : (t : ℕ) → env-figure-lts.Need-returns (env-figure-calls t) (env-figure-at t) env-figure.Post
 env-figure-returns t c =
     let c₁ = c .before .before .before .before .before in
     let c₂ = c₁ .before .before in
@@ -110,3 +110,18 @@ env-figure-returns t c =
     (agrees-close (omega (arith, c₇ .pre .1 .0 .room, c₄ .put-hash-begin .kept .0))
     (captions-as (c₅ .last-caption .result) (c₃ .entered-env .ensures) (c₂ .captioned .ensures) rs ready f sp
     (c₅ .last-caption .ensures f sp) n h) (c .before .before .close .ensures)))
+
+-- its code meets what it promises, if those it calls do where less is left
+pub env-figure-closed : {M : Type 1} (t : ℕ) → env-figure-lts.Closed (env-figure-calls t) (env-figure-at t) env-figure.Post M
+env-figure-closed t =
+    env-figure-lts.spec (env-figure-calls t)
+    (env-figure-at t)
+    env-figure.Post
+    (env-figure-last-caption-requires t)
+    (env-figure-put-hash-begin-requires t)
+    (env-figure-entered-env-requires t)
+    (env-figure-captioned-requires t)
+    (env-figure-slice-aggregate-close t)
+    (env-figure-close-requires t)
+    (env-figure-same-length t)
+    (env-figure-returns t)

@@ -28,23 +28,23 @@ use Rattle.mitex.proofs.env_math.Reads as env-math
 use Rattle.mitex.proofs.+arguments+body+captioned+clause_lr+colored+command+command_color+convert+curly_group+each+env_body+env_figure+env_math+env_plain+env_table+environment+formula+greedy+normal_command+turn.Lts-env_math as env-math-lts
 use Rattle.mitex.proofs.+arguments+body+captioned+clause_lr+colored+command+command_color+convert+curly_group+each+env_body+env_figure+env_math+env_plain+env_table+environment+formula+greedy+normal_command+turn.Proof.Setup.{env-math-at, env-math-calls}
 
-pub env-math-put-dollar-begin-requires : (t : ℕ) → env-math-lts.Need-put-dollar-begin-requires (env-math-calls t) (env-math-at t) env-math.Post
+env-math-put-dollar-begin-requires : (t : ℕ) → env-math-lts.Need-put-dollar-begin-requires (env-math-calls t) (env-math-at t) env-math.Post
 env-math-put-dollar-begin-requires t c κs =
     let c₁ = c .before .before .before .before .before in
     let c₂ = c₁ .before .before in
     (c₂ .pre .1 .0 .place, c₂ .pre .1 .0 .room)
 
-pub env-math-put-requires : (t : ℕ) → env-math-lts.Need-put-requires (env-math-calls t) (env-math-at t) env-math.Post
+env-math-put-requires : (t : ℕ) → env-math-lts.Need-put-requires (env-math-calls t) (env-math-at t) env-math.Post
 env-math-put-requires t c κs =
     let c₁ = c .before .before .before in
     let c₂ = c₁ .before .before .before .before .before in
     let c₃ = c₂ .before .before .before in
     (wrote-low (c₁ .put-dollar-begin .ensures), omega (arith, c₃ .pre .1 .0 .room, c₁ .put-dollar-begin .kept .0))
 
-pub env-math-slice-aggregate-put : (t : ℕ) → env-math-lts.Need-slice-aggregate-put (env-math-calls t) (env-math-at t) env-math.Post
+env-math-slice-aggregate-put : (t : ℕ) → env-math-lts.Need-slice-aggregate-put (env-math-calls t) (env-math-at t) env-math.Post
 env-math-slice-aggregate-put t c = search needs
 
-pub env-math-put-requires-2 : (t : ℕ) → env-math-lts.Need-put-requires-2 (env-math-calls t) (env-math-at t) env-math.Post
+env-math-put-requires-2 : (t : ℕ) → env-math-lts.Need-put-requires-2 (env-math-calls t) (env-math-at t) env-math.Post
 env-math-put-requires-2 t c κs =
     let c₁ = c .before .before .before .before in
     let c₂ = c₁ .before .before .before .before in
@@ -52,7 +52,7 @@ env-math-put-requires-2 t c κs =
     let c₄ = c₃ .before .before .before in
     (wrote-low (c₁ .put .ensures), omega (arith, c₄ .pre .1 .0 .room, c₁ .put .kept .0, c₂ .put-dollar-begin .kept .0))
 
-pub env-math-begin-part-requires : (t : ℕ) → env-math-lts.Need-begin-part-requires (env-math-calls t) (env-math-at t) env-math.Post
+env-math-begin-part-requires : (t : ℕ) → env-math-lts.Need-begin-part-requires (env-math-calls t) (env-math-at t) env-math.Post
 env-math-begin-part-requires t c κs =
     let c₁ = c .before .before .before .before .before in
     let c₂ = c₁ .before .before .before .before .before in
@@ -60,10 +60,10 @@ env-math-begin-part-requires t c κs =
     let c₄ = c₃ .before .before .before .before in
     siblings-forest (c₄ .pre .1 .0) (c₄ .pre .1 .1 .1)
 
-pub env-math-entered-mode-requires : (t : ℕ) → env-math-lts.Need-entered-mode-requires (env-math-calls t) (env-math-at t) env-math.Post
+env-math-entered-mode-requires : (t : ℕ) → env-math-lts.Need-entered-mode-requires (env-math-calls t) (env-math-at t) env-math.Post
 env-math-entered-mode-requires t c κs = search needs
 
-pub env-math-sub-each : (t : ℕ) → env-math-lts.Need-sub-each (env-math-calls t) (env-math-at t) env-math.Post
+env-math-sub-each : (t : ℕ) → env-math-lts.Need-sub-each (env-math-calls t) (env-math-at t) env-math.Post
 env-math-sub-each t c =
     let c₁ = c .before .before .before .before .before in
     let c₂ = c₁ .before .before .before .before .before in
@@ -72,7 +72,7 @@ env-math-sub-each t c =
     let c₅ = c₄ .before .before in
     (c .before .before .begin-part .ensures (c₅ .pre .1 .1 .1 .forest) (c₅ .pre .1 .1 .1 .spells)) .inside .low
 
-pub env-math-part-each-start : (t : ℕ) → env-math-lts.Need-part-each-start (env-math-calls t) (env-math-at t) env-math.Post
+env-math-part-each-start : (t : ℕ) → env-math-lts.Need-part-each-start (env-math-calls t) (env-math-at t) env-math.Post
 env-math-part-each-start t c =
     let c₁ = c .before .before .before .before .before in
     let c₂ = c₁ .before .before .before .before .before in
@@ -81,7 +81,7 @@ env-math-part-each-start t c =
     let c₅ = c₄ .before .before in
     (c .before .before .begin-part .ensures (c₅ .pre .1 .1 .1 .forest) (c₅ .pre .1 .1 .1 .spells)) .inside .low
 
-pub env-math-part-each-end : (t : ℕ) → env-math-lts.Need-part-each-end (env-math-calls t) (env-math-at t) env-math.Post
+env-math-part-each-end : (t : ℕ) → env-math-lts.Need-part-each-end (env-math-calls t) (env-math-at t) env-math.Post
 env-math-part-each-end t c =
     let c₁ = c .before .before .before .before .before in
     let c₂ = c₁ .before .before .before .before .before in
@@ -90,7 +90,7 @@ env-math-part-each-end t c =
     let c₅ = c₄ .before .before in
     (c .before .before .begin-part .ensures (c₅ .pre .1 .1 .1 .forest) (c₅ .pre .1 .1 .1 .spells)) .inside .high
 
-pub env-math-sub-each-2 : (t : ℕ) → env-math-lts.Need-sub-each-2 (env-math-calls t) (env-math-at t) env-math.Post
+env-math-sub-each-2 : (t : ℕ) → env-math-lts.Need-sub-each-2 (env-math-calls t) (env-math-at t) env-math.Post
 env-math-sub-each-2 t c =
     let c₁ = c .before .before .before in
     let c₂ = c₁ .before .before .before .before .before in
@@ -99,7 +99,7 @@ env-math-sub-each-2 t c =
     let c₅ = c₄ .before .before .before .before .before in
     (c₁ .begin-part .ensures (c₅ .pre .1 .1 .1 .forest) (c₅ .pre .1 .1 .1 .spells)) .inside .begun
 
-pub env-math-part-each-start-2 : (t : ℕ) → env-math-lts.Need-part-each-start-2 (env-math-calls t) (env-math-at t) env-math.Post
+env-math-part-each-start-2 : (t : ℕ) → env-math-lts.Need-part-each-start-2 (env-math-calls t) (env-math-at t) env-math.Post
 env-math-part-each-start-2 t c =
     let c₁ = c .before .before .before in
     let c₂ = c₁ .before .before .before .before .before in
@@ -108,7 +108,7 @@ env-math-part-each-start-2 t c =
     let c₅ = c₄ .before .before .before .before .before in
     (c₁ .begin-part .ensures (c₅ .pre .1 .1 .1 .forest) (c₅ .pre .1 .1 .1 .spells)) .inside .begun
 
-pub env-math-part-each-end-2 : (t : ℕ) → env-math-lts.Need-part-each-end-2 (env-math-calls t) (env-math-at t) env-math.Post
+env-math-part-each-end-2 : (t : ℕ) → env-math-lts.Need-part-each-end-2 (env-math-calls t) (env-math-at t) env-math.Post
 env-math-part-each-end-2 t c =
     let c₁ = c .before .before .before in
     let c₂ = c₁ .before .before .before .before .before in
@@ -117,7 +117,7 @@ env-math-part-each-end-2 t c =
     let c₅ = c₄ .before .before .before .before .before in
     (c₁ .begin-part .ensures (c₅ .pre .1 .1 .1 .forest) (c₅ .pre .1 .1 .1 .spells)) .inside .stop
 
-pub env-math-add-each : (t : ℕ) → env-math-lts.Need-add-each (env-math-calls t) (env-math-at t) env-math.Post
+env-math-add-each : (t : ℕ) → env-math-lts.Need-add-each (env-math-calls t) (env-math-at t) env-math.Post
 env-math-add-each t c =
     let c₁ = c .before .before .before .before .before in
     let c₂ = c₁ .before .before .before .before .before in
@@ -126,7 +126,7 @@ env-math-add-each t c =
     let c₅ = c₄ .before .before .before .before in
     omega (arith, c₅ .pre .1 .0 .low)
 
-pub env-math-add-each-2 : (t : ℕ) → env-math-lts.Need-add-each-2 (env-math-calls t) (env-math-at t) env-math.Post
+env-math-add-each-2 : (t : ℕ) → env-math-lts.Need-add-each-2 (env-math-calls t) (env-math-at t) env-math.Post
 env-math-add-each-2 t c =
     let c₁ = c .before .before .before .before in
     let c₂ = c₁ .before .before .before .before .before in
@@ -136,7 +136,7 @@ env-math-add-each-2 t c =
     let q = (c₁ .begin-part .ensures (c₅ .pre .1 .1 .1 .forest) (c₅ .pre .1 .1 .1 .spells)) .inside in
     omega (arith, c₅ .pre .1 .0 .low, q .low, q .high)
 
-pub env-math-entered-env-requires : (t : ℕ) → env-math-lts.Need-entered-env-requires (env-math-calls t) (env-math-at t) env-math.Post
+env-math-entered-env-requires : (t : ℕ) → env-math-lts.Need-entered-env-requires (env-math-calls t) (env-math-at t) env-math.Post
 env-math-entered-env-requires t c κs =
     let c₁ = c .before .before .before in
     let c₂ = c₁ .before .before .before .before .before in
@@ -146,7 +146,7 @@ env-math-entered-env-requires t c κs =
     let c₆ = c₅ .before in
     omega (arith, step-small (c₆ .args .env), c₆ .pre .1 .0 .deep, ap (λ y. y .indent) (c₁ .entered-mode .ensures))
 
-pub env-math-each-requires : (t : ℕ) → env-math-lts.Need-each-requires (env-math-calls t) (env-math-at t) env-math.Post
+env-math-each-requires : (t : ℕ) → env-math-lts.Need-each-requires (env-math-calls t) (env-math-at t) env-math.Post
 env-math-each-requires t c κs =
     let c₁ = c .before .before .before .before in
     let c₂ = c₁ .before in
@@ -180,7 +180,7 @@ env-math-each-requires t c κs =
       ),
     )
 
-pub env-math-same-length : (t : ℕ) → env-math-lts.Need-same-length (env-math-calls t) (env-math-at t) env-math.Post
+env-math-same-length : (t : ℕ) → env-math-lts.Need-same-length (env-math-calls t) (env-math-at t) env-math.Post
 env-math-same-length t c =
     let c₁ = c .before .before .before .before in
     let c₂ = c₁ .before .before .before .before .before in
@@ -189,7 +189,7 @@ env-math-same-length t c =
     let c₅ = c₄ .before .before .before .before in
     c₁ .each .kept .0 ∙ c₃ .put2 .kept .0 ∙ c₄ .put .kept .0 ∙ c₅ .put-dollar-begin .kept .0
 
-pub env-math-returns : (t : ℕ) → env-math-lts.Need-returns (env-math-calls t) (env-math-at t) env-math.Post
+env-math-returns : (t : ℕ) → env-math-lts.Need-returns (env-math-calls t) (env-math-at t) env-math.Post
 env-math-returns t c =
     let c₁ = c .before .before .before .before in
     let c₂ = c₁ .before in
@@ -216,7 +216,7 @@ env-math-returns t c =
     (c₁ .each .ensures)) rs ready (beginOf f) (q .spells) n (omega (arith, h, q .fits))))) (c .if1 .taken))
     (c .if1 .taken))
 
-pub env-math-add-each-3 : (t : ℕ) → env-math-lts.Need-add-each-3 (env-math-calls t) (env-math-at t) env-math.Post
+env-math-add-each-3 : (t : ℕ) → env-math-lts.Need-add-each-3 (env-math-calls t) (env-math-at t) env-math.Post
 env-math-add-each-3 t c =
     let c₁ = c .before .before .before .before .before in
     let c₂ = c₁ .before .before .before .before .before in
@@ -227,7 +227,7 @@ env-math-add-each-3 t c =
     let c₇ = c₆ .before .before in
     omega (arith, c₇ .pre .1 .0 .low)
 
-pub env-math-each-requires-2 : (t : ℕ) → env-math-lts.Need-each-requires-2 (env-math-calls t) (env-math-at t) env-math.Post
+env-math-each-requires-2 : (t : ℕ) → env-math-lts.Need-each-requires-2 (env-math-calls t) (env-math-at t) env-math.Post
 env-math-each-requires-2 t c κs =
     let c₁ = c .before .before .before .before .before in
     let c₂ = c₁ .before in
@@ -260,7 +260,7 @@ env-math-each-requires-2 t c κs =
       ),
     )
 
-pub env-math-close-math-requires : (t : ℕ) → env-math-lts.Need-close-math-requires (env-math-calls t) (env-math-at t) env-math.Post
+env-math-close-math-requires : (t : ℕ) → env-math-lts.Need-close-math-requires (env-math-calls t) (env-math-at t) env-math.Post
 env-math-close-math-requires t c κs =
     let c₁ = c .before .before .before in
     let c₂ = c₁ .before .before .before .before .before in
@@ -283,7 +283,7 @@ env-math-close-math-requires t c κs =
       ),
     )
 
-pub env-math-same-length-2 : (t : ℕ) → env-math-lts.Need-same-length-2 (env-math-calls t) (env-math-at t) env-math.Post
+env-math-same-length-2 : (t : ℕ) → env-math-lts.Need-same-length-2 (env-math-calls t) (env-math-at t) env-math.Post
 env-math-same-length-2 t c =
     let c₁ = c .before .before .before .before .before in
     let c₂ = c₁ .before in
@@ -300,7 +300,7 @@ env-math-same-length-2 t c =
     ∙ c₇ .put .kept .0
     ∙ c₈ .put-dollar-begin .kept .0
 
-pub env-math-returns-2 : (t : ℕ) → env-math-lts.Need-returns-2 (env-math-calls t) (env-math-at t) env-math.Post
+env-math-returns-2 : (t : ℕ) → env-math-lts.Need-returns-2 (env-math-calls t) (env-math-at t) env-math.Post
 env-math-returns-2 t c =
     let c₁ = c .before .before .before .before .before in
     let c₂ = c₁ .before in
@@ -338,3 +338,33 @@ env-math-returns-2 t c =
     (w .placed-so ∙ ap placeOf (c₅ .entered-env .ensures ∙ ap (enteredEnv (c₁₂ .args .env)) (c₆ .entered-mode .ensures))) 1
     Inside f (loops-at 1 (c₄ .each .result .converter) Inside (c₂ .each2 .ensures) rs ready f sp n h)))
     (c .before .before .close-math .ensures))
+
+-- its code meets what it promises, if those it calls do where less is left
+pub env-math-closed : {M : Type 1} (t : ℕ) → env-math-lts.Closed (env-math-calls t) (env-math-at t) env-math.Post M
+env-math-closed t =
+    env-math-lts.spec (env-math-calls t)
+    (env-math-at t)
+    env-math.Post
+    (env-math-put-dollar-begin-requires t)
+    (env-math-put-requires t)
+    (env-math-slice-aggregate-put t)
+    (env-math-put-requires-2 t)
+    (env-math-begin-part-requires t)
+    (env-math-entered-mode-requires t)
+    (env-math-sub-each t)
+    (env-math-part-each-start t)
+    (env-math-part-each-end t)
+    (env-math-sub-each-2 t)
+    (env-math-part-each-start-2 t)
+    (env-math-part-each-end-2 t)
+    (env-math-add-each t)
+    (env-math-add-each-2 t)
+    (env-math-entered-env-requires t)
+    (env-math-each-requires t)
+    (env-math-same-length t)
+    (env-math-returns t)
+    (env-math-add-each-3 t)
+    (env-math-each-requires-2 t)
+    (env-math-close-math-requires t)
+    (env-math-same-length-2 t)
+    (env-math-returns-2 t)

@@ -26,19 +26,19 @@ use Rattle.mitex.proofs.+arguments+body+captioned+clause_lr+colored+com
 use Rattle.mitex.proofs.each.Reads as each
 use Rattle.mitex.proofs.+arguments+body+captioned+clause_lr+colored+command+command_color+convert+curly_group+each+env_body+env_figure+env_math+env_plain+env_table+environment+formula+greedy+normal_command+turn.Proof.Setup.{env-table-at, env-table-calls}
 
-pub env-table-table-argument-requires : (t : ℕ) → env-table-lts.Need-table-argument-requires (env-table-calls t) (env-table-at t) env-table.Post
+env-table-table-argument-requires : (t : ℕ) → env-table-lts.Need-table-argument-requires (env-table-calls t) (env-table-at t) env-table.Post
 env-table-table-argument-requires t c κs =
     let c₁ = c .before .before .before .before .before in
     let c₂ = c₁ .before in
     siblings-forest (c₂ .pre .1 .0) (c₂ .pre .1 .1 .1)
 
-pub env-table-has-ends-requires : (t : ℕ) → env-table-lts.Need-has-ends-requires (env-table-calls t) (env-table-at t) env-table.Post
+env-table-has-ends-requires : (t : ℕ) → env-table-lts.Need-has-ends-requires (env-table-calls t) (env-table-at t) env-table.Post
 env-table-has-ends-requires t c κs = search needs
 
-pub env-table-refuse-requires : (t : ℕ) → env-table-lts.Need-refuse-requires (env-table-calls t) (env-table-at t) env-table.Post
+env-table-refuse-requires : (t : ℕ) → env-table-lts.Need-refuse-requires (env-table-calls t) (env-table-at t) env-table.Post
 env-table-refuse-requires t c κs = search needs
 
-pub env-table-returns : (t : ℕ) → env-table-lts.Need-returns (env-table-calls t) (env-table-at t) env-table.Post
+env-table-returns : (t : ℕ) → env-table-lts.Need-returns (env-table-calls t) (env-table-at t) env-table.Post
 env-table-returns t c =
     let c₁ = c .before .before .before in
     let c₂ = c₁ .before .before .before .before .before in
@@ -50,19 +50,19 @@ env-table-returns t c =
     (sym (c .before .before .has-ends .ensures) ∙ not-true _ (c .before .if1 .taken)))
     (agrees-here (omega arith) (c .refuse .ensures))
 
-pub env-table-inner-requires : (t : ℕ) → env-table-lts.Need-inner-requires (env-table-calls t) (env-table-at t) env-table.Post
+env-table-inner-requires : (t : ℕ) → env-table-lts.Need-inner-requires (env-table-calls t) (env-table-at t) env-table.Post
 env-table-inner-requires t c κs = search needs
 
-pub env-table-trim-requires : (t : ℕ) → env-table-lts.Need-trim-requires (env-table-calls t) (env-table-at t) env-table.Post
+env-table-trim-requires : (t : ℕ) → env-table-lts.Need-trim-requires (env-table-calls t) (env-table-at t) env-table.Post
 env-table-trim-requires t c κs = search needs
 
-pub env-table-letters-fit-requires : (t : ℕ) → env-table-lts.Need-letters-fit-requires (env-table-calls t) (env-table-at t) env-table.Post
+env-table-letters-fit-requires : (t : ℕ) → env-table-lts.Need-letters-fit-requires (env-table-calls t) (env-table-at t) env-table.Post
 env-table-letters-fit-requires t c κs = search needs
 
-pub env-table-refuse-requires-2 : (t : ℕ) → env-table-lts.Need-refuse-requires-2 (env-table-calls t) (env-table-at t) env-table.Post
+env-table-refuse-requires-2 : (t : ℕ) → env-table-lts.Need-refuse-requires-2 (env-table-calls t) (env-table-at t) env-table.Post
 env-table-refuse-requires-2 t c κs = search needs
 
-pub env-table-returns-2 : (t : ℕ) → env-table-lts.Need-returns-2 (env-table-calls t) (env-table-at t) env-table.Post
+env-table-returns-2 : (t : ℕ) → env-table-lts.Need-returns-2 (env-table-calls t) (env-table-at t) env-table.Post
 env-table-returns-2 t c =
     let c₁ = c .before .before .before in
     let c₂ = c₁ .before in
@@ -80,14 +80,14 @@ env-table-returns-2 t c =
     (sym (c .before .before .letters-fit .ensures) ∙ not-true _ (c .before .if2 .taken)))
     (agrees-here (omega arith) (c .refuse2 .ensures))
 
-pub env-table-put-hash-begin-requires : (t : ℕ) → env-table-lts.Need-put-hash-begin-requires (env-table-calls t) (env-table-at t) env-table.Post
+env-table-put-hash-begin-requires : (t : ℕ) → env-table-lts.Need-put-hash-begin-requires (env-table-calls t) (env-table-at t) env-table.Post
 env-table-put-hash-begin-requires t c κs =
     let c₁ = c .before .before .before .before .before in
     let c₂ = c₁ .before .before .before .before .before in
     let c₃ = c₂ .before .before .before .before in
     (c₃ .pre .1 .0 .place, c₃ .pre .1 .0 .room)
 
-pub env-table-put-table-head-requires : (t : ℕ) → env-table-lts.Need-put-table-head-requires (env-table-calls t) (env-table-at t) env-table.Post
+env-table-put-table-head-requires : (t : ℕ) → env-table-lts.Need-put-table-head-requires (env-table-calls t) (env-table-at t) env-table.Post
 env-table-put-table-head-requires t c κs =
     let c₁ = c .before .before .before in
     let c₂ = c₁ .before .before .before .before in
@@ -105,7 +105,7 @@ env-table-put-table-head-requires t c κs =
       ),
     )
 
-pub env-table-add-each : (t : ℕ) → env-table-lts.Need-add-each (env-table-calls t) (env-table-at t) env-table.Post
+env-table-add-each : (t : ℕ) → env-table-lts.Need-add-each (env-table-calls t) (env-table-at t) env-table.Post
 env-table-add-each t c =
     let c₁ = c .before .before .before .before .before in
     let c₂ = c₁ .before .before .before .before .before in
@@ -114,7 +114,7 @@ env-table-add-each t c =
     let c₅ = c₄ .before .before in
     omega (arith, c₅ .pre .1 .0 .low)
 
-pub env-table-entered-env-requires : (t : ℕ) → env-table-lts.Need-entered-env-requires (env-table-calls t) (env-table-at t) env-table.Post
+env-table-entered-env-requires : (t : ℕ) → env-table-lts.Need-entered-env-requires (env-table-calls t) (env-table-at t) env-table.Post
 env-table-entered-env-requires t c κs =
     let c₁ = c .before .before .before .before .before in
     let c₂ = c₁ .before .before .before .before .before in
@@ -123,7 +123,7 @@ env-table-entered-env-requires t c κs =
     let c₅ = c₄ .before .before in
     omega (arith, c₅ .pre .1 .0 .deep)
 
-pub env-table-each-requires : (t : ℕ) → env-table-lts.Need-each-requires (env-table-calls t) (env-table-at t) env-table.Post
+env-table-each-requires : (t : ℕ) → env-table-lts.Need-each-requires (env-table-calls t) (env-table-at t) env-table.Post
 env-table-each-requires t c κs =
     let c₁ = c .before .before .before .before in
     let c₂ = c₁ .before .before .before .before in
@@ -139,10 +139,10 @@ env-table-each-requires t c κs =
       ),
     )
 
-pub env-table-slice-aggregate-close : (t : ℕ) → env-table-lts.Need-slice-aggregate-close (env-table-calls t) (env-table-at t) env-table.Post
+env-table-slice-aggregate-close : (t : ℕ) → env-table-lts.Need-slice-aggregate-close (env-table-calls t) (env-table-at t) env-table.Post
 env-table-slice-aggregate-close t c = search needs
 
-pub env-table-close-requires : (t : ℕ) → env-table-lts.Need-close-requires (env-table-calls t) (env-table-at t) env-table.Post
+env-table-close-requires : (t : ℕ) → env-table-lts.Need-close-requires (env-table-calls t) (env-table-at t) env-table.Post
 env-table-close-requires t c κs =
     let c₁ = c .before .before .before .before in
     let c₂ = c₁ .before in
@@ -155,7 +155,7 @@ env-table-close-requires t c κs =
       omega (arith, c₇ .pre .1 .0 .room, c₁ .each .kept .0, c₃ .put-table-head .kept .0, c₄ .put-hash-begin .kept .0),
     )
 
-pub env-table-same-length : (t : ℕ) → env-table-lts.Need-same-length (env-table-calls t) (env-table-at t) env-table.Post
+env-table-same-length : (t : ℕ) → env-table-lts.Need-same-length (env-table-calls t) (env-table-at t) env-table.Post
 env-table-same-length t c =
     let c₁ = c .before .before .before .before .before in
     let c₂ = c₁ .before .before in
@@ -163,7 +163,7 @@ env-table-same-length t c =
     let c₄ = c₃ .before .before .before .before in
     c .before .before .close .kept .0 ∙ c₂ .each .kept .0 ∙ c₃ .put-table-head .kept .0 ∙ c₄ .put-hash-begin .kept .0
 
-pub env-table-returns-3 : (t : ℕ) → env-table-lts.Need-returns-3 (env-table-calls t) (env-table-at t) env-table.Post
+env-table-returns-3 : (t : ℕ) → env-table-lts.Need-returns-3 (env-table-calls t) (env-table-at t) env-table.Post
 env-table-returns-3 t c =
     let c₁ = c .before .before .before .before .before in
     let c₂ = c₁ .before .before in
@@ -193,3 +193,28 @@ env-table-returns-3 t c =
     (loops-at 1 (enteredEnv TableEnv (c₁₄ .args .c)) (Table true)
     (loops-as (Table true) (c₃ .entered-env .ensures) (c₂ .each .ensures)) rs ready f sp n h)
     (c .before .before .close .ensures)))
+
+-- its code meets what it promises, if those it calls do where less is left
+pub env-table-closed : {M : Type 1} (t : ℕ) → env-table-lts.Closed (env-table-calls t) (env-table-at t) env-table.Post M
+env-table-closed t =
+    env-table-lts.spec (env-table-calls t)
+    (env-table-at t)
+    env-table.Post
+    (env-table-table-argument-requires t)
+    (env-table-has-ends-requires t)
+    (env-table-refuse-requires t)
+    (env-table-returns t)
+    (env-table-inner-requires t)
+    (env-table-trim-requires t)
+    (env-table-letters-fit-requires t)
+    (env-table-refuse-requires-2 t)
+    (env-table-returns-2 t)
+    (env-table-put-hash-begin-requires t)
+    (env-table-put-table-head-requires t)
+    (env-table-add-each t)
+    (env-table-entered-env-requires t)
+    (env-table-each-requires t)
+    (env-table-slice-aggregate-close t)
+    (env-table-close-requires t)
+    (env-table-same-length t)
+    (env-table-returns-3 t)

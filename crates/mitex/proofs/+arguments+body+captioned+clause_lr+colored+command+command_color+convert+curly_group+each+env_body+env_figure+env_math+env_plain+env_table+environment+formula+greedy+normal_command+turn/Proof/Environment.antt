@@ -19,26 +19,26 @@ use Rattle.mitex.proofs.+arguments+body+captioned+clause_lr+colored+com
 use Rattle.mitex.proofs.env_body.Reads as env-body
 use Rattle.mitex.proofs.+arguments+body+captioned+clause_lr+colored+command+command_color+convert+curly_group+each+env_body+env_figure+env_math+env_plain+env_table+environment+formula+greedy+normal_command+turn.Proof.Setup.{environment-at, environment-calls}
 
-pub environment-env-name-requires : (t : ℕ) → environment-lts.Need-env-name-requires (environment-calls t) (environment-at t) environment.Post
+environment-env-name-requires : (t : ℕ) → environment-lts.Need-env-name-requires (environment-calls t) (environment-at t) environment.Post
 environment-env-name-requires t c κs =
     siblings-forest (c .before .before .before .before .before .pre .1 .0) (c .before .before .before .before .before .pre .1 .1 .1)
 
-pub environment-trim-requires : (t : ℕ) → environment-lts.Need-trim-requires (environment-calls t) (environment-at t) environment.Post
+environment-trim-requires : (t : ℕ) → environment-lts.Need-trim-requires (environment-calls t) (environment-at t) environment.Post
 environment-trim-requires t c κs = search needs
 
-pub environment-get-env-requires : (t : ℕ) → environment-lts.Need-get-env-requires (environment-calls t) (environment-at t) environment.Post
+environment-get-env-requires : (t : ℕ) → environment-lts.Need-get-env-requires (environment-calls t) (environment-at t) environment.Post
 environment-get-env-requires t c κs =
     let c₁ = c .before .before .before .before .before in
     let c₂ = c₁ .before .before in
     c₂ .pre .1 .1 .0
 
-pub environment-is-absent-requires : (t : ℕ) → environment-lts.Need-is-absent-requires (environment-calls t) (environment-at t) environment.Post
+environment-is-absent-requires : (t : ℕ) → environment-lts.Need-is-absent-requires (environment-calls t) (environment-at t) environment.Post
 environment-is-absent-requires t c κs = search needs
 
-pub environment-refuse-requires : (t : ℕ) → environment-lts.Need-refuse-requires (environment-calls t) (environment-at t) environment.Post
+environment-refuse-requires : (t : ℕ) → environment-lts.Need-refuse-requires (environment-calls t) (environment-at t) environment.Post
 environment-refuse-requires t c κs = search needs
 
-pub environment-returns : (t : ℕ) → environment-lts.Need-returns (environment-calls t) (environment-at t) environment.Post
+environment-returns : (t : ℕ) → environment-lts.Need-returns (environment-calls t) (environment-at t) environment.Post
 environment-returns t c =
     let c₁ = c .before .before .before in
     let c₂ = c₁ .before in
@@ -53,30 +53,30 @@ environment-returns t c =
     ((c₁ .get-env .ensures rs (ready .decodes)) .rule) (sym (c .before .before .is-absent .ensures) ∙ c .before .if1 .taken))
     (agrees-here (omega arith) (c .refuse .ensures))
 
-pub environment-class-of-requires : (t : ℕ) → environment-lts.Need-class-of-requires (environment-calls t) (environment-at t) environment.Post
+environment-class-of-requires : (t : ℕ) → environment-lts.Need-class-of-requires (environment-calls t) (environment-at t) environment.Post
 environment-class-of-requires t c κs = search needs
 
-pub environment-env-of-requires : (t : ℕ) → environment-lts.Need-env-of-requires (environment-calls t) (environment-at t) environment.Post
+environment-env-of-requires : (t : ℕ) → environment-lts.Need-env-of-requires (environment-calls t) (environment-at t) environment.Post
 environment-env-of-requires t c κs = search needs
 
-pub environment-written-name-requires : (t : ℕ) → environment-lts.Need-written-name-requires (environment-calls t) (environment-at t) environment.Post
+environment-written-name-requires : (t : ℕ) → environment-lts.Need-written-name-requires (environment-calls t) (environment-at t) environment.Post
 environment-written-name-requires t c κs =
     let c₁ = c .before .before .before .before in
     let c₂ = c₁ .before .before .before .before .before in
     let c₃ = c₂ .before .before .before in
     c₁ .get-env .ensures (c₃ .pre .1 .1 .0 .rules) (c₃ .pre .1 .1 .0 .ready .decodes) .inside
 
-pub environment-env-body-requires : (t : ℕ) → environment-lts.Need-env-body-requires (environment-calls t) (environment-at t) environment.Post
+environment-env-body-requires : (t : ℕ) → environment-lts.Need-env-body-requires (environment-calls t) (environment-at t) environment.Post
 environment-env-body-requires t c κs =
     let c₁ = c .before .before .before .before .before in
     let c₂ = c₁ .before .before .before .before .before in
     let c₃ = c₂ .before .before .before .before in
     (omega (arith, c₃ .pre .0), (c₃ .pre .1 .0, (c₃ .pre .1 .1 .0, c₃ .pre .1 .1 .1)))
 
-pub environment-is-list-requires : (t : ℕ) → environment-lts.Need-is-list-requires (environment-calls t) (environment-at t) environment.Post
+environment-is-list-requires : (t : ℕ) → environment-lts.Need-is-list-requires (environment-calls t) (environment-at t) environment.Post
 environment-is-list-requires t c κs = search needs
 
-pub environment-take-label-requires : (t : ℕ) → environment-lts.Need-take-label-requires (environment-calls t) (environment-at t) environment.Post
+environment-take-label-requires : (t : ℕ) → environment-lts.Need-take-label-requires (environment-calls t) (environment-at t) environment.Post
 environment-take-label-requires t c κs =
     let c₁ = c .before .before .before .before in
     let c₂ = c₁ .before .before .before in
@@ -89,13 +89,13 @@ environment-take-label-requires t c κs =
       omega (arith, c₅ .pre .1 .0 .room, c₁ .env-body .kept .0),
     )
 
-pub environment-same-length : (t : ℕ) → environment-lts.Need-same-length (environment-calls t) (environment-at t) environment.Post
+environment-same-length : (t : ℕ) → environment-lts.Need-same-length (environment-calls t) (environment-at t) environment.Post
 environment-same-length t c =
     let c₁ = c .before .before .before .before .before in
     let c₂ = c₁ .before .before in
     c .before .before .take-label .kept .0 ∙ c₂ .env-body .kept .0
 
-pub environment-returns-2 : (t : ℕ) → environment-lts.Need-returns-2 (environment-calls t) (environment-at t) environment.Post
+environment-returns-2 : (t : ℕ) → environment-lts.Need-returns-2 (environment-calls t) (environment-at t) environment.Post
 environment-returns-2 t c =
     let c₁ = c .before .before .before in
     let c₂ = c₁ .before .before .before .before in
@@ -118,3 +118,24 @@ environment-returns-2 t c =
     (c₄ .env-of .ensures ∙ ap envOf (c₅ .class-of .ensures)))
     (agrees-takes-as (isList (c₄ .env-of .result)) (c₁ .is-list .ensures) (c₁₂ .args .c .mode) (c₁₂ .pre .1 .0 .room)
     (c₂ .env-body .ensures rs ready f sp n h) (c .before .before .take-label .ensures))
+
+-- its code meets what it promises, if those it calls do where less is left
+pub environment-closed : {M : Type 1} (t : ℕ) → environment-lts.Closed (environment-calls t) (environment-at t) environment.Post M
+environment-closed t =
+    environment-lts.spec (environment-calls t)
+    (environment-at t)
+    environment.Post
+    (environment-env-name-requires t)
+    (environment-trim-requires t)
+    (environment-get-env-requires t)
+    (environment-is-absent-requires t)
+    (environment-refuse-requires t)
+    (environment-returns t)
+    (environment-class-of-requires t)
+    (environment-env-of-requires t)
+    (environment-written-name-requires t)
+    (environment-env-body-requires t)
+    (environment-is-list-requires t)
+    (environment-take-label-requires t)
+    (environment-same-length t)
+    (environment-returns-2 t)

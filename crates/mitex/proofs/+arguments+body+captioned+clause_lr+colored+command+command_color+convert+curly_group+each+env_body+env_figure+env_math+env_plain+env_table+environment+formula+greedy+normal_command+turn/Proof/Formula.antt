@@ -20,14 +20,14 @@ use Rattle.mitex.proofs.+arguments+body+captioned+clause_lr+colored+com
 use Rattle.mitex.proofs.each.Reads as each
 use Rattle.mitex.proofs.+arguments+body+captioned+clause_lr+colored+command+command_color+convert+curly_group+each+env_body+env_figure+env_math+env_plain+env_table+environment+formula+greedy+normal_command+turn.Proof.Setup.{formula-at, formula-calls}
 
-pub formula-is-valid-requires : (t : ℕ) → formula-lts.Need-is-valid-requires (formula-calls t) (formula-at t) formula.Post
+formula-is-valid-requires : (t : ℕ) → formula-lts.Need-is-valid-requires (formula-calls t) (formula-at t) formula.Post
 formula-is-valid-requires t c κs =
     siblings-forest (c .before .before .before .before .before .pre .1 .0) (c .before .before .before .before .before .pre .1 .1 .1)
 
-pub formula-refuse-requires : (t : ℕ) → formula-lts.Need-refuse-requires (formula-calls t) (formula-at t) formula.Post
+formula-refuse-requires : (t : ℕ) → formula-lts.Need-refuse-requires (formula-calls t) (formula-at t) formula.Post
 formula-refuse-requires t c κs = search needs
 
-pub formula-returns : (t : ℕ) → formula-lts.Need-returns (formula-calls t) (formula-at t) formula.Post
+formula-returns : (t : ℕ) → formula-lts.Need-returns (formula-calls t) (formula-at t) formula.Post
 formula-returns t c =
     let c₁ = c .before .before .before .before .before in
     let c₂ = c₁ .before .before .before in
@@ -37,29 +37,29 @@ formula-returns t c =
     (sym (c .before .before .is-valid .ensures f (all-begins sp)) ∙ not-true _ (c .before .if1 .taken)))
     (agrees-here (omega arith) (c .refuse .ensures))
 
-pub formula-is-inline-requires : (t : ℕ) → formula-lts.Need-is-inline-requires (formula-calls t) (formula-at t) formula.Post
+formula-is-inline-requires : (t : ℕ) → formula-lts.Need-is-inline-requires (formula-calls t) (formula-at t) formula.Post
 formula-is-inline-requires t c κs =
     let c₁ = c .before .before .before .before .before in
     let c₂ = c₁ .before .before in
     siblings-forest (c₂ .pre .1 .0) (c₂ .pre .1 .1 .1)
 
-pub formula-put-formula-begin-requires : (t : ℕ) → formula-lts.Need-put-formula-begin-requires (formula-calls t) (formula-at t) formula.Post
+formula-put-formula-begin-requires : (t : ℕ) → formula-lts.Need-put-formula-begin-requires (formula-calls t) (formula-at t) formula.Post
 formula-put-formula-begin-requires t c κs =
     let c₁ = c .before .before .before .before .before in
     let c₂ = c₁ .before .before .before .before in
     (c₂ .pre .1 .0 .place, c₂ .pre .1 .0 .room)
 
-pub formula-add-each : (t : ℕ) → formula-lts.Need-add-each (formula-calls t) (formula-at t) formula.Post
+formula-add-each : (t : ℕ) → formula-lts.Need-add-each (formula-calls t) (formula-at t) formula.Post
 formula-add-each t c =
     let c₁ = c .before .before .before .before .before in
     let c₂ = c₁ .before .before .before .before .before in
     let c₃ = c₂ .before .before .before in
     omega (arith, c₃ .pre .1 .0 .low)
 
-pub formula-entered-mode-requires : (t : ℕ) → formula-lts.Need-entered-mode-requires (formula-calls t) (formula-at t) formula.Post
+formula-entered-mode-requires : (t : ℕ) → formula-lts.Need-entered-mode-requires (formula-calls t) (formula-at t) formula.Post
 formula-entered-mode-requires t c κs = search needs
 
-pub formula-each-requires : (t : ℕ) → formula-lts.Need-each-requires (formula-calls t) (formula-at t) formula.Post
+formula-each-requires : (t : ℕ) → formula-lts.Need-each-requires (formula-calls t) (formula-at t) formula.Post
 formula-each-requires t c κs =
     let c₁ = c .before .before .before .before in
     let c₂ = c₁ .before .before .before .before .before in
@@ -74,7 +74,7 @@ formula-each-requires t c κs =
       ),
     )
 
-pub formula-close-formula-requires : (t : ℕ) → formula-lts.Need-close-formula-requires (formula-calls t) (formula-at t) formula.Post
+formula-close-formula-requires : (t : ℕ) → formula-lts.Need-close-formula-requires (formula-calls t) (formula-at t) formula.Post
 formula-close-formula-requires t c κs =
     let c₁ = c .before .before .before in
     let c₂ = c₁ .before in
@@ -85,14 +85,14 @@ formula-close-formula-requires t c κs =
       omega (arith, c₁ .each .kept .0, c₃ .put-formula-begin .kept .0, c₅ .pre .1 .0 .room),
     )
 
-pub formula-same-length : (t : ℕ) → formula-lts.Need-same-length (formula-calls t) (formula-at t) formula.Post
+formula-same-length : (t : ℕ) → formula-lts.Need-same-length (formula-calls t) (formula-at t) formula.Post
 formula-same-length t c =
     let c₁ = c .before .before .before .before .before in
     let c₂ = c₁ .before in
     let c₃ = c₂ .before .before .before .before .before in
     c .before .before .close-formula .kept .0 ∙ c₂ .each .kept .0 ∙ c₃ .put-formula-begin .kept .0
 
-pub formula-returns-2 : (t : ℕ) → formula-lts.Need-returns-2 (formula-calls t) (formula-at t) formula.Post
+formula-returns-2 : (t : ℕ) → formula-lts.Need-returns-2 (formula-calls t) (formula-at t) formula.Post
 formula-returns-2 t c =
     let c₁ = c .before .before .before .before .before in
     let c₂ = c₁ .before in
@@ -111,3 +111,21 @@ formula-returns-2 t c =
     (agrees-close (omega (arith, c₄ .put-formula-begin .kept .0, c₉ .pre .1 .0 .room))
     (loops-at 1 (withMode Math (c₉ .args .c)) Plain (loops-as Plain (c₃ .entered-mode .ensures) (c₂ .each .ensures)) rs ready f
     sp n h) (c .before .before .close-formula .ensures)))
+
+-- its code meets what it promises, if those it calls do where less is left
+pub formula-closed : {M : Type 1} (t : ℕ) → formula-lts.Closed (formula-calls t) (formula-at t) formula.Post M
+formula-closed t =
+    formula-lts.spec (formula-calls t)
+    (formula-at t)
+    formula.Post
+    (formula-is-valid-requires t)
+    (formula-refuse-requires t)
+    (formula-returns t)
+    (formula-is-inline-requires t)
+    (formula-put-formula-begin-requires t)
+    (formula-add-each t)
+    (formula-entered-mode-requires t)
+    (formula-each-requires t)
+    (formula-close-formula-requires t)
+    (formula-same-length t)
+    (formula-returns-2 t)

@@ -19,30 +19,30 @@ use Rattle.mitex.proofs.greedy.Reads as greedy
 use Rattle.mitex.proofs.+arguments+body+captioned+clause_lr+colored+command+command_color+convert+curly_group+each+env_body+env_figure+env_math+env_plain+env_table+environment+formula+greedy+normal_command+turn.Lts-greedy as greedy-lts
 use Rattle.mitex.proofs.+arguments+body+captioned+clause_lr+colored+command+command_color+convert+curly_group+each+env_body+env_figure+env_math+env_plain+env_table+environment+formula+greedy+normal_command+turn.Proof.Setup.{greedy-at, greedy-calls}
 
-pub greedy-greedy-node-requires : (t : ℕ) → greedy-lts.Need-greedy-node-requires (greedy-calls t) (greedy-at t) greedy.Post
+greedy-greedy-node-requires : (t : ℕ) → greedy-lts.Need-greedy-node-requires (greedy-calls t) (greedy-at t) greedy.Post
 greedy-greedy-node-requires t c κs =
     siblings-forest (c .before .before .before .before .before .pre .1 .0) (c .before .before .before .before .before .pre .1 .1 .1)
 
-pub greedy-enum-told : (t : ℕ) → greedy-lts.Need-enum-told (greedy-calls t) (greedy-at t) greedy.Post
+greedy-enum-told : (t : ℕ) → greedy-lts.Need-enum-told (greedy-calls t) (greedy-at t) greedy.Post
 greedy-enum-told t c = search needs
 
-pub greedy-refuse-requires : (t : ℕ) → greedy-lts.Need-refuse-requires (greedy-calls t) (greedy-at t) greedy.Post
+greedy-refuse-requires : (t : ℕ) → greedy-lts.Need-refuse-requires (greedy-calls t) (greedy-at t) greedy.Post
 greedy-refuse-requires t c κs = search needs
 
-pub greedy-enum-known-part : (t : ℕ) → greedy-lts.Need-enum-known-part (greedy-calls t) (greedy-at t) greedy.Post
+greedy-enum-known-part : (t : ℕ) → greedy-lts.Need-enum-known-part (greedy-calls t) (greedy-at t) greedy.Post
 greedy-enum-known-part t c = search needs
 
-pub greedy-slice-aggregate-put : (t : ℕ) → greedy-lts.Need-slice-aggregate-put (greedy-calls t) (greedy-at t) greedy.Post
+greedy-slice-aggregate-put : (t : ℕ) → greedy-lts.Need-slice-aggregate-put (greedy-calls t) (greedy-at t) greedy.Post
 greedy-slice-aggregate-put t c = search needs
 
-pub greedy-put-requires : (t : ℕ) → greedy-lts.Need-put-requires (greedy-calls t) (greedy-at t) greedy.Post
+greedy-put-requires : (t : ℕ) → greedy-lts.Need-put-requires (greedy-calls t) (greedy-at t) greedy.Post
 greedy-put-requires t c κs =
     let c₁ = c .before .before .before .before .before in
     let c₂ = c₁ .before .before .before .before .before in
     let c₃ = c₂ .before in
     (c₃ .pre .1 .0 .place, c₃ .pre .1 .0 .room)
 
-pub greedy-sub-each : (t : ℕ) → greedy-lts.Need-sub-each (greedy-calls t) (greedy-at t) greedy.Post
+greedy-sub-each : (t : ℕ) → greedy-lts.Need-sub-each (greedy-calls t) (greedy-at t) greedy.Post
 greedy-sub-each t c =
     let c₁ = c .before .before .before .before .before in
     let c₂ = c₁ .before .before in
@@ -51,7 +51,7 @@ greedy-sub-each t c =
     let c₅ = c₄ .before in
     (greedy-stands (c₃ .greedy-node .ensures (c₅ .pre .1 .1 .1 .forest) (c₅ .pre .1 .1 .1 .spells)) (c₂ .part .given .1)) .inside .low
 
-pub greedy-part-each-start : (t : ℕ) → greedy-lts.Need-part-each-start (greedy-calls t) (greedy-at t) greedy.Post
+greedy-part-each-start : (t : ℕ) → greedy-lts.Need-part-each-start (greedy-calls t) (greedy-at t) greedy.Post
 greedy-part-each-start t c =
     let c₁ = c .before .before .before .before .before in
     let c₂ = c₁ .before .before in
@@ -60,7 +60,7 @@ greedy-part-each-start t c =
     let c₅ = c₄ .before in
     (greedy-stands (c₃ .greedy-node .ensures (c₅ .pre .1 .1 .1 .forest) (c₅ .pre .1 .1 .1 .spells)) (c₂ .part .given .1)) .inside .low
 
-pub greedy-part-each-end : (t : ℕ) → greedy-lts.Need-part-each-end (greedy-calls t) (greedy-at t) greedy.Post
+greedy-part-each-end : (t : ℕ) → greedy-lts.Need-part-each-end (greedy-calls t) (greedy-at t) greedy.Post
 greedy-part-each-end t c =
     let c₁ = c .before .before .before .before .before in
     let c₂ = c₁ .before .before in
@@ -69,7 +69,7 @@ greedy-part-each-end t c =
     let c₅ = c₄ .before in
     (greedy-stands (c₃ .greedy-node .ensures (c₅ .pre .1 .1 .1 .forest) (c₅ .pre .1 .1 .1 .spells)) (c₂ .part .given .1)) .inside .high
 
-pub greedy-sub-each-2 : (t : ℕ) → greedy-lts.Need-sub-each-2 (greedy-calls t) (greedy-at t) greedy.Post
+greedy-sub-each-2 : (t : ℕ) → greedy-lts.Need-sub-each-2 (greedy-calls t) (greedy-at t) greedy.Post
 greedy-sub-each-2 t c =
     let c₁ = c .before .before .before .before .before in
     let c₂ = c₁ .before .before .before in
@@ -78,7 +78,7 @@ greedy-sub-each-2 t c =
     let c₅ = c₄ .before in
     (greedy-stands (c₃ .greedy-node .ensures (c₅ .pre .1 .1 .1 .forest) (c₅ .pre .1 .1 .1 .spells)) (c₂ .part .given .1)) .inside .begun
 
-pub greedy-part-each-start-2 : (t : ℕ) → greedy-lts.Need-part-each-start-2 (greedy-calls t) (greedy-at t) greedy.Post
+greedy-part-each-start-2 : (t : ℕ) → greedy-lts.Need-part-each-start-2 (greedy-calls t) (greedy-at t) greedy.Post
 greedy-part-each-start-2 t c =
     let c₁ = c .before .before .before .before .before in
     let c₂ = c₁ .before .before .before in
@@ -87,7 +87,7 @@ greedy-part-each-start-2 t c =
     let c₅ = c₄ .before in
     (greedy-stands (c₃ .greedy-node .ensures (c₅ .pre .1 .1 .1 .forest) (c₅ .pre .1 .1 .1 .spells)) (c₂ .part .given .1)) .inside .begun
 
-pub greedy-part-each-end-2 : (t : ℕ) → greedy-lts.Need-part-each-end-2 (greedy-calls t) (greedy-at t) greedy.Post
+greedy-part-each-end-2 : (t : ℕ) → greedy-lts.Need-part-each-end-2 (greedy-calls t) (greedy-at t) greedy.Post
 greedy-part-each-end-2 t c =
     let c₁ = c .before .before .before .before .before in
     let c₂ = c₁ .before .before .before in
@@ -96,7 +96,7 @@ greedy-part-each-end-2 t c =
     let c₅ = c₄ .before in
     (greedy-stands (c₃ .greedy-node .ensures (c₅ .pre .1 .1 .1 .forest) (c₅ .pre .1 .1 .1 .spells)) (c₂ .part .given .1)) .inside .stop
 
-pub greedy-add-each : (t : ℕ) → greedy-lts.Need-add-each (greedy-calls t) (greedy-at t) greedy.Post
+greedy-add-each : (t : ℕ) → greedy-lts.Need-add-each (greedy-calls t) (greedy-at t) greedy.Post
 greedy-add-each t c =
     let c₁ = c .before .before .before .before .before in
     let c₂ = c₁ .before .before .before .before .before in
@@ -104,7 +104,7 @@ greedy-add-each t c =
     let c₄ = c₃ .before .before in
     omega (arith, c₄ .pre .1 .0 .low)
 
-pub greedy-add-each-2 : (t : ℕ) → greedy-lts.Need-add-each-2 (greedy-calls t) (greedy-at t) greedy.Post
+greedy-add-each-2 : (t : ℕ) → greedy-lts.Need-add-each-2 (greedy-calls t) (greedy-at t) greedy.Post
 greedy-add-each-2 t c =
     let c₁ = c .before .before .before .before .before in
     let c₂ = c₁ .before .before .before .before in
@@ -114,7 +114,7 @@ greedy-add-each-2 t c =
     let q = (greedy-stands (c₃ .greedy-node .ensures (c₅ .pre .1 .1 .1 .forest) (c₅ .pre .1 .1 .1 .spells)) (c₂ .part .given .1)) .inside in
     omega (arith, c₅ .pre .1 .0 .low, q .low, q .high)
 
-pub greedy-each-requires : (t : ℕ) → greedy-lts.Need-each-requires (greedy-calls t) (greedy-at t) greedy.Post
+greedy-each-requires : (t : ℕ) → greedy-lts.Need-each-requires (greedy-calls t) (greedy-at t) greedy.Post
 greedy-each-requires t c κs =
     let c₁ = c .before .before .before .before .before in
     let c₂ = c₁ .before .before .before .before in
@@ -132,10 +132,10 @@ greedy-each-requires t c κs =
       ),
     )
 
-pub greedy-slice-aggregate-close : (t : ℕ) → greedy-lts.Need-slice-aggregate-close (greedy-calls t) (greedy-at t) greedy.Post
+greedy-slice-aggregate-close : (t : ℕ) → greedy-lts.Need-slice-aggregate-close (greedy-calls t) (greedy-at t) greedy.Post
 greedy-slice-aggregate-close t c = search needs
 
-pub greedy-close-requires : (t : ℕ) → greedy-lts.Need-close-requires (greedy-calls t) (greedy-at t) greedy.Post
+greedy-close-requires : (t : ℕ) → greedy-lts.Need-close-requires (greedy-calls t) (greedy-at t) greedy.Post
 greedy-close-requires t c κs =
     let c₁ = c .before .before .before .before in
     let c₂ = c₁ .before .before .before .before .before in
@@ -149,7 +149,7 @@ greedy-close-requires t c κs =
       omega (arith, c₇ .pre .1 .0 .room, c₁ .each .kept .0, c₃ .put .kept .0),
     )
 
-pub greedy-returns : (t : ℕ) → greedy-lts.Need-returns (greedy-calls t) (greedy-at t) greedy.Post
+greedy-returns : (t : ℕ) → greedy-lts.Need-returns (greedy-calls t) (greedy-at t) greedy.Post
 greedy-returns t c =
     let c₁ = c .before .before .before in
     let c₂ = c₁ .before .before .before .before .before in
@@ -159,7 +159,7 @@ greedy-returns t c =
     (greedy-none (c₁ .greedy-node .ensures f sp) (c .before .enum-told .given .1) (meaning n) (contextOf rs (c₃ .args .c))
     (carryOf (c₃ .args .c))) (agrees-here (omega arith) (c .refuse .ensures))
 
-pub greedy-same-length : (t : ℕ) → greedy-lts.Need-same-length (greedy-calls t) (greedy-at t) greedy.Post
+greedy-same-length : (t : ℕ) → greedy-lts.Need-same-length (greedy-calls t) (greedy-at t) greedy.Post
 greedy-same-length t c =
     let c₁ = c .before .before .before .before .before in
     let c₂ = c₁ .before .before in
@@ -167,7 +167,7 @@ greedy-same-length t c =
     let c₄ = c₃ .before in
     c .before .before .close .kept .0 ∙ c₂ .each .kept .0 ∙ c₄ .put .kept .0
 
-pub greedy-returns-2 : (t : ℕ) → greedy-lts.Need-returns-2 (greedy-calls t) (greedy-at t) greedy.Post
+greedy-returns-2 : (t : ℕ) → greedy-lts.Need-returns-2 (greedy-calls t) (greedy-at t) greedy.Post
 greedy-returns-2 t c =
     let c₁ = c .before .before .before .before .before in
     let c₂ = c₁ .before .before in
@@ -184,3 +184,30 @@ greedy-returns-2 t c =
     (agrees-close (omega (arith, c₈ .pre .1 .0 .room, c₄ .put .kept .0))
     (loops-at _ (c₈ .args .c) Greedy (loops-row (c₈ .args .c) Greedy (omega arith) (c₂ .each .ensures)) rs ready (q .forest)
     (q .spells) n (omega (arith, h, q .fits))) (c .before .before .close .ensures)))
+
+-- its code meets what it promises, if those it calls do where less is left
+pub greedy-closed : {M : Type 1} (t : ℕ) → greedy-lts.Closed (greedy-calls t) (greedy-at t) greedy.Post M
+greedy-closed t =
+    greedy-lts.spec (greedy-calls t)
+    (greedy-at t)
+    greedy.Post
+    (greedy-greedy-node-requires t)
+    (greedy-enum-told t)
+    (greedy-refuse-requires t)
+    (greedy-enum-known-part t)
+    (greedy-slice-aggregate-put t)
+    (greedy-put-requires t)
+    (greedy-sub-each t)
+    (greedy-part-each-start t)
+    (greedy-part-each-end t)
+    (greedy-sub-each-2 t)
+    (greedy-part-each-start-2 t)
+    (greedy-part-each-end-2 t)
+    (greedy-add-each t)
+    (greedy-add-each-2 t)
+    (greedy-each-requires t)
+    (greedy-slice-aggregate-close t)
+    (greedy-close-requires t)
+    (greedy-returns t)
+    (greedy-same-length t)
+    (greedy-returns-2 t)

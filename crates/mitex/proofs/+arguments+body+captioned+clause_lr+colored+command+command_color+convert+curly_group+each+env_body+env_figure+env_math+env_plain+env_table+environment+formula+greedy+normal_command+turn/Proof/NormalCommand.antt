@@ -19,19 +19,19 @@ use Rattle.mitex.proofs.normal_command.Reads as normal-command
 use Rattle.mitex.proofs.+arguments+body+captioned+clause_lr+colored+command+command_color+convert+curly_group+each+env_body+env_figure+env_math+env_plain+env_table+environment+formula+greedy+normal_command+turn.Lts-normal_command as normal-command-lts
 use Rattle.mitex.proofs.+arguments+body+captioned+clause_lr+colored+command+command_color+convert+curly_group+each+env_body+env_figure+env_math+env_plain+env_table+environment+formula+greedy+normal_command+turn.Proof.Setup.{normal-command-at, normal-command-calls}
 
-pub normal-command-get-cmd-requires : (t : ℕ) → normal-command-lts.Need-get-cmd-requires (normal-command-calls t) (normal-command-at t) normal-command.Post
+normal-command-get-cmd-requires : (t : ℕ) → normal-command-lts.Need-get-cmd-requires (normal-command-calls t) (normal-command-at t) normal-command.Post
 normal-command-get-cmd-requires t c κs =
     let c₁ = c .before .before .before .before .before in
     let c₂ = c₁ .before in
     c₂ .pre .1 .1 .0
 
-pub normal-command-is-absent-requires : (t : ℕ) → normal-command-lts.Need-is-absent-requires (normal-command-calls t) (normal-command-at t) normal-command.Post
+normal-command-is-absent-requires : (t : ℕ) → normal-command-lts.Need-is-absent-requires (normal-command-calls t) (normal-command-at t) normal-command.Post
 normal-command-is-absent-requires t c κs = search needs
 
-pub normal-command-refuse-requires : (t : ℕ) → normal-command-lts.Need-refuse-requires (normal-command-calls t) (normal-command-at t) normal-command.Post
+normal-command-refuse-requires : (t : ℕ) → normal-command-lts.Need-refuse-requires (normal-command-calls t) (normal-command-at t) normal-command.Post
 normal-command-refuse-requires t c κs = search needs
 
-pub normal-command-returns : (t : ℕ) → normal-command-lts.Need-returns (normal-command-calls t) (normal-command-at t) normal-command.Post
+normal-command-returns : (t : ℕ) → normal-command-lts.Need-returns (normal-command-calls t) (normal-command-at t) normal-command.Post
 normal-command-returns t c =
     let c₁ = c .before .before .before in
     let c₂ = c₁ .before .before .before .before .before in
@@ -42,32 +42,32 @@ normal-command-returns t c =
     ((c₁ .get-cmd .ensures rs (ready .decodes)) .rule) (sym (c .before .before .is-absent .ensures) ∙ c .before .if1 .taken))
     (agrees-here (omega arith) (c .refuse .ensures))
 
-pub normal-command-written-name-requires : (t : ℕ) → normal-command-lts.Need-written-name-requires (normal-command-calls t) (normal-command-at t) normal-command.Post
+normal-command-written-name-requires : (t : ℕ) → normal-command-lts.Need-written-name-requires (normal-command-calls t) (normal-command-at t) normal-command.Post
 normal-command-written-name-requires t c κs =
     let c₁ = c .before .before .before .before .before in
     let c₂ = c₁ .before .before .before .before in
     (c .before .before .get-cmd .ensures (c₂ .pre .1 .1 .0 .rules) (c₂ .pre .1 .1 .0 .ready .decodes)) .inside
 
-pub normal-command-put-typst-name-requires : (t : ℕ) → normal-command-lts.Need-put-typst-name-requires (normal-command-calls t) (normal-command-at t) normal-command.Post
+normal-command-put-typst-name-requires : (t : ℕ) → normal-command-lts.Need-put-typst-name-requires (normal-command-calls t) (normal-command-at t) normal-command.Post
 normal-command-put-typst-name-requires t c κs =
     let c₁ = c .before .before .before .before .before in
     let c₂ = c₁ .before .before .before .before .before in
     let c₃ = c₂ .before in
     (c₃ .pre .1 .0 .place, c₃ .pre .1 .0 .room)
 
-pub normal-command-class-of-requires : (t : ℕ) → normal-command-lts.Need-class-of-requires (normal-command-calls t) (normal-command-at t) normal-command.Post
+normal-command-class-of-requires : (t : ℕ) → normal-command-lts.Need-class-of-requires (normal-command-calls t) (normal-command-at t) normal-command.Post
 normal-command-class-of-requires t c κs = search needs
 
-pub normal-command-arguments-of-requires : (t : ℕ) → normal-command-lts.Need-arguments-of-requires (normal-command-calls t) (normal-command-at t) normal-command.Post
+normal-command-arguments-of-requires : (t : ℕ) → normal-command-lts.Need-arguments-of-requires (normal-command-calls t) (normal-command-at t) normal-command.Post
 normal-command-arguments-of-requires t c κs = search needs
 
-pub normal-command-is-stack-requires : (t : ℕ) → normal-command-lts.Need-is-stack-requires (normal-command-calls t) (normal-command-at t) normal-command.Post
+normal-command-is-stack-requires : (t : ℕ) → normal-command-lts.Need-is-stack-requires (normal-command-calls t) (normal-command-at t) normal-command.Post
 normal-command-is-stack-requires t c κs = search needs
 
-pub normal-command-stacked-requires : (t : ℕ) → normal-command-lts.Need-stacked-requires (normal-command-calls t) (normal-command-at t) normal-command.Post
+normal-command-stacked-requires : (t : ℕ) → normal-command-lts.Need-stacked-requires (normal-command-calls t) (normal-command-at t) normal-command.Post
 normal-command-stacked-requires t c κs = search needs
 
-pub normal-command-arguments-requires : (t : ℕ) → normal-command-lts.Need-arguments-requires (normal-command-calls t) (normal-command-at t) normal-command.Post
+normal-command-arguments-requires : (t : ℕ) → normal-command-lts.Need-arguments-requires (normal-command-calls t) (normal-command-at t) normal-command.Post
 normal-command-arguments-requires t c κs =
     let c₁ = c .before .before .before .before .before in
     let c₂ = c₁ .before .before in
@@ -85,10 +85,10 @@ normal-command-arguments-requires t c κs =
       ),
     )
 
-pub normal-command-slice-aggregate-close : (t : ℕ) → normal-command-lts.Need-slice-aggregate-close (normal-command-calls t) (normal-command-at t) normal-command.Post
+normal-command-slice-aggregate-close : (t : ℕ) → normal-command-lts.Need-slice-aggregate-close (normal-command-calls t) (normal-command-at t) normal-command.Post
 normal-command-slice-aggregate-close t c = search needs
 
-pub normal-command-close-requires : (t : ℕ) → normal-command-lts.Need-close-requires (normal-command-calls t) (normal-command-at t) normal-command.Post
+normal-command-close-requires : (t : ℕ) → normal-command-lts.Need-close-requires (normal-command-calls t) (normal-command-at t) normal-command.Post
 normal-command-close-requires t c κs =
     let c₁ = c .before .before .before .before in
     let c₂ = c₁ .before .before in
@@ -103,7 +103,7 @@ normal-command-close-requires t c κs =
       omega (arith, c₇ .pre .1 .0 .room, c₁ .arguments .kept .0, c₄ .put-typst-name .kept .0),
     )
 
-pub normal-command-same-length : (t : ℕ) → normal-command-lts.Need-same-length (normal-command-calls t) (normal-command-at t) normal-command.Post
+normal-command-same-length : (t : ℕ) → normal-command-lts.Need-same-length (normal-command-calls t) (normal-command-at t) normal-command.Post
 normal-command-same-length t c =
     let c₁ = c .before .before .before .before .before in
     let c₂ = c₁ .before .before in
@@ -111,7 +111,7 @@ normal-command-same-length t c =
     let c₄ = c₃ .before .before .before in
     c .before .before .close .kept .0 ∙ c₂ .arguments .kept .0 ∙ c₄ .put-typst-name .kept .0
 
-pub normal-command-returns-2 : (t : ℕ) → normal-command-lts.Need-returns-2 (normal-command-calls t) (normal-command-at t) normal-command.Post
+normal-command-returns-2 : (t : ℕ) → normal-command-lts.Need-returns-2 (normal-command-calls t) (normal-command-at t) normal-command.Post
 normal-command-returns-2 t c =
     let c₁ = c .before .before .before .before .before in
     let c₂ = c₁ .before .before in
@@ -143,3 +143,25 @@ normal-command-returns-2 t c =
     (agrees-close (omega (arith, c₁₃ .pre .1 .0 .room, c₇ .put-typst-name .kept .0))
     (walks-as (argumentsBy (c₅ .arguments-of .result)) (c₃ .stacked .ensures) (c₂ .arguments .ensures) rs ready f sp n h)
     (c .before .before .close .ensures)))
+
+-- its code meets what it promises, if those it calls do where less is left
+pub normal-command-closed : {M : Type 1} (t : ℕ) → normal-command-lts.Closed (normal-command-calls t) (normal-command-at t) normal-command.Post M
+normal-command-closed t =
+    normal-command-lts.spec (normal-command-calls t)
+    (normal-command-at t)
+    normal-command.Post
+    (normal-command-get-cmd-requires t)
+    (normal-command-is-absent-requires t)
+    (normal-command-refuse-requires t)
+    (normal-command-returns t)
+    (normal-command-written-name-requires t)
+    (normal-command-put-typst-name-requires t)
+    (normal-command-class-of-requires t)
+    (normal-command-arguments-of-requires t)
+    (normal-command-is-stack-requires t)
+    (normal-command-stacked-requires t)
+    (normal-command-arguments-requires t)
+    (normal-command-slice-aggregate-close t)
+    (normal-command-close-requires t)
+    (normal-command-same-length t)
+    (normal-command-returns-2 t)

@@ -326,7 +326,7 @@ abbrev pub command-calls : ℕ → command-lts.Claims
 command-calls t = (name-tok-reads.Asked, name-tok-reads.Learnt, past-first-reads.Asked, past-first-reads.Learnt, command-of-reads.Asked, command-of-reads.Learnt, convert-command-item-reads.Asked, convert-command-item-reads.Learnt, convert-command-label-reads.Asked, convert-command-label-reads.Learnt, convert-command-includegraphics-reads.Asked, convert-command-includegraphics-reads.Learnt, went-reads.Asked, went-reads.Learnt, color-model-reads.Asked, color-model-reads.Learnt, body-loop-reads.Asked, body-loop-reads.Learnt, command-color-below t, command-color.Post, argument-model-reads.Asked, argument-model-reads.Learnt, arguments-loop-reads.Asked, arguments-loop-reads.Learnt, normal-command-below t, normal-command.Post)
 
 abbrev pub convert-calls : ℕ → convert-lts.Claims
-convert-calls t = (element-of-reads.Asked, element-of-reads.Learnt, refuse-reads.Asked, refuse-reads.Learnt, with-flag-reads.Asked, with-flag-reads.Learnt, each-below t, each.Post, formula-below t, formula.Post, curly-group-below t, curly-group.Post, clause-lr-below t, clause-lr.Post, attach-loop-reads.Asked, attach-loop-reads.Learnt, went-reads.Asked, went-reads.Learnt, command-below t, command.Post, environment-below t, environment.Post, put-reads.Asked, put-reads.Learnt, convert-token-reads.Asked, convert-token-reads.Learnt)
+convert-calls t = (element-of-reads.Asked, element-of-reads.Learnt, with-flag-reads.Asked, with-flag-reads.Learnt, refuse-reads.Asked, refuse-reads.Learnt, each-below t, each.Post, formula-below t, formula.Post, curly-group-below t, curly-group.Post, clause-lr-below t, clause-lr.Post, attach-loop-reads.Asked, attach-loop-reads.Learnt, went-reads.Asked, went-reads.Learnt, command-below t, command.Post, environment-below t, environment.Post, put-reads.Asked, put-reads.Learnt, convert-token-reads.Asked, convert-token-reads.Learnt)
 
 abbrev pub clause-lr-calls : ℕ → clause-lr-lts.Claims
 clause-lr-calls t = (went-reads.Asked, went-reads.Learnt, span-at-reads.Asked, span-at-reads.Learnt, past-first-reads.Asked, past-first-reads.Learnt, put-lr-begin-reads.Asked, put-lr-begin-reads.Learnt, each-below t, each.Post, close-lr-reads.Asked, close-lr-reads.Learnt)
