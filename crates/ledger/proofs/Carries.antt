@@ -1,6 +1,6 @@
 -- `sameCarry` decides equality of carries.
 use mathlib.Core.Path.{_≡_, refl, sym, ap, _∙_}
-use mathlib.Core.Bool.{Bool, true, false, _&&_, not, Bool·beq, true≢false, false≢true, and-eq-true-iff}
+use mathlib.Core.Bool.{Bool, true, false, not, Bool·beq, true≢false, false≢true, and-eq-true-iff}
 use mathlib.Core.List.{List}
 use Prim.Native.Nat.{ℕ}
 use lib.ListN.{take}
@@ -18,12 +18,6 @@ beq-true true true e = refl
 beq-true true false e = sym e
 beq-true false true e = e
 beq-true false false e = refl
-
-beq-apart : (a b : Bool) → (a ≡ b → ⊥) → Bool·beq a b ≡ false
-beq-apart true true h = absurd (h refl)
-beq-apart true false h = refl
-beq-apart false true h = refl
-beq-apart false false h = absurd (h refl)
 
 beq-refl : (a : Bool) → Bool·beq a a ≡ true
 beq-refl true = refl
@@ -87,11 +81,3 @@ sameCarry-refl c = rw (beq-refl (c .flag), sameLabel-refl (c .label))
 
 pub sameCarry-false : (c d : Carry) → sameCarry c d ≡ false → c ≡ d → ⊥
 sameCarry-false c d e q = true≢false (sym (sameCarry-refl c) ∙ ap (sameCarry c) q ∙ e)
-
-pub sameCarry-apart : (c d : Carry) → (d .flag ≡ c .flag → ⊥) → false ≡ sameCarry c d
-unfolding sameCarry
-sameCarry-apart c d h = ap (λ b. b && sameLabel (c .label) (d .label)) (sym (beq-apart (c .flag) (d .flag) (λ e. h (sym e))))
-
-pub sameCarry-label : (c d : Carry) → d .flag ≡ c .flag → sameLabel (c .label) (d .label) ≡ sameCarry c d
-unfolding sameCarry
-sameCarry-label c d h = rw h (rw (beq-refl (c .flag)))

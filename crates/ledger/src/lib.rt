@@ -103,10 +103,9 @@ pub fn same_carry(ledger: &[u8], i: usize, converter: Converter) -> bool
     requires { ⌜ RowFits i (now ledger) × (converter .«label_len» ≤ labelMost) ⌝ }
     ensures { λ r. ⌜ r ≡ sameCarry (carryOf converter) ((rowAt i (now (ledger .entry))) .carry) ⌝ }
 {
-    if row_flag(ledger, i) != converter.skip_next_space {
-        return false;
-    }
-    same_label(ledger, i, converter)
+    let flags = converter.skip_next_space == row_flag(ledger, i);
+    let labels = same_label(ledger, i, converter);
+    flags && labels
 }
 
 // ---- fitting
