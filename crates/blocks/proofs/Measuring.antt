@@ -4,9 +4,11 @@
 use mathlib.Core.Path.{_≡_, refl, sym, ap, subst, _∙_}
 use mathlib.Core.Bool.{Bool, true, false, cond, _&&_}
 use mathlib.Core.List.{List, [], _∷_}
-use Prim.Native.Nat.{ℕ, suc, _+_, _≤_, _<_, min}
+use Prim.Native.Nat.{ℕ, suc, _+_, _-_, _≤_, _<_, min}
 use native.Mathlib.Omega.{arith}
+use borrow.Author.Tests.{lt-ltb}
 use lib.ListN.{length, drop, length-append, length-drop}
+use lib.Dec.{ltb}
 use Rattle.text.specs.Writing.{cap}
 use Rattle.mitex_syntax.specs.Tree.{Tree, Forest, size, count}
 use Rattle.mitex_syntax.specs.Tree.Forest.{none, more}
@@ -23,7 +25,7 @@ use Rattle.editing.specs.Walk.{Converter as Blocks}
 use Rattle.editing.specs.Edit.{rowCarries}
 use Rattle.editing.proofs.Bytes.{rowCarries-at}
 use Rattle.blocks.specs.Manuscript.{listed, block, blocksIn}
-use Rattle.blocks.specs.Passes.{Whole, rowNo, converterOf, Stepped, Steps, walkBy, Came}
+use Rattle.blocks.specs.Passes.{Whole, rowNo, converterOf, Stepped, Steps, meets, walkBy, Came}
 use Rattle.blocks.specs.Passes.Came.{stops, comes}
 use Rattle.blocks.specs.declared.Standing.{Standing}
 use Rattle.blocks.proofs.Stepping.{fine, same-mode, onward}
@@ -41,6 +43,7 @@ walkFrom {s = s} {n} w edits kept =
 module _ {rules index rows text : List ℕ} {from : Standing} {n : ℕ} (w : Whole rules index rows text from n) where
   pub record Passed (edits : Bool) (kept : List ℕ) (s : Standing) : Type 0 where
     pub whole : Whole rules index rows text s n
+    pub later : from .block ≤ s .block
     pub finish : (r : Standing) → Came s r (walkFrom whole edits kept) → Came from r (walkFrom w edits kept)
 
 -- ---- one block of a walk
@@ -209,7 +212,7 @@ module _ {rules index rows text : List ℕ} {s : Standing} {n : ℕ} (w : Whole 
 pub passed-start :
     {rules index rows text : List ℕ} {from : Standing} {n : ℕ} {edits : Bool} {kept : List ℕ} (w : Whole rules index rows text from n)
     → Passed w edits kept from
-passed-start w = record { whole = w; finish = λ r m. m }
+passed-start w = record { whole = w; later = omega arith; finish = λ r m. m }
 
 module _ {rules index rows text : List ℕ} {from s : Standing} {n : ℕ} {w : Whole rules index rows text from n} {edits : Bool}
     {kept : List ℕ} (p : Passed w edits kept s) where
@@ -220,14 +223,25 @@ module _ {rules index rows text : List ℕ} {from s : Standing} {n : ℕ} {w : W
     pub passed-refused : (r .walked .refusal ≡ 0 → ⊥) → Came from r (walkFrom w edits kept)
     passed-refused z = p .finish r (came-declined (p .whole) h passes edits kept z)
 
-    module _ (z : r .walked .refusal ≡ 0) (b : Bool)
-        (is : b ≡ edits && sameCarry (carryOf (r .walked .converter)) ((rowAt (s .block) kept) .carry)) where
+    module _ (z : r .walked .refusal ≡ 0) (b : Bool) (is : b ≡ meets edits (from .block) r kept) where
       abbrev next-whole : Whole rules index rows text r n
       next-whole = behind (p .whole) h passes z
 
+      -- the block passed is one behind the start, and its kept row the one before
+      is-met : b ≡ edits && sameCarry (carryOf (r .walked .converter)) ((rowAt (s .block) kept) .carry)
+      is-met =
+          let one = one-more (p .whole) h passes in
+          let past : ltb (from .block) (r .block) ≡ true = lt-ltb (from .block) (r .block) (omega (arith, p .later)) in
+          let row : r .block - 1 ≡ s .block = omega arith in
+          is ∙ (λ i. edits && (past i && sameCarry (carryOf (r .walked .converter)) ((rowAt (row i) kept) .carry)))
+
       pub passed-met : b ≡ true → Came from r (walkFrom w edits kept)
-      passed-met e = p .finish r (came-turn (p .whole) h passes edits kept z (sym e ∙ is) (came-here z (next-whole .given .place)))
+      passed-met e = p .finish r (came-turn (p .whole) h passes edits kept z (sym e ∙ is-met) (came-here z (next-whole .given .place)))
 
       pub passed-next : b ≡ false → Passed w edits kept r
       passed-next e =
-          record { whole = next-whole; finish = λ q m. p .finish q (came-turn (p .whole) h passes edits kept z (sym e ∙ is) m) }
+          record {
+            whole = next-whole;
+            later = omega (arith, p .later, one-more (p .whole) h passes);
+            finish = λ q m. p .finish q (came-turn (p .whole) h passes edits kept z (sym e ∙ is-met) m);
+          }

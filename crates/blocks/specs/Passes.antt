@@ -1,11 +1,12 @@
 -- What the passes over the blocks are given, and what they promise. A promise is made for whatever the pass may have been given: for
 -- every list of rules that the rule file has, and every forest that the rows and the text spell.
 use mathlib.Core.Path.{_≡_}
-use mathlib.Core.Bool.{Bool, true, false, cond}
+use mathlib.Core.Bool.{Bool, true, false, _&&_}
 use mathlib.Core.List.{List, [], _∷_}
-use Prim.Native.Nat.{ℕ, _+_, _*_, _/_, _≤_, _<_, min}
+use Prim.Native.Nat.{ℕ, _+_, _-_, _*_, _/_, _≤_, _<_, min}
 use lib.ListN.{length, take, drop}
 use lib.Seq.{sets}
+use lib.Dec.{ltb}
 use Rattle.text.specs.Writing.{cap}
 use Rattle.mitex_spec.specs.Rules.{Rule}
 use Rattle.mitex_spec.specs.Index.{Ready}
@@ -19,7 +20,7 @@ use Rattle.mitex_state.specs.State.{carryOf}
 use Rattle.mitex_state.specs.Contract.{placeOf, Agrees, Went}
 use Rattle.mitex_state.specs.declared.LaTeXEnv.the-variants.{None}
 use Rattle.mitex_state.specs.declared.Converter.{Converter}
-use Rattle.ledger.specs.Ledger.{rowSize, decodeRows, encodeRows, Piece, written, rowsFrom}
+use Rattle.ledger.specs.Ledger.{rowSize, rowAt, sameCarry, decodeRows, encodeRows, Piece, written, rowsFrom}
 use Rattle.editing.specs.Walk.{Walk, rowsAll, walk, walkUntil}
 use Rattle.editing.specs.Walk.Walk.{stopped, pieces}
 use Rattle.editing.specs.Walk.{Converter as Blocks}
@@ -123,6 +124,11 @@ abbrev pub Stands : (rows : List ℕ) (k at : ℕ) (c : Converter) (r : Standing
 Stands rows k at c r =
     (blocks : Forest) (text : List ℕ) → SpellsAll blocks rows text → k ≤ count blocks → length text ≤ fileMost
     → Stood blocks rows text k at c r
+
+-- an edit that began at block `first` stops at a standing: behind that block, where the carry is that of the kept row before
+abbrev pub meets : Bool → ℕ → Standing → List ℕ → Bool
+meets edits first s kept =
+    edits && (ltb first (s .block) && sameCarry (carryOf (s .walked .converter)) ((rowAt (s .block - 1) kept) .carry))
 
 -- all blocks, or no further than the kept carry
 abbrev pub walkBy : (𝓒 : Blocks) → Bool → Carry → ℕ → List (𝓒 .Block) → List Carry → Walk

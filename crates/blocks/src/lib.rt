@@ -7,14 +7,13 @@ use mitex_state::Walked;
 use mitex_state::went;
 use mitex_syntax::span_at;
 ghost use mathlib.Core.Path.{_≡_};
-ghost use mathlib.Core.Bool.{true, _&&_};
-ghost use Prim.Native.Nat.{ℕ, _≤_, _<_};
+ghost use mathlib.Core.Bool.{true};
+ghost use Prim.Native.Nat.{ℕ, _-_, _≤_, _<_};
 ghost use lib.ListN.{length};
 ghost use Rattle.text.specs.Writing.{cap};
 ghost use Rattle.mitex_state.specs.Outcome.{labelMost};
-ghost use Rattle.mitex_state.specs.State.{carryOf};
-ghost use Rattle.ledger.specs.Ledger.{RowFits, rowAt, sameCarry};
-ghost use Rattle.blocks.specs.Passes.{Given, Whole, Pieced, SomeBlocks, Steps, Stands, Measures, Writes};
+ghost use Rattle.ledger.specs.Ledger.{RowFits};
+ghost use Rattle.blocks.specs.Passes.{Given, Whole, Pieced, SomeBlocks, Steps, Stands, meets, Measures, Writes};
 
 // Where a pass stands: the next block, the bytes of rows and of text before it, and what the walk over the block before answered.
 pub struct Standing {
@@ -84,15 +83,20 @@ pub fn step<'a>(
     }
 }
 
-// Whether an edit stops behind block `i`: the carry is that of the kept row.
-fn met(kept: &[u8], edits: bool, i: usize, converter: Converter) -> bool
-    requires { ⌜ (edits ≡ true → RowFits i (now kept)) × (converter .«label_len» ≤ labelMost) ⌝ }
-    ensures { λ r. ⌜ r ≡ edits && sameCarry (carryOf converter) ((rowAt i (now (kept .entry))) .carry) ⌝ }
+// Whether an edit that began at block `first` stops at a standing: behind that block, where the carry is that of the kept row before.
+fn met(kept: &[u8], edits: bool, first: usize, s: Standing) -> bool
+    requires { ⌜ (edits ≡ true → first < s .block → RowFits (s .block - 1) (now kept)) × (s .walked .converter .«label_len» ≤ labelMost) ⌝ }
+    ensures { λ r. ⌜ r ≡ meets edits first s (now (kept .entry)) ⌝ }
 {
-    if edits {
-        return same_carry(kept, i, converter);
+    if !edits {
+        return false;
     }
-    false
+    let k = s.block;
+    if k <= first {
+        return false;
+    }
+    let walked = s.walked;
+    same_carry(kept, k - 1, walked.converter)
 }
 
 // Blocks measured from a standing on: up to the last, or in an edit up to the first whose carry is that of its kept row.
@@ -112,17 +116,16 @@ pub fn measure<'a>(
 {
     let mut s = from;
     while s.block < blocks {
-        let k = s.block;
         let mut none = [0u8; 0];
         let next = step(&mut none, rows, text, rules, index, s);
-        s = next;
         let walked = next.walked;
         if walked.refusal != 0 {
             return next;
         }
-        if met(kept, edits, k, walked.converter) {
+        if met(kept, edits, from.block, next) {
             return next;
         }
+        s = next;
     }
     s
 }

@@ -10,10 +10,10 @@ use Rattle.blocks.proofs.measure.Statement.{statement}
 use Rattle.blocks.proofs.measure.Tie as tie
 
 abbrev Inv-loop : tie.InvT-loop
-Inv-loop rows text rules index kept edits blocks s₀ s = (w : Whole rules index rows text s₀ blocks) → Passed w edits kept s
+Inv-loop rows text rules index kept edits from blocks s₀ s = (w : Whole rules index rows text from blocks) → Passed w edits kept s
 
 abbrev μ-loop : tie.MeasureT-loop
-μ-loop rows text rules index kept edits blocks s₀ s = blocks - s .block
+μ-loop rows text rules index kept edits from blocks s₀ s = blocks - s .block
 
 abbrev start : tie.At-loop Inv-loop μ-loop → tie.Start Inv-loop μ-loop
 start c = let d = c .before .before .before in d .before .before .before
@@ -48,7 +48,8 @@ met-requires c κs =
     let d = behind (c .before) in
     let l = standing d in
     let h = d .before .before .if1 .taken in
-    (λ e. start l .pre .1 e _ h, label-short (l .loop .inv (start l .pre .0) .whole) h (d .step .ensures) (c .if2 .left))
+    let w = l .loop .inv (start l .pre .0) .whole in
+    (λ e k. start l .pre .1 e _ (omega (arith, h, one-more w h (d .step .ensures))), label-short w h (d .step .ensures) (c .if2 .left))
 
 returns-2 : tie.Need-returns-2 Inv-loop μ-loop
 returns-2 c =
