@@ -1,16 +1,17 @@
 -- What Convert comes to. The walk of the measuring pass is the document's (`came`): it was refused (`settled-refused`), or it gave a piece
--- for each block. Then text and rows have room or not (`settled-no-text`, `settled-no-rows`), and what the writing pass leaves
--- is what Convert is to leave (`settled-done`).
+-- for each block. Then text and rows have room or not (`settled-no-room`), and what the writing pass leaves is what Convert is to
+-- leave (`settled-done`).
 use mathlib.Core.Path.{_≡_, refl, sym, ap, subst, _∙_}
-use mathlib.Core.Bool.{false, _&&_, and-false}
+use mathlib.Core.Bool.{Bool, true, false, _&&_}
 use mathlib.Core.List.{List, [], _++_, append-nil}
 use mathlib.Core.Option.Option.{some}
-use Prim.Native.Nat.{ℕ, _*_, _/_, _≤_, _<_, min}
+use Prim.Native.Nat.{ℕ, _*_, _≤_, min}
 use native.Mathlib.Omega.{arith}
-use borrow.Author.Tests.{le-leb, lt-leb}
+use borrow.Author.Tests.{le-leb, lt-leb, leb-true, leb-false}
 use lib.ListN.{length, take, drop, drop-of-length-le}
 use lib.Seq.{sets, length-take-le}
 use lib.Dec.{leb}
+use Rattle.text.specs.Writing.{cap}
 use Rattle.mitex_state.specs.Conversion.{startCarry}
 use Rattle.mitex_state.specs.State.{newOf, Carried}
 use Rattle.mitex_state.specs.declared.LaTeXMode.{LaTeXMode}
@@ -22,7 +23,7 @@ use Rattle.editing.specs.Edit.{textMost, roomForText, room, put, settle}
 use Rattle.editing.specs.Edit.Answer.{refused, converted}
 use Rattle.editing.specs.Calls.{Gives}
 use Rattle.editing.proofs.Bytes.{put-stored}
-use Rattle.editing.proofs.Holding.{walked-encodable, rows-length}
+use Rattle.editing.proofs.Holding.{room-says, walked-encodable, rows-length}
 use Rattle.editing.proofs.Walks.{Walked, walk-walked, walked-length}
 use Rattle.blocks.specs.Manuscript.{listed, blocksIn}
 use Rattle.blocks.specs.Passes.{Pieced, Stood, Came, Measures, Writes}
@@ -44,25 +45,21 @@ module _ {v : Walk} {ps : List Piece} (out ledger : List ℕ) (is : v ≡ pieces
   unfolding settle
   settle-full e = rw (is, e) (record { answer = refl; bytes = refl; rows = refl })
 
-  settle-no-text : min (length out) textMost < length (written ps) → Gives (settle v out ledger) (refused 15 0) out ledger
-  unfolding room roomForText
-  settle-no-text h =
-      settle-full (ap (λ b. b && leb (rowSize * length ps) (length ledger)) (lt-leb (length (written ps)) (min (length out) textMost) h))
-
-  settle-no-rows : length ledger < rowSize * length ps → Gives (settle v out ledger) (refused 15 0) out ledger
-  unfolding room
-  settle-no-rows h =
-      let t = roomForText (length (written ps)) (length out) in
-      settle-full (ap (λ b. t && b) (lt-leb (rowSize * length ps) (length ledger) h) ∙ and-false t)
-
   settle-done :
-      {a n : ℕ} {out′ ledger′ : List ℕ} → length (written ps) ≤ min (length out) textMost → rowSize * length ps ≤ length ledger
-      → a ≡ length (written ps) → n ≡ length ps → out′ ≡ put (written ps) out → ledger′ ≡ put (encodeRows (rowsFrom 0 ps)) ledger
+      {a n : ℕ} {out′ ledger′ : List ℕ} → room (length out) (length ledger) ps ≡ true → a ≡ length (written ps) → n ≡ length ps
+      → out′ ≡ put (written ps) out → ledger′ ≡ put (encodeRows (rowsFrom 0 ps)) ledger
       → Gives (settle v out ledger) (converted a n) out′ ledger′
-  unfolding settle room roomForText
-  settle-done h k ea en eo el =
-      rw (is, le-leb (length (written ps)) (min (length out) textMost) h, le-leb (rowSize * length ps) (length ledger) k)
-      (record { answer = λ i. converted (ea i) (en i); bytes = eo; rows = el })
+  unfolding settle
+  settle-done e ea en eo el = rw (is, e) (record { answer = λ i. converted (ea i) (en i); bytes = eo; rows = el })
+
+-- a place, the length as far as a row can say it, has room where the length has
+room-for : (a l size : ℕ) → a ≡ min cap l → roomForText a size ≡ roomForText l size
+unfolding roomForText
+room-for a l size e = go (leb a (min size textMost)) refl
+  where
+    go : (b : Bool) → leb a (min size textMost) ≡ b → leb a (min size textMost) ≡ leb l (min size textMost)
+    go true q = q ∙ sym (le-leb l (min size textMost) (omega (arith, leb-true a (min size textMost) q)))
+    go false q = q ∙ sym (lt-leb l (min size textMost) (omega (arith, leb-false a (min size textMost) q)))
 
 -- a text written over a lent part as long as itself
 part-put :
@@ -119,47 +116,58 @@ module _ {rules index rows text : List ℕ} {n : ℕ} (w : Document rules index 
       many : length (measured .ps) ≡ n
       many = sym (walked-length (blocksIn m (w .rs)) walked) ∙ listed-count (w .blocks) ∙ w .many
 
-      pub settled-no-text :
-          {size : ℕ} → size ≡ min (length out) textMost → size < r .walked .at
-          → Gives (settle (document w m) out ledger) (refused 15 0) out ledger
-      settled-no-text e h = settle-no-text out ledger (measured .are) (omega (arith, measured .place, p .stood .went .next))
+      -- the room that the code asks for is that of the definition
+      module _ {b : Bool} (is : b ≡ roomForText (r .walked .at) (length out) && leb (rowSize * n) (length ledger)) where
+        room-is : b ≡ room (length out) (length ledger) (measured .ps)
+        unfolding room
+        room-is =
+            let l = length (written (measured .ps)) in
+            let e : r .walked .at ≡ min cap l = omega (arith, measured .place, p .stood .went .next) in
+            is ∙ (λ i. room-for (r .walked .at) l (length out) e i && leb (rowSize * sym many i) (length ledger))
 
-      pub settled-no-rows : length ledger / rowSize < n → Gives (settle (document w m) out ledger) (refused 15 0) out ledger
-      settled-no-rows h = settle-no-rows out ledger (measured .are) (omega (arith, many))
+        pub settled-no-room : b ≡ false → Gives (settle (document w m) out ledger) (refused 15 0) out ledger
+        settled-no-room e = settle-full out ledger (measured .are) (sym room-is ∙ e)
 
-      -- there is room
-      module _ {size : ℕ} (e : size ≡ min (length out) textMost) (h : r .walked .at ≤ size) (k : n ≤ length ledger / rowSize) where
-        exact : r .walked .at ≡ length (written (measured .ps))
-        exact = omega (arith, measured .place, p .stood .went .next)
+        -- there is room
+        module _ (e : b ≡ true) where
+          fit : (length (written (measured .ps)) ≤ min (length out) textMost) × (rowSize * length (measured .ps) ≤ length ledger)
+          fit = room-says (length out) (length ledger) (measured .ps) (sym room-is ∙ e)
 
-        abbrev pieced : Pieced rules index rows text from n ledger
-        pieced =
-            let s = p .stood in
-            record {
-              given = begin w s (p .carried) (omega arith) (omega arith) .given;
-              ps = measured .ps;
-              gives = walk-gives _ false _ _ _ [] _ (begins-as w s (p .carried) (omega arith) (omega arith) false [] ∙ measured .are);
-              many = omega (arith, s .block, many);
-              end = omega (arith, s .went .next, exact);
-              room = omega arith;
-              few = w .most;
-            }
+          exact : r .walked .at ≡ length (written (measured .ps))
+          exact = omega (arith, measured .place, p .stood .went .next, fit .0)
 
-        pub settled-pieced : Pieced rules index rows text from n ledger
-        settled-pieced = pieced
+          pub settled-within : r .walked .at ≤ min (length out) textMost
+          settled-within = omega (arith, fit .0, exact)
 
-        pub settled-done :
-            (out₁ ledger′ : List ℕ) → Writes rules index rows text from n (take (r .walked .at) out) ledger out₁ ledger′
-            → Gives (settle (document w m) out ledger) (converted (r .walked .at) n) (out₁ ++ drop (r .walked .at) out) ledger′
-        settled-done out₁ ledger′ writes =
-            let x = writes pieced in
-            let ps = measured .ps in
-            let at = r .walked .at in
-            let en = walked-encodable (blocksIn m (w .rs)) (keeps-short (some m) (some (w .rs))) walked (omega (arith, exact)) in
-            let long = rows-length ps en in
-            let first = p .stood .went .next in
-            settle-done out ledger (measured .are) (omega (arith, exact)) (omega (arith, many)) exact (sym many)
-            (part-put (written ps) out out₁ at exact (omega arith) (x .text ∙ ap (λ a. sets (take at out) a (written ps)) first))
-            (x .rows
-            ∙ (λ i. sets ledger (rowSize * p .stood .block i) (encodeRows (rowsFrom (first i) ps)))
-            ∙ put-stored ledger (encodeRows (rowsFrom 0 ps)) (omega (arith, many)))
+          abbrev pieced : Pieced rules index rows text from n ledger
+          pieced =
+              let s = p .stood in
+              record {
+                given = begin w s (p .carried) (omega arith) (omega arith) .given;
+                ps = measured .ps;
+                gives = walk-gives _ false _ _ _ [] _ (begins-as w s (p .carried) (omega arith) (omega arith) false [] ∙ measured .are);
+                many = omega (arith, s .block, many);
+                end = omega (arith, s .went .next, exact, fit .0);
+                room = omega (arith, fit .1, many);
+                few = w .most;
+              }
+
+          pub settled-pieced : Pieced rules index rows text from n ledger
+          settled-pieced = pieced
+
+          pub settled-done :
+              (out₁ ledger′ : List ℕ) → Writes rules index rows text from n (take (r .walked .at) out) ledger out₁ ledger′
+              → Gives (settle (document w m) out ledger) (converted (r .walked .at) n) (out₁ ++ drop (r .walked .at) out) ledger′
+          settled-done out₁ ledger′ writes =
+              let x = writes pieced in
+              let ps = measured .ps in
+              let at = r .walked .at in
+              let en = walked-encodable (blocksIn m (w .rs)) (keeps-short (some m) (some (w .rs))) walked (omega (arith, exact, fit .0)) in
+              let long = rows-length ps en in
+              let first = p .stood .went .next in
+              let text = x .text ∙ ap (λ a. sets (take at out) a (written ps)) first in
+              settle-done out ledger (measured .are) (sym room-is ∙ e) exact (sym many)
+              (part-put (written ps) out out₁ at exact (omega (arith, settled-within)) text)
+              (x .rows
+              ∙ (λ i. sets ledger (rowSize * p .stood .block i) (encodeRows (rowsFrom (first i) ps)))
+              ∙ put-stored ledger (encodeRows (rowsFrom 0 ps)) (omega (arith, fit .1)))

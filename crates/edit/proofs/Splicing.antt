@@ -8,7 +8,7 @@ use Prim.Native.Nat.{ℕ, zero, suc, _+_, _*_, _-_, _≤_, _<_, _^_, min}
 use native.Mathlib.Omega.{arith}
 use borrow.Author.Tests.{le-leb, lt-leb}
 use lib.IntN.{ℤ, pos, negsuc, _-ℤ_}
-use lib.ListN.{length, take, drop, set, replicate, length-set, length-drop, length-replicate, take-append-drop}
+use lib.ListN.{length, take, drop, set, replicate, length-set, length-replicate, replicate-append-replicate, take-append-drop}
 use lib.Seq.{sets, length-sets, length-take-le, set-append-left, drop-drop}
 use lib.Dec.{ltb}
 use lib.Signed.{mag}
@@ -16,10 +16,11 @@ use mir.Syntax.{w64}
 use mir.Val.{SFits, toZ, ofZ}
 use mir.Facts.{toZ-pos, toZ-ofZ}
 use Rattle.text.specs.Writing.{cap}
+use Rattle.text.proofs.Writing.{sets-append}
 use Rattle.ledger.specs.Ledger.{rowSize, HasRow, rowAt, decodeRow, decodeRows, encodeRows, fits, Movable, moveRows, written, rowsFrom}
 use Rattle.ledger.proofs.Rows.{AllEncodable, encodeRows-length, rowsFrom-length, rowsFrom-encodable}
 use Rattle.ledger.proofs.Fitting.{fits-long, fits-end, fits-rise, fits-movable}
-use Rattle.ledger.proofs.Writing.{sets-drop, part-written, carryOf-short}
+use Rattle.ledger.proofs.Writing.{sets-drop, carryOf-short}
 use Rattle.editing.specs.Edit.{Result, textMost, unchanged, endBefore, textAfter, ledgerAfter, roomForText, write}
 use Rattle.editing.specs.Edit.Answer.{refused, edited}
 use Rattle.editing.specs.Calls.{Gives}
@@ -44,16 +45,25 @@ front-stored l vs i k h h′ =
     sym (sets-left vs (take k l) (drop k l) i (omega (arith, length-take-le k l h′)))
     ∙ ap (λ x. sets x i vs) (take-append-drop k l)
 
--- zeros stored in a part, or in none
-pub part-cleared : (l : List ℕ) {ys : List ℕ} (from to : ℕ) → to ≤ length l → ys ≡ replicate (length (take (to - from) (drop from l))) 0
-    → from < to → take from l ++ (ys ++ drop (to - from) (drop from l)) ≡ sets l from (replicate (to - from) 0)
-part-cleared l {ys} from to h e b =
-    let z : ys ≡ replicate (to - from) 0
-    = e ∙ ap (λ k. replicate k 0) (length-take-le (to - from) (drop from l) (omega (arith, length-drop from l))) in
-    part-written l ys from (to - from) (ap length z ∙ length-replicate (to - from) 0) (omega arith) ∙ ap (sets l from) z
+-- zeros stored one after the other
+pub zeros-next : (l : List ℕ) {l′ : List ℕ} (from i : ℕ) → from ≤ i → l′ ≡ sets l from (replicate (i - from) 0)
+    → set l′ i 0 ≡ sets l from (replicate (i + 1 - from) 0)
+zeros-next l from i h e =
+    let z : List ℕ = replicate (i - from) 0 in
+    let k : i ≡ from + length z = omega (arith, length-replicate {A = ℕ} (i - from) 0) in
+    let n : i - from + 1 ≡ i + 1 - from = omega arith in
+    (λ j. set (e j) (k j) 0)
+    ∙ sym (sets-append z (replicate 1 0) l from)
+    ∙ ap (sets l from) (replicate-append-replicate (i - from) 1 0)
+    ∙ ap (λ m. sets l from (replicate m 0)) n
 
-pub none-cleared : (l : List ℕ) (from to : ℕ) → to ≤ from → l ≡ sets l from (replicate (to - from) 0)
-none-cleared l from to h = let z : 0 ≡ to - from = omega arith in ap (λ k. sets l from (replicate k 0)) z
+pub zeros-none : (l : List ℕ) (from : ℕ) → l ≡ sets l from (replicate (from - from) 0)
+zeros-none l from = let z : 0 ≡ from - from = omega arith in ap (λ k. sets l from (replicate k 0)) z
+
+pub zeros-all :
+    (l : List ℕ) (from i to : ℕ) → i - from ≤ to - from → to ≤ i
+    → sets l from (replicate (i - from) 0) ≡ sets l from (replicate (to - from) 0)
+zeros-all l from i to h k = let z : i - from ≡ to - from = omega arith in ap (λ n. sets l from (replicate n 0)) z
 
 -- ---- the growth: the difference of two numbers below 2 to the power of 63
 

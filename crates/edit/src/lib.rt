@@ -13,19 +13,20 @@ use mitex_parser::check_tree;
 use mitex_spec::check_rules;
 use mitex_state::Converter;
 use mitex_state::LaTeXMode;
-use text::clear;
 use text::move_bytes;
 ghost use mathlib.Core.Path.{_≡_};
-ghost use Prim.Native.Nat.{ℕ, _+_, _-_, _≤_, _<_, min};
+ghost use mathlib.Core.Bool.{_&&_};
+ghost use Prim.Native.Nat.{ℕ, _+_, _*_, _-_, _≤_, _<_, min};
 ghost use lib.ListN.{length, take, drop, replicate};
 ghost use lib.Seq.{sets};
+ghost use lib.Dec.{leb};
 ghost use Rattle.text.specs.Writing.{cap};
 ghost use Rattle.mitex_spec.specs.RuleFile.{rulesOf};
 ghost use Rattle.mitex_parser.specs.Check.{checkTree, answerOf as treeAnswer};
 ghost use Rattle.mitex_state.specs.State.{newOf, Carried};
 ghost use Rattle.mitex_state.specs.Conversion.{startCarry};
-ghost use Rattle.ledger.specs.Ledger.{HasRow, RowFits};
-ghost use Rattle.editing.specs.Edit.{textMost, editFits};
+ghost use Rattle.ledger.specs.Ledger.{rowSize, HasRow, RowFits};
+ghost use Rattle.editing.specs.Edit.{textMost, roomForText, editFits};
 ghost use Rattle.editing.specs.Run.{sizeAfter};
 ghost use Rattle.editing.specs.Calls.{Converts, Edits, Runs};
 ghost use Rattle.blocks.specs.Manuscript.{modeOf, manuscript};
@@ -137,6 +138,19 @@ fn text_room(out: &[u8]) -> usize
 
 // ---- Convert
 
+// Whether the buffers have room for a text of so many bytes and a row for each of so many blocks.
+fn has_room(out: &[u8], ledger: &[u8], at: usize, blocks: usize) -> bool
+    ensures { λ r. ⌜ r ≡ roomForText at (length (now (out .entry))) && leb (rowSize * blocks) (length (now (ledger .entry))) ⌝ }
+{
+    if text_room(out) < at {
+        return false;
+    }
+    if ledger.len() / ROW_SIZE < blocks {
+        return false;
+    }
+    true
+}
+
 // The blocks of a document, measured and then written: the text, and a row for each.
 fn convert_blocks<'a>(
     rows: &[u8],
@@ -153,18 +167,15 @@ fn convert_blocks<'a>(
 {
     let from = stand_at(rows, 0, 0, opening(mode));
     let m = measure(rows, text, rules, index, ledger, false, from, blocks);
-    let walked = m.walked;
-    if walked.refusal != 0 {
-        return Converted::Refused {
-            number: walked.refusal,
-            row: walked.row,
-        };
+    let whole = m.walked;
+    let number = whole.refusal;
+    let row = whole.row;
+    let at = whole.at;
+    let room = has_room(out, ledger, at, blocks);
+    if number != 0 {
+        return Converted::Refused { number, row };
     }
-    let at = walked.at;
-    if text_room(out) < at {
-        return Converted::Refused { number: 15, row: 0 };
-    }
-    if ledger.len() / ROW_SIZE < blocks {
+    if !room {
         return Converted::Refused { number: 15, row: 0 };
     }
     write_blocks(
@@ -275,13 +286,15 @@ fn edit_fits(blocks: usize, block: usize, kept: usize, text: &[u8], ledger: &[u8
     ledger_fits(ledger, blocks, kept)
 }
 
-// Zeros from `from` to `to`, where that is behind it.
+// Zeros from `from` up to `to`, where that is behind it.
 fn clear_between(out: &mut [u8], from: usize, to: usize)
     requires { ⌜ to ≤ length (now out) ⌝ }
     ensures { λ _. ⌜ now (out .exit) ≡ sets (now (out .entry)) from (replicate (to - from) 0) ⌝ }
 {
-    if from < to {
-        clear(&mut out[from..to]);
+    let mut i = from;
+    while i < to {
+        out[i] = 0;
+        i += 1;
     }
 }
 
@@ -348,10 +361,12 @@ fn splice<'a>(
         out,
         ledger,
     );
+    let growth = new as i64 - kept as i64;
+    let count = m.block - from.block;
     Edited::Done {
         length: new,
-        growth: new as i64 - kept as i64,
-        count: m.block - from.block,
+        growth,
+        count,
     }
 }
 

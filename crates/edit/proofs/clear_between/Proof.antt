@@ -1,42 +1,65 @@
--- `clear_between`: zeros in a part of the buffer are zeros stored from its place on (`part-cleared`).
-use Rattle.edit.proofs.Splicing.{part-cleared, none-cleared}
-use borrow.Author.Needs.{needs}
+-- `clear_between`: zeros are stored from `from` up to i, and they are no more than are wanted.
+use mathlib.Core.Path.{_≡_, _∙_}
+use Prim.Native.Nat.{_-_, _≤_}
+use native.Mathlib.Omega.{arith}
+use lib.ListN.{length, replicate}
+use lib.Seq.{sets}
+use Rattle.text.proofs.Writing.{sets-long}
+use Rattle.edit.proofs.Splicing.{zeros-none, zeros-next, zeros-all}
 use Rattle.edit.proofs.clear_between.Statement.{statement}
 use Rattle.edit.proofs.clear_between.Tie as tie
 
-sub-clear : tie.Need-sub-clear
-sub-clear c = search needs
+abbrev Inv-loop : tie.InvT-loop
+Inv-loop out₀ from to i₀ out i = (from ≤ i) × (i - from ≤ to - from) × (out ≡ sets out₀ from (replicate (i - from) 0))
 
-part-clear-start : tie.Need-part-clear-start
-part-clear-start c = search needs
+abbrev μ-loop : tie.MeasureT-loop
+μ-loop out₀ from to i₀ out i = to - i
 
-part-clear-end : tie.Need-part-clear-end
-part-clear-end c = search needs
+-- the buffer has its length
+long : (c : tie.At-loop Inv-loop μ-loop) → length (c .loop .out) ≡ length (c .before .args .out .now)
+long c =
+    let a = c .before .args in
+    let l = c .loop in
+    sets-long (a .out .now) (l .out) (a .from) (replicate (l .i - a .from) 0) (l .inv .2)
 
-clear-requires : tie.Need-clear-requires
-clear-requires c κs = search needs
+loop-holds : tie.Need-loop-holds Inv-loop μ-loop
+loop-holds c = (omega arith, omega arith, zeros-none _ (c .args .from))
 
-same-length : tie.Need-same-length
-same-length c = search needs
+slice-write-out : tie.Need-slice-write-out Inv-loop μ-loop
+slice-write-out c = omega (arith, long (c .before), c .before .before .pre)
 
-returns : tie.Need-returns
+add-i : tie.Need-add-i Inv-loop μ-loop
+add-i c = omega arith
+
+loop-less : tie.Need-loop-less Inv-loop μ-loop
+loop-less c = omega arith
+
+loop-again : tie.Need-loop-again Inv-loop μ-loop
+loop-again c =
+    let a = c .before .before .args in
+    let l = c .before .loop in
+    let h = l .inv .0 in
+    (omega arith, omega (arith, c .loop-test .taken), zeros-next (a .out .now) (a .from) (l .i) h (l .inv .2))
+
+same-length : tie.Need-same-length Inv-loop μ-loop
+same-length c = long (c .before)
+
+returns : tie.Need-returns Inv-loop μ-loop
 returns c =
-    let d = c .before .before in
-    let i = d .before .before in
-    let s = i .before .before in
-    part-cleared (s .args .out .now) _ _ (s .pre) (d .clear .ensures) (i .if1 .taken)
-
-returns-2 : tie.Need-returns-2
-returns-2 c = none-cleared _ _ _ (c .if1 .left)
+    let a = c .before .before .args in
+    let l = c .before .loop in
+    l .inv .2 ∙ zeros-all (a .out .now) (a .from) (l .i) (a .to) (l .inv .1) (c .loop-test .left)
 
 pub clear-between-spec : {M : Type 1} → statement M
 clear-between-spec =
     tie.close
     (tie.spec
-    sub-clear
-    part-clear-start
-    part-clear-end
-    clear-requires
+    Inv-loop
+    μ-loop
+    loop-holds
+    slice-write-out
+    add-i
+    loop-less
+    loop-again
     same-length
-    returns
-    returns-2)
+    returns)

@@ -64,17 +64,17 @@ overwrite-requires c κs =
     let t = d .text-room .ensures in
     (start (ended d) .pre, (old-end (ended d), omega arith, omega arith))
 
-cast-t25 : tie.Need-cast-t25
-cast-t25 c = search needs
+cast-growth : tie.Need-cast-growth
+cast-growth c = search needs
 
-cast-t26 : tie.Need-cast-t26
-cast-t26 c = search needs
+cast-growth-2 : tie.Need-cast-growth-2
+cast-growth-2 c = search needs
 
-sub-t27 : tie.Need-sub-t27
-sub-t27 c = let i = room (c .before .before .before .before) in difference-fits _ _ (new-small i) (kept-small i)
+sub-growth : tie.Need-sub-growth
+sub-growth c = let i = room (c .before .before .before .before) in difference-fits _ _ (new-small i) (kept-small i)
 
-sub-t16 : tie.Need-sub-t16
-sub-t16 c = let i = room (over c) in omega (arith, start (ended (i .before)) .pre .many)
+sub-count : tie.Need-sub-count
+sub-count c = let i = room (over c) in omega (arith, start (ended (i .before)) .pre .many)
 
 same-length-3 : tie.Need-same-length-3
 same-length-3 c = search needs
@@ -101,10 +101,10 @@ splice-spec =
     same-length-2
     returns
     overwrite-requires
-    cast-t25
-    cast-t26
-    sub-t27
-    sub-t16
+    cast-growth
+    cast-growth-2
+    sub-growth
+    sub-count
     same-length-3
     same-length-4
     returns-2)
