@@ -3,4 +3,3 @@ pub mod Edit
 pub mod Run
 pub mod Calls
 pub mod Examples
-pub mod NearPasses
