@@ -1,8 +1,7 @@
 -- What the theorem over lists of edits asks of a converter of blocks holds of this one; and its blocks one after the other are the
 -- document.
 use mathlib.Core.Path.{_≡_, refl, sym, subst, _∙_}
-use mathlib.Core.Logic.{_≢_}
-use mathlib.Core.Bool.{Bool, true, false, cond}
+use mathlib.Core.Bool.{Bool, true, false, _&&_, cond}
 use mathlib.Core.List.{List}
 use mathlib.Core.Option.{Option}
 use mathlib.Core.Option.Option.{none as nothing, some}
@@ -14,7 +13,7 @@ use Rattle.mitex_syntax.specs.Tree.Tree.{node}
 use Rattle.mitex_syntax.specs.Tree.Forest.{none, more}
 use Rattle.mitex_syntax.specs.Syntax.{ScopeRoot}
 use Rattle.mitex_parser.specs.Layout.{decode}
-use lib.Dec.{leb}
+use lib.Dec.{T, leb, leb→le}
 use Rattle.mitex_parser.specs.Depth.{depth, depthMost}
 use Rattle.mitex_parser.specs.Shape.{lowest}
 use Rattle.mitex_parser.specs.Check.{byShape, byDepth, checkTree}
@@ -22,50 +21,61 @@ use Rattle.mitex_parser.specs.Check.Verdict.{refused}
 use Rattle.mitex_state.specs.Outcome.{Carry, Outcome, after, andThen, shift}
 use Rattle.mitex_state.specs.Outcome.Outcome.{refused as stop, done}
 use Rattle.mitex_state.specs.Conversion.{convert, levels, startContext, newCarry, startCarry, blocksFrom}
+use Rattle.mitex_state.specs.Keeping.{isWalkNumber}
 use Rattle.mitex_state.specs.declared.LaTeXMode.{LaTeXMode}
 use Rattle.mitex_state.proofs.Blocks.{plain-none, plain-more, root-blocks}
 use Rattle.mitex_state.proofs.Outcomes.{andThen-same}
 use Rattle.mitex_state.proofs.Keeping as Keeping
-use Rattle.editing.specs.Walk.{Checked, KeepsShort, NeverSix, Walk, onto, next, walk}
+use Rattle.editing.specs.Walk.{Checked, KeepsShort, Numbered, Walk, onto, next, walk}
 use Rattle.editing.specs.Walk.Checked.{bad, good}
 use Rattle.editing.specs.Walk.Walk.{stopped, pieces}
 use Rattle.blocks.specs.Manuscript.{listed, byTree, byRules, byMode, rulesIn, modeIn, block, manuscriptIn, together}
 
--- what a check that refuses does not say
-abbrev Not6 : Checked Tree → Type 0
-Not6 (bad n row) = n ≢ 6
-Not6 (good bs) = Unit {0}
+-- the numbers of a check that refuses
+abbrev CheckNumber : ℕ → Type 0
+CheckNumber n = (1 ≤ n) × (n ≤ 5)
 
-shape-not6 : (t : Tree) (o : Option ℕ) → Not6 (byTree (byShape t o))
-shape-not6 t (some row) = λ e. omega arith
-shape-not6 t nothing = tt
+abbrev CheckIn : Checked Tree → Type 0
+CheckIn (bad n row) = CheckNumber n
+CheckIn (good bs) = Unit {0}
 
-deep-not6 : (b : Bool) (t : Tree) (o : Option ℕ) → Not6 (byTree (cond b (byShape t o) (refused 4 0)))
-deep-not6 true t o = shape-not6 t o
-deep-not6 false t o = λ e. omega arith
+shape-in : (t : Tree) (o : Option ℕ) → CheckIn (byTree (byShape t o))
+shape-in t (some row) = (omega arith, omega arith)
+shape-in t nothing = tt
 
-tree-not6 : (o : Option Tree) → Not6 (byTree (byDepth o))
-tree-not6 nothing = λ e. omega arith
-tree-not6 (some t) = deep-not6 (leb (depth t) depthMost) t (lowest 0 0 t)
+deep-in : (b : Bool) (t : Tree) (o : Option ℕ) → CheckIn (byTree (cond b (byShape t o) (refused 4 0)))
+deep-in true t o = shape-in t o
+deep-in false t o = (omega arith, omega arith)
 
-rules-not6 : (o : Option (List Rule)) (tree : List ℕ) → Not6 (byRules o tree)
+tree-in : (o : Option Tree) → CheckIn (byTree (byDepth o))
+tree-in nothing = (omega arith, omega arith)
+tree-in (some t) = deep-in (leb (depth t) depthMost) t (lowest 0 0 t)
+
+rules-in : (o : Option (List Rule)) (tree : List ℕ) → CheckIn (byRules o tree)
 unfolding checkTree
-rules-not6 nothing tree = λ e. omega arith
-rules-not6 (some rules) tree = tree-not6 (decode tree)
+rules-in nothing tree = (omega arith, omega arith)
+rules-in (some rules) tree = tree-in (decode tree)
 
-mode-not6 : (o : Option LaTeXMode) (rules : Option (List Rule)) (tree : List ℕ) → Not6 (byMode o rules tree)
-mode-not6 nothing rules tree = λ e. omega arith
-mode-not6 (some m) rules tree = rules-not6 rules tree
+mode-in : (o : Option LaTeXMode) (rules : Option (List Rule)) (tree : List ℕ) → CheckIn (byMode o rules tree)
+mode-in nothing rules tree = (omega arith, omega arith)
+mode-in (some m) rules tree = rules-in rules tree
 
-of-bad : (r : Checked Tree) (n row : ℕ) → r ≡ bad n row → Not6 r → n ≢ 6
-of-bad r n row e h = subst Not6 e h
+of-bad : (r : Checked Tree) (n row : ℕ) → r ≡ bad n row → CheckIn r → CheckNumber n
+of-bad r n row e h = subst CheckIn e h
+
+-- and of a walk
+T-both : (a b : Bool) → T (a && b) → T a × T b
+T-both true b h = (tt, h)
+
+walk-number : (n : ℕ) → T (isWalkNumber n) → (7 ≤ n) × (n ≤ 14)
+walk-number n h = let b = T-both (leb 7 n) (leb n 14) h in (leb→le 7 n (b .0), leb→le n 14 (b .1))
 
 module _ (mode : Option LaTeXMode) (rules : Option (List Rule)) where
-  pub never-six : NeverSix (manuscriptIn mode rules)
-  never-six =
+  pub numbered : Numbered (manuscriptIn mode rules)
+  numbered =
       record {
-        checked = λ tree n row e. of-bad (byMode mode rules tree) n row e (mode-not6 mode rules tree);
-        block = λ c t n row e. Keeping.never-six _ _ t c n row e;
+        checked = λ tree n row e. of-bad (byMode mode rules tree) n row e (mode-in mode rules tree);
+        block = λ c t n row e. walk-number n (Keeping.keeps-number _ _ t c n row e);
       }
 
   pub keeps-short : KeepsShort (manuscriptIn mode rules)

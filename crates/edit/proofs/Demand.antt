@@ -15,7 +15,7 @@ use Rattle.editing.proofs.Demand as Demand
 use Rattle.editing.proofs.Calls as Calls
 use Rattle.editing.proofs.Six.{demanded-six}
 use Rattle.blocks.specs.Manuscript.{modeOf, manuscript}
-use Rattle.blocks.proofs.Manuscript.{keeps-short, never-six}
+use Rattle.blocks.proofs.Manuscript.{keeps-short, numbered}
 use Rattle.edit.specs.Three.{Demanded}
 
 pub demand-3 :
@@ -34,4 +34,4 @@ runs-demanded mode file r t l tree ho al =
 pub six-exactly :
     (mode : ℕ) (file t l old : List ℕ) (e : Edit)
     → (demanded (manuscript mode file) t l old e ≡ refused 6 0) ↔ (lacks ((manuscript mode file) .check (e .tree)) (e .block) ≡ true)
-six-exactly mode file t l old e = demanded-six (manuscript mode file) (never-six (modeOf mode) (rulesOf file)) t l old e
+six-exactly mode file t l old e = demanded-six (manuscript mode file) (numbered (modeOf mode) (rulesOf file)) t l old e

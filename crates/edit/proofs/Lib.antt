@@ -1,4 +1,5 @@
 pub mod Demand
+pub mod Answers
 pub mod Files
 pub mod Starting
 pub mod Settling

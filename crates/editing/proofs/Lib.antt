@@ -3,6 +3,7 @@ pub mod Splice
 pub mod Holding
 pub mod Demand
 pub mod Count
+pub mod Numbers
 pub mod Six
 pub mod Calls
 pub mod Bytes

@@ -1,11 +1,17 @@
--- A call's answer told by numbers, whatever the answer is; the growth as it is read back where it was written.
-use mathlib.Core.Path.{_≡_, ap, sym, _∙_}
+-- A call's answer told by numbers, whatever the answer is; the growth as it is read back where it was written. And what is told spells
+-- the answer, since no refusal has the number 0.
+use mathlib.Core.Path.{_≡_, refl, ap, sym, _∙_}
 use mathlib.Core.List.{List}
-use Prim.Native.Nat.{ℕ}
+use Prim.Native.Nat.{ℕ, zero, suc}
+use native.Mathlib.Omega.{arith}
 use lib.IntN.{ℤ}
-use Rattle.editing.specs.Edit.{Answer, Result}
+use Rattle.editing.specs.Edit.{Answer, Result, convertDocument, edit}
+use Rattle.editing.specs.Edit.Answer.{refused, converted, edited}
 use Rattle.editing.specs.Calls.{Gives}
-use Rattle.zaldrume.specs.Answers.{numberOf, placeOf, growthOf, countOf, Tells}
+use Rattle.editing.specs.Numbers.{Fifteen, OfConvert, OfEdit}
+use Rattle.blocks.specs.Manuscript.{manuscript}
+use Rattle.edit.proofs.Answers.{convert-answers, edit-answers}
+use Rattle.zaldrume.specs.Answers.{numberOf, placeOf, growthOf, countOf, Tells, convertTold, editTold}
 
 pub tells :
     {r : Result} {a : Answer} {text ledger : List ℕ} {growth : ℤ} (b : Answer) → Gives r a text ledger → a ≡ b → growth ≡ growthOf b
@@ -20,3 +26,30 @@ tells {r} b g e grown =
       bytes = g .bytes;
       rows = g .rows;
     }
+
+-- ---- back from the numbers
+
+convert-spells : (a : Answer) → OfConvert Fifteen a → a ≡ convertTold (numberOf a) (placeOf a) (countOf a)
+convert-spells (refused zero i) h = absurd (omega arith)
+convert-spells (refused (suc n) i) h = refl
+convert-spells (converted len n) h = refl
+
+edit-spells : (a : Answer) → OfEdit Fifteen a → a ≡ editTold (numberOf a) (placeOf a) (growthOf a) (countOf a)
+edit-spells (refused zero i) h = absurd (omega arith)
+edit-spells (refused (suc n) i) h = refl
+edit-spells (edited len g n) h = refl
+
+module _ (mode : ℕ) (rules tree text ledger : List ℕ) {number place count : ℕ} {growth : ℤ} {text′ ledger′ : List ℕ} where
+  pub convert-told :
+      Tells (convertDocument (manuscript mode rules) tree text ledger) number place growth count text′ ledger′
+      → (convertDocument (manuscript mode rules) tree text ledger) .answer ≡ convertTold number place count
+  convert-told t =
+      convert-spells _ (convert-answers mode rules tree text ledger)
+      ∙ sym (λ i. convertTold (t .said i) (t .stands i) (t .counted i))
+
+  pub edit-told :
+      (block kept : ℕ) → Tells (edit (manuscript mode rules) tree block kept text ledger) number place growth count text′ ledger′
+      → (edit (manuscript mode rules) tree block kept text ledger) .answer ≡ editTold number place growth count
+  edit-told block kept t =
+      edit-spells _ (edit-answers mode rules tree block kept text ledger)
+      ∙ sym (λ i. editTold (t .said i) (t .stands i) (t .grown i) (t .counted i))

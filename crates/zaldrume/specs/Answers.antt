@@ -1,8 +1,9 @@
 -- What a call tells by numbers: the refusal's number (0 where there is none), a place (the refusal's row, else the text's length),
--- the growth and a count (both 0 where there is none), and the bytes that it leaves in the two buffers.
+-- the growth and a count (both 0 where there is none), and the bytes that it leaves in the two buffers. No refusal has the number 0
+-- (`convert-answers`, `edit-answers` of crate `edit`), so the numbers spell the answer (`convert-told`, `edit-told`).
 use mathlib.Core.Path.{_≡_}
 use mathlib.Core.List.{List}
-use Prim.Native.Nat.{ℕ}
+use Prim.Native.Nat.{ℕ, zero, suc}
 use lib.IntN.{ℤ, pos}
 use Rattle.editing.specs.Edit.{Answer, Result}
 use Rattle.editing.specs.Edit.Answer.{refused, converted, edited}
@@ -34,3 +35,12 @@ pub record Tells (r : Result) (number place : ℕ) (growth : ℤ) (count : ℕ) 
   pub counted : count ≡ countOf (r .answer)
   pub bytes : text ≡ r .text
   pub rows : ledger ≡ r .ledger
+
+-- the answer that the numbers of Convert spell, and those of Edit
+abbrev pub convertTold : (number place count : ℕ) → Answer
+convertTold zero place count = converted place count
+convertTold (suc n) place count = refused (suc n) place
+
+abbrev pub editTold : (number place : ℕ) (growth : ℤ) (count : ℕ) → Answer
+editTold zero place growth count = edited place growth count
+editTold (suc n) place growth count = refused (suc n) place
