@@ -296,9 +296,6 @@ keeps-short d x t c c′ w e = of-done (subst (Kept (Short c)) e (keeps d x t c)
 pub keeps-number : (d : ℕ) (x : Context) (t : Tree) (c : Carry) (n r : ℕ) → convert d x t c ≡ refused n r → T (isWalkNumber n)
 keeps-number d x t c n r e = of-refused (subst (Kept (Short c)) e (keeps d x t c))
 
-pub never-six : (d : ℕ) (x : Context) (t : Tree) (c : Carry) (n r : ℕ) → convert d x t c ≡ refused n r → n ≡ 6 → ⊥
-never-six d x t c n r e six = subst (λ (m : ℕ). T (isWalkNumber m)) six (keeps-number d x t c n r e)
-
 -- and so do blocks one after the other
 pub blocks-keep : (rules : List Rule) (m : LaTeXMode) (o : ℕ) (f : Forest) → Keeps (blocksFrom rules m o f)
 blocks-keep rules m o f = keeps-each (convert levels (startContext rules m)) (keeps levels (startContext rules m)) o _ f
