@@ -1,6 +1,6 @@
 // The walk: `convert` and its helpers, which call each other as in the Rust. An element's rows and its text come down as parts of the
 // tree file, the converter goes by value, and the text is written to a lent buffer as far as it falls inside. A helper is given the rows
-// and the text of a node's children, and the row of the node itself.
+// and the text of a node's children, and the row of the node itself; its name is the Rust's without `convert_`.
 ghost use mathlib.Core.Path.{_≡_};
 ghost use Prim.Native.Nat.{_+_, _≤_};
 ghost use lib.ListN.{length};
@@ -201,7 +201,7 @@ pub fn each<'a>(
     went(d, p)
 }
 
-// A formula like `$x$` or `$$x$$`.
+// A formula like `$x$` or `$$x$$` (`convert_formula` in the Rust).
 fn formula<'a>(
     out: &mut [u8],
     at: usize,
@@ -239,7 +239,7 @@ fn formula<'a>(
     close_formula(out, a, mode, env, indent, inline)
 }
 
-// A curly group like `{abc}`.
+// A curly group like `{abc}` (`convert_curly_group` in the Rust).
 fn curly_group<'a>(
     out: &mut [u8],
     at: usize,
@@ -277,7 +277,7 @@ fn curly_group<'a>(
     }
 }
 
-// `\left` and `\right`: the first child is the name.
+// `\left` and `\right`: the first child is the name (`convert_clause_lr` in the Rust).
 fn clause_lr<'a>(
     out: &mut [u8],
     at: usize,
@@ -378,7 +378,7 @@ fn command<'a>(
     }
 }
 
-// A colour command: its model, then the colour and the body.
+// A colour command: its model, then the colour and the body (`convert_command_color` in the Rust).
 fn command_color<'a>(
     out: &mut [u8],
     at: usize,
@@ -476,7 +476,7 @@ fn colored<'a>(
     close_body(out, f, mode)
 }
 
-// A command by its rule.
+// A command by its rule (`convert_normal_command` in the Rust).
 fn normal_command<'a>(
     out: &mut [u8],
     at: usize,
@@ -610,7 +610,7 @@ fn greedy<'a>(
     }
 }
 
-// An environment, by its rule; one that ends in Text takes the held label.
+// An environment, by its rule; one that ends in Text takes the held label (`convert_env` in the Rust).
 fn environment<'a>(
     out: &mut [u8],
     at: usize,
@@ -758,7 +758,7 @@ fn env_math<'a>(
     close_math(out, f, mode, prev, indent)
 }
 
-// A figure: its last caption, then the children.
+// A figure: its last caption, then the children (`convert_env_figure` in the Rust).
 fn env_figure<'a>(
     out: &mut [u8],
     at: usize,
@@ -869,7 +869,7 @@ fn body<'a>(
     close(out, a, mode, env, indent, b"];")
 }
 
-// A table: the head by its column letters, then the cells.
+// A table: the head by its column letters, then the cells (`convert_env_table` in the Rust).
 fn env_table<'a>(
     out: &mut [u8],
     at: usize,

@@ -60,7 +60,9 @@ convert-requires c κs =
     )
 
 add-t17 : tie.Need-add-t17
-add-t17 c = let d = ends (c .before .before .before .before .before .before) in omega (arith, start d .pre .1 .1)
+add-t17 c =
+    let walked = c .before .before .before in
+    let d = ends (walked .before .before .before) in omega (arith, start d .pre .1 .1)
 
 same-length : tie.Need-same-length
 same-length c = search needs

@@ -42,7 +42,8 @@ returns-3 : tie.Need-returns-3
 returns-3 c =
     let r = c .before .before .read-full2 in
     let d = c .before .before .before .before .before in
-    let buffer = d .before .before .before .before .before .before .before .args .buffer .now in
+    let first = d .before .before .before .before in
+    let buffer = first .before .before .before .args .buffer .now in
     counts _ _ (omega (arith, r .ensures .0, length-append (r .last .1 .0) (drop (d .read-u32 .result) buffer)))
 
 pub read-case-spec : {M : Type 1} → statement M

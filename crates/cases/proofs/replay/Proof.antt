@@ -62,7 +62,9 @@ shared-slice-read-turn : tie.Need-shared-slice-read-turn Inv-loop μ-loop
 shared-slice-read-turn c = omega arith
 
 turn-requires : tie.Need-turn-requires Inv-loop μ-loop
-turn-requires c κs = (omega arith, c .before .before .before .before .before .before .before .before .before .loop .inv .1)
+turn-requires c κs =
+    let size = c .before .before .before .before .before in
+    (omega arith, size .before .before .before .before .loop .inv .1)
 
 loop-less : tie.Need-loop-less Inv-loop μ-loop
 loop-less c = omega arith
