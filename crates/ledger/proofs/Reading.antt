@@ -167,12 +167,25 @@ allZero-at : (s : List ℕ) (i : ℕ) → i < length s → allZero (drop i s) �
 unfolding allZero
 allZero-at s i h = rw (add-one, drop-cons s i 0 h)
 
-pub allZero-next : (s : List ℕ) (i : ℕ) → i < length s → getD s i 0 ≡ 0 → allZero s ≡ allZero (drop i s) → allZero s ≡ allZero (drop (i + 1) s)
-allZero-next s i h z p = p ∙ allZero-at s i h ∙ ap (λ t. t && allZero (drop (i + 1) s)) (eq-eqb (getD s i 0) 0 z)
+and-true : (b : Bool) → (b && true) ≡ b
+and-true true = refl
+and-true false = refl
 
-pub allZero-stop : (s : List ℕ) (i : ℕ) → i < length s → (getD s i 0 ≡ 0 → ⊥) → allZero s ≡ allZero (drop i s) → false ≡ allZero s
-allZero-stop s i h z p = sym (p ∙ allZero-at s i h ∙ ap (λ t. t && allZero (drop (i + 1) s)) (ne-eqb (getD s i 0) 0 z))
+-- the next byte is zero, and those before it go on to be; or it is not
+module _ (s : List ℕ) (i : ℕ) (z : Bool) {z′ : Bool} (h : i < length s) (p : allZero s ≡ (z && allZero (drop i s))) where
+  pub allZero-next : getD s i 0 ≡ 0 → z′ ≡ z → allZero s ≡ (z′ && allZero (drop (i + 1) s))
+  allZero-next x e =
+      p
+      ∙ ap (λ b. z && b) (allZero-at s i h ∙ ap (λ b. b && allZero (drop (i + 1) s)) (eq-eqb (getD s i 0) 0 x))
+      ∙ ap (λ b. b && allZero (drop (i + 1) s)) (sym e)
 
-pub allZero-end : (s : List ℕ) (i : ℕ) → length s ≤ i → allZero s ≡ allZero (drop i s) → true ≡ allZero s
+  pub allZero-not : (getD s i 0 ≡ 0 → ⊥) → z′ ≡ eqb (getD s i 0) 0 → allZero s ≡ (z′ && allZero (drop (i + 1) s))
+  allZero-not x e =
+      p
+      ∙ ap (λ b. z && b) (allZero-at s i h ∙ ap (λ b. b && allZero (drop (i + 1) s)) (ne-eqb (getD s i 0) 0 x))
+      ∙ and-false z
+      ∙ ap (λ b. b && allZero (drop (i + 1) s)) (sym (e ∙ ne-eqb (getD s i 0) 0 x))
+
+pub allZero-end : (s : List ℕ) (i : ℕ) (z : Bool) → length s ≤ i → allZero s ≡ (z && allZero (drop i s)) → z ≡ allZero s
 unfolding allZero
-allZero-end s i h p = sym (p ∙ ap allZero (drop-of-length-le s h))
+allZero-end s i z h p = sym (p ∙ ap (λ l. z && allZero l) (drop-of-length-le s h) ∙ and-true z)

@@ -114,14 +114,13 @@ pub fn same_carry(ledger: &[u8], i: usize, converter: Converter) -> bool
 fn all_zero(s: &[u8]) -> bool
     ensures { λ r. ⌜ r ≡ allZero (now (s .entry)) ⌝ }
 {
+    let mut zero = true;
     let mut i = 0;
     while i < s.len() {
-        if s[i] != 0 {
-            return false;
-        }
+        zero = s[i] == 0 && zero;
         i += 1;
     }
-    true
+    zero
 }
 
 // Whether bytes 4 to 7 of a row fit: both marks, the label's length (0 for an unheld one), zero.
