@@ -6,6 +6,8 @@ use mathlib.Core.List.{List, [], _∷_, _++_}
 use Prim.Native.Nat.{ℕ, _+_, _-_, _≤_}
 use native.Mathlib.Omega.{arith}
 use borrow.Author.Tests.{ne-eqb}
+use types.Run.{OneOf, miss}
+use denote.Enum.Declared.{tagOf}
 use lib.ListN.{length, take, drop}
 use Rattle.text.specs.Writing.{spaces}
 use Rattle.mitex_spec.specs.Rules.{Rule}
@@ -15,37 +17,38 @@ use Rattle.mitex_spec.specs.declared.Found.the-variants.{Absent, Plain, Aliased
 use Rattle.mitex_syntax.specs.Syntax.{TokenApostrophe, TokenComma, TokenSlash, TokenCaret, TokenUnderscore, TokenHash, TokenAsterisk, TokenAtSign, TokenDitto, TokenSemicolon, TokenLParen, TokenRParen, TokenLBracket, TokenRBracket, TokenWord, TokenTilde, TokenAmpersand, ItemNewLine, TokenError, ClauseCommandName, TokenWhiteSpace, TokenLineBreak, TokenCommandSym}
 use Rattle.mitex_state.specs.Outcome.{Context, Carry, flagged}
 use Rattle.mitex_state.specs.Outcome.Outcome.{refused, done}
-use Rattle.mitex_state.specs.Texts.{escape, ampersand, newLine}
+use Rattle.mitex_state.specs.Texts.{escape, columnMark, lineMark, ampersand, newLine}
 use Rattle.mitex_state.specs.Tokens.{tokenText, whiteSpace, symbolBy, commandSym, tokenOut}
+use Rattle.mitex_state.proofs.LaTeXEnv.{the-type as env-type}
 use Rattle.mitex_state.specs.declared.LaTeXEnv.{LaTeXEnv}
 use Rattle.mitex_state.specs.declared.LaTeXEnv.the-variants.{None, Figure, Table, Itemize, Enumerate, Math, Matrix, Cases, SubStack, MathCurlyGroup}
-use Rattle.mitex_tokens.specs.Lines.{linesOf, columnText, lineText, escapeOf}
+use Rattle.mitex_tokens.specs.Escapes.{escapeOf}
 
--- ---- columns and lines
+-- ---- columns and lines: the environments that have no text of their own, by the tags that the code tells them by
 
-pub column-text : (e : LaTeXEnv) → columnText (linesOf e) ≡ ampersand e
-column-text None = refl
-column-text Figure = refl
-column-text Table = refl
-column-text Itemize = refl
-column-text Enumerate = refl
-column-text Math = refl
-column-text Matrix = refl
-column-text Cases = refl
-column-text SubStack = refl
-column-text MathCurlyGroup = refl
+pub column-rest : (e : LaTeXEnv) → OneOf (0 ∷ 1 ∷ 2 ∷ 3 ∷ 4 ∷ 5 ∷ 7 ∷ 8 ∷ 9 ∷ []) (tagOf env-type e) → columnMark ≡ ampersand e
+column-rest None h = refl
+column-rest Figure h = refl
+column-rest Table h = refl
+column-rest Itemize h = refl
+column-rest Enumerate h = refl
+column-rest Math h = refl
+column-rest Matrix h = absurd (miss (0 ∷ 1 ∷ 2 ∷ 3 ∷ 4 ∷ 5 ∷ 7 ∷ 8 ∷ 9 ∷ []) 6 tt h)
+column-rest Cases h = refl
+column-rest SubStack h = refl
+column-rest MathCurlyGroup h = refl
 
-pub line-text : (e : LaTeXEnv) → lineText (linesOf e) ≡ newLine e
-line-text None = refl
-line-text Figure = refl
-line-text Table = refl
-line-text Itemize = refl
-line-text Enumerate = refl
-line-text Math = refl
-line-text Matrix = refl
-line-text Cases = refl
-line-text SubStack = refl
-line-text MathCurlyGroup = refl
+pub line-rest : (e : LaTeXEnv) → OneOf (0 ∷ 1 ∷ 2 ∷ 3 ∷ 4 ∷ 5 ∷ 8 ∷ []) (tagOf env-type e) → lineMark ≡ newLine e
+line-rest None h = refl
+line-rest Figure h = refl
+line-rest Table h = refl
+line-rest Itemize h = refl
+line-rest Enumerate h = refl
+line-rest Math h = refl
+line-rest Matrix h = absurd (miss (0 ∷ 1 ∷ 2 ∷ 3 ∷ 4 ∷ 5 ∷ 8 ∷ []) 6 tt h)
+line-rest Cases h = absurd (miss (0 ∷ 1 ∷ 2 ∷ 3 ∷ 4 ∷ 5 ∷ 8 ∷ []) 7 tt h)
+line-rest SubStack h = refl
+line-rest MathCurlyGroup h = absurd (miss (0 ∷ 1 ∷ 2 ∷ 3 ∷ 4 ∷ 5 ∷ 8 ∷ []) 9 tt h)
 
 -- ---- kinds
 

@@ -17,7 +17,7 @@ ghost use Rattle.mitex_state.specs.State.{contextOf, carryOf};
 ghost use Rattle.mitex_state.specs.Contract.{placeOf, Agrees};
 ghost use Rattle.mitex_state.specs.Texts.{escape, tilde, ampersand, newLine};
 ghost use Rattle.mitex_state.specs.Tokens.{spaced, word, tokenText, whiteSpace, commandSym, tokenOut};
-ghost use Rattle.mitex_tokens.specs.Lines.{linesOf, escapeOf};
+ghost use Rattle.mitex_tokens.specs.Escapes.{escapeOf};
 ghost use Rattle.mitex_tokens.specs.Puts.{inside, carrying, tokenTurn, Puts, Settles};
 use mitex_loops::converts;
 use mitex_loops::put_before;
@@ -53,17 +53,6 @@ use mitex_syntax::TOKEN_TILDE;
 use mitex_syntax::TOKEN_UNDERSCORE;
 use mitex_syntax::TOKEN_WHITE_SPACE;
 use mitex_syntax::TOKEN_WORD;
-
-// How the columns and the lines of an environment are told apart.
-pub enum Lines {
-    Plain,
-    // a matrix
-    Rows,
-    // cases
-    Commas,
-    // a curly group in Math, which has one line
-    Joined,
-}
 
 // What a token comes to, while the label stays as it is: the next place and the flag, with refusal 0; or a refusal.
 pub struct TokenPut {
@@ -148,35 +137,14 @@ fn put_tilde(out: &mut [u8], at: usize, mode: LaTeXMode) -> usize
     }
 }
 
-// How the lines of an environment are told apart.
-fn lines_of(env: LaTeXEnv) -> Lines
-    ensures { λ r. ⌜ r ≡ linesOf env ⌝ }
-{
-    match env {
-        LaTeXEnv::None => Lines::Plain,
-        LaTeXEnv::Figure => Lines::Plain,
-        LaTeXEnv::Table => Lines::Plain,
-        LaTeXEnv::Itemize => Lines::Plain,
-        LaTeXEnv::Enumerate => Lines::Plain,
-        LaTeXEnv::Math => Lines::Plain,
-        LaTeXEnv::Matrix => Lines::Rows,
-        LaTeXEnv::Cases => Lines::Commas,
-        LaTeXEnv::SubStack => Lines::Plain,
-        LaTeXEnv::MathCurlyGroup => Lines::Joined,
-    }
-}
-
 // An ampersand.
 fn put_ampersand(out: &mut [u8], at: usize, env: LaTeXEnv) -> usize
     requires { ⌜ (at ≤ cap) × (length (now out) ≤ cap) ⌝ }
     ensures { λ r. ⌜ Wrote at (now (out .entry)) (ampersand env) r (now (out .exit)) ⌝ }
 {
-    let lines = lines_of(env);
-    match lines {
-        Lines::Plain => text::put(out, at, b"&"),
-        Lines::Rows => text::put(out, at, b"zws ,"),
-        Lines::Commas => text::put(out, at, b"&"),
-        Lines::Joined => text::put(out, at, b"&"),
+    match env {
+        LaTeXEnv::Matrix => text::put(out, at, b"zws ,"),
+        _ => text::put(out, at, b"&"),
     }
 }
 
@@ -185,12 +153,11 @@ fn put_new_line(out: &mut [u8], at: usize, env: LaTeXEnv) -> usize
     requires { ⌜ (at ≤ cap) × (length (now out) ≤ cap) ⌝ }
     ensures { λ r. ⌜ Wrote at (now (out .entry)) (newLine env) r (now (out .exit)) ⌝ }
 {
-    let lines = lines_of(env);
-    match lines {
-        Lines::Plain => text::put(out, at, b"\\ "),
-        Lines::Rows => text::put(out, at, b"zws ;"),
-        Lines::Commas => text::put(out, at, b","),
-        Lines::Joined => at,
+    match env {
+        LaTeXEnv::Matrix => text::put(out, at, b"zws ;"),
+        LaTeXEnv::Cases => text::put(out, at, b","),
+        LaTeXEnv::MathCurlyGroup => at,
+        _ => text::put(out, at, b"\\ "),
     }
 }
 

@@ -1,14 +1,11 @@
--- `mitex_tokens::put_ampersand` meets its contract: by how the lines of the environment are told apart.
-use mathlib.Core.Path.{_∙_, ap, sym}
+-- `mitex_tokens::put_ampersand` meets its contract: a matrix has a text of its own.
+use mathlib.Core.Path.{ap, sym}
 use Rattle.text.proofs.Writing.{wrote-as}
-use Rattle.mitex_tokens.specs.Lines.{columnText}
-use Rattle.mitex_tokens.proofs.Tokens.{column-text}
+use Rattle.mitex_state.specs.Texts.{ampersand}
+use Rattle.mitex_tokens.proofs.Tokens.{column-rest}
 use borrow.Author.Needs.{needs}
 use Rattle.mitex_tokens.proofs.put_ampersand.Statement.{statement}
 use Rattle.mitex_tokens.proofs.put_ampersand.Tie as tie
-
-lines-of-requires : tie.Need-lines-of-requires
-lines-of-requires c κs = search needs
 
 enum-told : tie.Need-enum-told
 enum-told c = search needs
@@ -19,32 +16,11 @@ slice-aggregate-put c = search needs
 put-requires : tie.Need-put-requires
 put-requires c κs = search needs
 
-enum-told-2 : tie.Need-enum-told-2
-enum-told-2 c = search needs
-
 slice-aggregate-put-2 : tie.Need-slice-aggregate-put-2
 slice-aggregate-put-2 c = search needs
 
 put-requires-2 : tie.Need-put-requires-2
 put-requires-2 c κs = search needs
-
-enum-told-3 : tie.Need-enum-told-3
-enum-told-3 c = search needs
-
-slice-aggregate-put-3 : tie.Need-slice-aggregate-put-3
-slice-aggregate-put-3 c = search needs
-
-put-requires-3 : tie.Need-put-requires-3
-put-requires-3 c κs = search needs
-
-enum-told-4 : tie.Need-enum-told-4
-enum-told-4 c = search needs
-
-slice-aggregate-put-4 : tie.Need-slice-aggregate-put-4
-slice-aggregate-put-4 c = search needs
-
-put-requires-4 : tie.Need-put-requires-4
-put-requires-4 c κs = search needs
 
 same-length : tie.Need-same-length
 same-length c = search needs
@@ -52,9 +28,7 @@ same-length c = search needs
 returns : tie.Need-returns
 returns c =
     let c₁ = c .before .before .before .before .before in
-    let c₂ = c₁ .before .before in
-    let c₃ = c₂ .before .before in
-    wrote-as (ap columnText (sym (c₁ .enum-told .given .1) ∙ c₂ .lines-of .ensures) ∙ column-text (c₃ .args .env)) (c .before .before .put .ensures)
+    wrote-as (ap ampersand (sym (c₁ .enum-told .given .1))) (c .before .before .put .ensures)
 
 same-length-2 : tie.Need-same-length-2
 same-length-2 c = search needs
@@ -63,51 +37,18 @@ returns-2 : tie.Need-returns-2
 returns-2 c =
     let c₁ = c .before .before .before .before .before in
     let c₂ = c₁ .before .before in
-    let c₃ = c₂ .before .before in
-    wrote-as (ap columnText (sym (c₁ .enum-told2 .given .1) ∙ c₂ .lines-of .ensures) ∙ column-text (c₃ .args .env)) (c .before .before .put2 .ensures)
-
-same-length-3 : tie.Need-same-length-3
-same-length-3 c = search needs
-
-returns-3 : tie.Need-returns-3
-returns-3 c =
-    let c₁ = c .before .before .before .before .before in
-    let c₂ = c₁ .before .before in
-    let c₃ = c₂ .before .before in
-    wrote-as (ap columnText (sym (c₁ .enum-told3 .given .1) ∙ c₂ .lines-of .ensures) ∙ column-text (c₃ .args .env)) (c .before .before .put3 .ensures)
-
-same-length-4 : tie.Need-same-length-4
-same-length-4 c = search needs
-
-returns-4 : tie.Need-returns-4
-returns-4 c =
-    let c₁ = c .before .before .before .before .before in
-    let c₂ = c₁ .before .before in
-    let c₃ = c₂ .before .before in
-    wrote-as (ap columnText (sym (c₁ .enum-told4 .given .1) ∙ c₂ .lines-of .ensures) ∙ column-text (c₃ .args .env)) (c .before .before .put4 .ensures)
+    wrote-as (column-rest (c₂ .args .env) (c₁ .match .keys2)) (c .before .before .put2 .ensures)
 
 pub put-ampersand-spec : {M : Type 1} → statement M
 put-ampersand-spec =
     tie.close
     (tie.spec
-    lines-of-requires
     enum-told
     slice-aggregate-put
     put-requires
-    enum-told-2
     slice-aggregate-put-2
     put-requires-2
-    enum-told-3
-    slice-aggregate-put-3
-    put-requires-3
-    enum-told-4
-    slice-aggregate-put-4
-    put-requires-4
     same-length
     returns
     same-length-2
-    returns-2
-    same-length-3
-    returns-3
-    same-length-4
-    returns-4)
+    returns-2)

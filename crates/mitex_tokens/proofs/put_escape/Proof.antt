@@ -2,7 +2,7 @@
 use mathlib.Core.Path.{_∙_, ap, sym}
 use Rattle.text.proofs.Writing.{wrote-as, wrote-nil, wrote-then}
 use Rattle.mitex_state.specs.Texts.{escape}
-use Rattle.mitex_tokens.specs.Lines.{escapeOf}
+use Rattle.mitex_tokens.specs.Escapes.{escapeOf}
 use Rattle.mitex_tokens.proofs.Tokens.{some-escape}
 use borrow.Author.Needs.{needs}
 use Rattle.mitex_tokens.proofs.put_escape.Statement.{statement}

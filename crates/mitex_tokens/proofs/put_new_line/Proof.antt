@@ -1,14 +1,11 @@
--- `mitex_tokens::put_new_line` meets its contract: by how the lines of the environment are told apart.
-use mathlib.Core.Path.{_∙_, ap, sym}
+-- `mitex_tokens::put_new_line` meets its contract: three environments have a text of their own.
+use mathlib.Core.Path.{ap, sym}
 use Rattle.text.proofs.Writing.{wrote-as, wrote-nil}
-use Rattle.mitex_tokens.specs.Lines.{lineText}
-use Rattle.mitex_tokens.proofs.Tokens.{line-text}
+use Rattle.mitex_state.specs.Texts.{newLine}
+use Rattle.mitex_tokens.proofs.Tokens.{line-rest}
 use borrow.Author.Needs.{needs}
 use Rattle.mitex_tokens.proofs.put_new_line.Statement.{statement}
 use Rattle.mitex_tokens.proofs.put_new_line.Tie as tie
-
-lines-of-requires : tie.Need-lines-of-requires
-lines-of-requires c κs = search needs
 
 enum-told : tie.Need-enum-told
 enum-told c = search needs
@@ -37,18 +34,13 @@ slice-aggregate-put-3 c = search needs
 put-requires-3 : tie.Need-put-requires-3
 put-requires-3 c κs = search needs
 
-enum-told-4 : tie.Need-enum-told-4
-enum-told-4 c = search needs
-
 same-length : tie.Need-same-length
 same-length c = search needs
 
 returns : tie.Need-returns
 returns c =
     let c₁ = c .before .before .before .before .before in
-    let c₂ = c₁ .before .before in
-    let c₃ = c₂ .before .before in
-    wrote-as (ap lineText (sym (c₁ .enum-told .given .1) ∙ c₂ .lines-of .ensures) ∙ line-text (c₃ .args .env)) (c .before .before .put .ensures)
+    wrote-as (ap newLine (sym (c₁ .enum-told .given .1))) (c .before .before .put .ensures)
 
 same-length-2 : tie.Need-same-length-2
 same-length-2 c = search needs
@@ -56,30 +48,25 @@ same-length-2 c = search needs
 returns-2 : tie.Need-returns-2
 returns-2 c =
     let c₁ = c .before .before .before .before .before in
-    let c₂ = c₁ .before .before in
-    let c₃ = c₂ .before .before in
-    wrote-as (ap lineText (sym (c₁ .enum-told2 .given .1) ∙ c₂ .lines-of .ensures) ∙ line-text (c₃ .args .env)) (c .before .before .put2 .ensures)
+    wrote-as (ap newLine (sym (c₁ .enum-told2 .given .1))) (c .before .before .put2 .ensures)
+
+returns-3 : tie.Need-returns-3
+returns-3 c =
+    wrote-as (ap newLine (sym (c .enum-told3 .given .1))) (wrote-nil _ _ (c .before .before .before .pre .0))
 
 same-length-3 : tie.Need-same-length-3
 same-length-3 c = search needs
 
-returns-3 : tie.Need-returns-3
-returns-3 c =
-    let c₁ = c .before .before .before .before .before in
-    let c₂ = c₁ .before .before in
-    let c₃ = c₂ .before .before in
-    wrote-as (ap lineText (sym (c₁ .enum-told3 .given .1) ∙ c₂ .lines-of .ensures) ∙ line-text (c₃ .args .env)) (c .before .before .put3 .ensures)
-
 returns-4 : tie.Need-returns-4
 returns-4 c =
-    let c₁ = c .before .before .before .before in
-    wrote-as (ap lineText (sym (c .enum-told4 .given .1) ∙ c .before .before .lines-of .ensures) ∙ line-text (c₁ .args .env)) (wrote-nil _ _ (c₁ .pre .0))
+    let c₁ = c .before .before .before .before .before in
+    let c₂ = c₁ .before .before in
+    wrote-as (line-rest (c₂ .args .env) (c₁ .match .keys4)) (c .before .before .put3 .ensures)
 
 pub put-new-line-spec : {M : Type 1} → statement M
 put-new-line-spec =
     tie.close
     (tie.spec
-    lines-of-requires
     enum-told
     slice-aggregate-put
     put-requires
@@ -89,11 +76,10 @@ put-new-line-spec =
     enum-told-3
     slice-aggregate-put-3
     put-requires-3
-    enum-told-4
     same-length
     returns
     same-length-2
     returns-2
-    same-length-3
     returns-3
+    same-length-3
     returns-4)
