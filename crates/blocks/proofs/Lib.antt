@@ -4,3 +4,4 @@ pub mod Reaching
 pub mod Pieces
 pub mod Measuring
 pub mod Rewriting
+pub mod Drafting

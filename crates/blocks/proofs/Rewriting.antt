@@ -102,6 +102,10 @@ module _ {rules index rows text : List ℕ} {s : Standing} {to : ℕ} {ledger : 
       made : Passed (r .walked) (next .piece .after) (next .piece .text) (s .walked .at) out out′
       made = passed (agrees-as (sym (next .comes)) (step-made .agrees))
 
+      -- it was not refused
+      pub went-well : r .walked .refusal ≡ 0
+      went-well = made .well
+
       ends-at : (r .walked .at ≡ s .walked .at + length (next .piece .text)) × (r .walked .at + length (written (next .later)) < cap)
       ends-at =
           let t = next .piece .text in

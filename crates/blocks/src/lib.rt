@@ -7,13 +7,19 @@ use mitex_state::Walked;
 use mitex_state::went;
 use mitex_syntax::span_at;
 ghost use mathlib.Core.Path.{_≡_};
-ghost use mathlib.Core.Bool.{true};
-ghost use Prim.Native.Nat.{ℕ, _-_, _≤_, _<_};
+ghost use mathlib.Core.Bool.{true, false};
+ghost use mathlib.Core.List.{[]};
+ghost use Prim.Native.Nat.{ℕ, _*_, _-_, _≤_, _<_};
 ghost use lib.ListN.{length};
+ghost use lib.Seq.{sets};
 ghost use Rattle.text.specs.Writing.{cap};
 ghost use Rattle.mitex_state.specs.Outcome.{labelMost};
-ghost use Rattle.ledger.specs.Ledger.{RowFits};
+ghost use Rattle.mitex_state.specs.State.{carryOf};
+ghost use Rattle.ledger.specs.Ledger.{rowSize, encodeRow, HasRow, RowFits};
 ghost use Rattle.blocks.specs.Passes.{Given, Whole, Pieced, SomeBlocks, Steps, Stands, meets, Measures, Writes};
+
+// The end of a text that a row cannot say any more.
+const CAP: usize = 4294967296;
 
 // Where a pass stands: the next block, the bytes of rows and of text before it, and what the walk over the block before answered.
 pub struct Standing {
@@ -125,6 +131,47 @@ pub fn measure<'a>(
         if met(kept, edits, from.block, next) {
             return next;
         }
+        s = next;
+    }
+    s
+}
+
+// The row of block `k`, where a row can say the text's end.
+fn draft_row(ledger: &mut [u8], k: usize, walked: Walked)
+    requires { ⌜ HasRow k (now ledger) × (walked .converter .«label_len» ≤ labelMost) ⌝ }
+    ensures { λ _. ⌜ (walked .at < cap → now (ledger .exit) ≡ sets (now (ledger .entry)) (rowSize * k) (encodeRow (record { end = walked .at; carry = carryOf (walked .converter) }))) ⌝ }
+{
+    if CAP <= walked.at {
+        return;
+    }
+    write_row(ledger, k, walked.at, walked.converter);
+}
+
+// All blocks from a standing on, measured and written with their rows in one pass: what falls outside the buffer is not written but counted.
+pub fn draft_blocks<'a>(
+    out: &mut [u8],
+    ledger: &mut [u8],
+    rows: &[u8],
+    text: &'a [u8],
+    rules: &'a [u8],
+    index: &[u32],
+    from: Standing,
+    blocks: usize,
+) -> Standing
+    requires { ⌜ Whole (now rules) (now index) (now rows) (now text) from blocks ⌝ }
+    requires { ⌜ (length (now out) ≤ cap) × (rowSize * blocks ≤ length (now ledger)) ⌝ }
+    ensures measured { λ r. ⌜ Measures (now (rules .entry)) (now (index .entry)) (now (rows .entry)) (now (text .entry)) from blocks false [] r ⌝ }
+    ensures written { λ _. ⌜ Writes (now (rules .entry)) (now (index .entry)) (now (rows .entry)) (now (text .entry)) from blocks (now (out .entry)) (now (ledger .entry)) (now (out .exit)) (now (ledger .exit)) ⌝ }
+{
+    let mut s = from;
+    while s.block < blocks {
+        let k = s.block;
+        let next = step(out, rows, text, rules, index, s);
+        let walked = next.walked;
+        if walked.refusal != 0 {
+            return next;
+        }
+        draft_row(ledger, k, walked);
         s = next;
     }
     s
