@@ -3,5 +3,6 @@ pub mod Answers
 pub mod Files
 pub mod Starting
 pub mod Settling
+pub mod Delivering
 pub mod Splicing
 pub mod Again

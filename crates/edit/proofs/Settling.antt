@@ -1,6 +1,6 @@
--- What Convert comes to. The walk of the measuring pass is the document's (`came`): it was refused (`settled-refused`), or it gave a piece
--- for each block. Then text and rows have room or not (`settled-no-room`), and what the writing pass leaves is what Convert is to
--- leave (`settled-done`).
+-- What Convert comes to. The walk of the drafting pass is the document's (`came`): it was refused (`settled-refused`), or it gave a piece
+-- for each block. Then text and rows have room or not (`settled-no-room`), the pass left a draft of the pieces (`settled-draft`), and
+-- whoever delivers it leaves what Convert is to leave (`settled-done`).
 use mathlib.Core.Path.{_≡_, refl, sym, ap, subst, _∙_}
 use mathlib.Core.Bool.{Bool, true, false, _&&_}
 use mathlib.Core.List.{List, [], _++_, append-nil}
@@ -9,7 +9,7 @@ use Prim.Native.Nat.{ℕ, _*_, _≤_, min}
 use native.Mathlib.Omega.{arith}
 use borrow.Author.Tests.{le-leb, lt-leb, leb-true, leb-false}
 use lib.ListN.{length, take, drop, drop-of-length-le}
-use lib.Seq.{sets, length-take-le}
+use lib.Seq.{sets, length-take-le, take-append-seam}
 use lib.Dec.{leb}
 use Rattle.text.specs.Writing.{cap}
 use Rattle.mitex_state.specs.Conversion.{startCarry}
@@ -31,7 +31,7 @@ use Rattle.blocks.specs.declared.Standing.{Standing}
 use Rattle.blocks.proofs.Manuscript.{keeps-short}
 use Rattle.blocks.proofs.Pieces.{walk-gives, came-refused, Came-to, came-pieces}
 use Rattle.blocks.proofs.Reaching.{listed-count}
-use Rattle.edit.specs.Calls.{Document}
+use Rattle.edit.specs.Calls.{Document, Draft, Delivers}
 use Rattle.edit.proofs.Starting.{begin, begins-as}
 
 -- ---- a walk settled
@@ -62,7 +62,7 @@ room-for a l size e = go (leb a (min size textMost)) refl
     go false q = q ∙ sym (lt-leb l (min size textMost) (omega (arith, leb-false a (min size textMost) q)))
 
 -- a text written over a lent part as long as itself
-part-put :
+pub part-put :
     (new out out₁ : List ℕ) (at : ℕ) → at ≡ length new → at ≤ length out → out₁ ≡ sets (take at out) 0 new
     → out₁ ++ drop at out ≡ put new out
 part-put new out out₁ at e h w =
@@ -73,6 +73,13 @@ part-put new out out₁ at e h w =
     ∙ ap (λ r. new ++ r) (drop-of-length-le (take at out) {i = length new} (omega arith))
     ∙ append-nil new in
     λ i. whole i ++ drop (e i) out
+
+-- a text written at the start of a buffer is what the buffer begins with
+taken : (new buf buf′ : List ℕ) (n : ℕ) → n ≡ length new → n ≤ length buf → buf′ ≡ sets buf 0 new → take n buf′ ≡ new
+taken new buf buf′ n e h w =
+    (λ i. take (e i) (w i))
+    ∙ ap (take (length new)) (put-stored buf new (omega arith))
+    ∙ take-append-seam new (drop (length new) buf)
 
 -- ---- a document measured from its first block on
 
@@ -139,8 +146,9 @@ module _ {rules index rows text : List ℕ} {n : ℕ} (w : Document rules index 
           pub settled-within : r .walked .at ≤ min (length out) textMost
           settled-within = omega (arith, fit .0, exact)
 
-          abbrev pieced : Pieced rules index rows text from n ledger
-          pieced =
+          -- a ledger with a row for each block
+          abbrev pieced : (l : List ℕ) → rowSize * n ≤ length l → Pieced rules index rows text from n l
+          pieced l h =
               let s = p .stood in
               record {
                 given = begin w s (p .carried) (omega arith) (omega arith) .given;
@@ -148,26 +156,55 @@ module _ {rules index rows text : List ℕ} {n : ℕ} (w : Document rules index 
                 gives = walk-gives _ false _ _ _ [] _ (begins-as w s (p .carried) (omega arith) (omega arith) false [] ∙ measured .are);
                 many = omega (arith, s .block, many);
                 end = omega (arith, s .went .next, exact, fit .0);
-                room = omega (arith, fit .1, many);
+                room = h;
                 few = w .most;
               }
 
-          pub settled-pieced : Pieced rules index rows text from n ledger
-          settled-pieced = pieced
-
-          pub settled-done :
-              (out₁ ledger′ : List ℕ) → Writes rules index rows text from n (take (r .walked .at) out) ledger out₁ ledger′
-              → Gives (settle (document w m) out ledger) (converted (r .walked .at) n) (out₁ ++ drop (r .walked .at) out) ledger′
-          settled-done out₁ ledger′ writes =
-              let x = writes pieced in
-              let ps = measured .ps in
-              let at = r .walked .at in
+          rows-long : rowSize * n ≡ length (encodeRows (rowsFrom 0 (measured .ps)))
+          rows-long =
               let en = walked-encodable (blocksIn m (w .rs)) (keeps-short (some m) (some (w .rs))) walked (omega (arith, exact, fit .0)) in
-              let long = rows-length ps en in
-              let first = p .stood .went .next in
-              let text = x .text ∙ ap (λ a. sets (take at out) a (written ps)) first in
-              settle-done out ledger (measured .are) (sym room-is ∙ e) exact (sym many)
-              (part-put (written ps) out out₁ at exact (omega (arith, settled-within)) text)
-              (x .rows
-              ∙ (λ i. sets ledger (rowSize * p .stood .block i) (encodeRows (rowsFrom (first i) ps)))
-              ∙ put-stored ledger (encodeRows (rowsFrom 0 ps)) (omega (arith, fit .1)))
+              omega (arith, rows-length (measured .ps) en, many)
+
+          -- text and rows begin where the buffers begin
+          text-first : (l : List ℕ) → sets l (from .walked .at) (written (measured .ps)) ≡ sets l 0 (written (measured .ps))
+          text-first l = ap (λ a. sets l a (written (measured .ps))) (p .stood .went .next)
+
+          rows-first :
+              (l : List ℕ) → sets l (rowSize * from .block) (encodeRows (rowsFrom (from .walked .at) (measured .ps)))
+              ≡ sets l 0 (encodeRows (rowsFrom 0 (measured .ps)))
+          rows-first l = λ i. sets l (rowSize * p .stood .block i) (encodeRows (rowsFrom (p .stood .went .next i) (measured .ps)))
+
+          -- the pass wrote to buffers of its own
+          module _ {text₀ rows₀ text₁ rows₁ : List ℕ} (lt : length text₁ ≡ length text₀) (lr : length rows₁ ≡ length rows₀)
+              (h : rowSize * n ≤ length rows₀) (writes : Writes rules index rows text from n text₀ rows₀ text₁ rows₁) where
+            abbrev draft : Draft rules index rows text from n text₁ rows₁ (take (r .walked .at) out) ledger
+            draft =
+                let x = writes (pieced rows₀ h) in
+                let ps = measured .ps in
+                let long = length-take-le (r .walked .at) out (omega (arith, settled-within)) ∙ exact in
+                record {
+                  pieced = pieced ledger (omega (arith, fit .1, many));
+                  first = p .stood .went .next;
+                  begins = p .stood .block;
+                  long = long;
+                  holds = λ k. taken (written ps) text₀ text₁ _ long (omega (arith, k, lt)) (x .text ∙ text-first text₀);
+                  room = omega (arith, h, lr);
+                  holds-rows = taken (encodeRows (rowsFrom 0 ps)) rows₀ rows₁ _ rows-long h (x .rows ∙ rows-first rows₀);
+                }
+
+            pub settled-draft : Draft rules index rows text from n text₁ rows₁ (take (r .walked .at) out) ledger
+            settled-draft = draft
+
+            pub settled-done :
+                (out₁ ledger′ : List ℕ)
+                → Delivers rules index rows text from n text₁ rows₁ (take (r .walked .at) out) ledger out₁ ledger′
+                → Gives (settle (document w m) out ledger) (converted (r .walked .at) n) (out₁ ++ drop (r .walked .at) out) ledger′
+            settled-done out₁ ledger′ delivers =
+                let x = delivers draft in
+                let ps = measured .ps in
+                let at = r .walked .at in
+                settle-done out ledger (measured .are) (sym room-is ∙ e) exact (sym many)
+                (part-put (written ps) out out₁ at exact (omega (arith, settled-within)) (x .text ∙ text-first (take at out)))
+                (x .rows
+                ∙ rows-first ledger
+                ∙ put-stored ledger (encodeRows (rowsFrom 0 ps)) (omega (arith, fit .1, many, rows-long)))

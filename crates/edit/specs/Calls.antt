@@ -4,8 +4,8 @@ use mathlib.Core.Bool.{true}
 use mathlib.Core.Option.{Option}
 use mathlib.Core.Option.Option.{none as nothing, some}
 use mathlib.Core.List.{List}
-use Prim.Native.Nat.{ℕ, _+_, _-_, _≤_, _<_, min}
-use lib.ListN.{length}
+use Prim.Native.Nat.{ℕ, _+_, _*_, _-_, _≤_, _<_, min}
+use lib.ListN.{length, take}
 use Rattle.text.specs.Writing.{cap}
 use Rattle.mitex_spec.specs.Rules.{Rule}
 use Rattle.mitex_spec.specs.Index.{Ready, SomeRules}
@@ -18,14 +18,14 @@ use Rattle.mitex_state.specs.State.{newOf, carryOf, Carried}
 use Rattle.mitex_state.specs.Conversion.{startCarry}
 use Rattle.mitex_state.specs.declared.LaTeXMode.{LaTeXMode}
 use Rattle.mitex_state.specs.declared.Converter.{Converter}
-use Rattle.ledger.specs.Ledger.{decodeRows, fits, Piece, written}
+use Rattle.ledger.specs.Ledger.{rowSize, decodeRows, encodeRows, fits, Piece, written, rowsFrom}
 use Rattle.editing.specs.Walk.{walk}
 use Rattle.editing.specs.Walk.Checked.{good}
 use Rattle.editing.specs.Edit.{Answer, settle, endBefore, carryBefore, textAfter, ledgerAfter, write, editChecked}
 use Rattle.editing.specs.Edit.Answer.{refused, converted, edited}
 use Rattle.editing.specs.Calls.{Gives}
 use Rattle.blocks.specs.Manuscript.{listed, blocksIn}
-use Rattle.blocks.specs.Passes.{Given, converterOf}
+use Rattle.blocks.specs.Passes.{Given, Pieced, converterOf, Wrote}
 use Rattle.blocks.specs.Passes.{Gives as Pieces}
 use Rattle.blocks.specs.declared.Standing.{Standing}
 use Rattle.edit.specs.declared.Converted.{Converted}
@@ -77,6 +77,21 @@ pub record Document (rules index rows text : List ℕ) (n : ℕ) : Type 0 where
   pub short : length text ≤ fileMost
 
 -- ---- Convert
+
+-- the pieces of a document's blocks, and a draft of them: their text, where it is no longer than the draft, and their rows
+pub record Draft (rules index rows text : List ℕ) (from : Standing) (n : ℕ) (draft draftRows out ledger : List ℕ) : Type 0 where
+  pub pieced : Pieced rules index rows text from n ledger
+  pub first : from .walked .at ≡ 0
+  pub begins : from .block ≡ 0
+  pub long : length out ≡ length (written (pieced .ps))
+  pub holds : length out ≤ length draft → take (length out) draft ≡ written (pieced .ps)
+  pub room : rowSize * n ≤ length draftRows
+  pub holds-rows : take (rowSize * n) draftRows ≡ encodeRows (rowsFrom 0 (pieced .ps))
+
+abbrev pub Delivers :
+    (rules index rows text : List ℕ) (from : Standing) (n : ℕ) (draft draftRows out ledger out′ ledger′ : List ℕ) → Type 0
+Delivers rules index rows text from n draft draftRows out ledger out′ ledger′ =
+    (w : Draft rules index rows text from n draft draftRows out ledger) → Wrote (w .pieced .ps) from out ledger out′ ledger′
 
 abbrev pub ConvertsBlocks :
     (rules index rows text : List ℕ) (m : LaTeXMode) (n : ℕ) (out ledger : List ℕ) (r : Converted) (out′ ledger′ : List ℕ) → Type 0

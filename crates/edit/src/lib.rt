@@ -1,5 +1,6 @@
 // Convert and Edit, for any caller with any bytes: the files are checked, the blocks measured, and only then anything is written.
 use blocks::Standing;
+use blocks::draft_blocks;
 use blocks::measure;
 use blocks::stand_at;
 use blocks::write_blocks;
@@ -14,8 +15,9 @@ use mitex_spec::check_rules;
 use mitex_state::Converter;
 use mitex_state::LaTeXMode;
 use text::move_bytes;
+use text::put;
 ghost use mathlib.Core.Path.{_≡_};
-ghost use mathlib.Core.Bool.{_&&_};
+ghost use mathlib.Core.Bool.{true, _&&_};
 ghost use Prim.Native.Nat.{ℕ, _+_, _*_, _-_, _≤_, _<_, min};
 ghost use lib.ListN.{length, take, drop, replicate};
 ghost use lib.Seq.{sets};
@@ -30,7 +32,7 @@ ghost use Rattle.editing.specs.Edit.{textMost, roomForText, editFits};
 ghost use Rattle.editing.specs.Run.{sizeAfter};
 ghost use Rattle.editing.specs.Calls.{Converts, Edits, Runs};
 ghost use Rattle.blocks.specs.Manuscript.{modeOf, manuscript};
-ghost use Rattle.edit.specs.Calls.{saidOf, answerOf, openTree, opened, Indexed, Document, ConvertsBlocks, EndsBefore, CarriesBefore, Measured, oldEnd, Overwrites, Splices, EditsBlocks};
+ghost use Rattle.edit.specs.Calls.{saidOf, answerOf, openTree, opened, Indexed, Document, Draft, Delivers, ConvertsBlocks, EndsBefore, CarriesBefore, Measured, oldEnd, Overwrites, Splices, EditsBlocks};
 ghost use Rattle.edit.specs.Three.{threeEdits, threeAnswers, Demanded};
 
 // A text buffer counts as at most so many bytes.
@@ -38,6 +40,16 @@ const TEXT_MOST: usize = 4294967295;
 
 // Rules that a rule file has at most.
 const RULES_MOST: usize = 8192;
+
+// Bytes of a draft's text, and of its rows: enough for the rows of 512 blocks, the most that there are.
+const DRAFT: usize = 65536;
+
+// The same for a short document, and what counts as one: up to so many blocks, whose rows have room, and so many bytes of token texts.
+const SHORT_DRAFT: usize = 8192;
+
+const SHORT_BLOCKS: usize = 64;
+
+const SHORT_TEXT: usize = 4096;
 
 // Convert's answer: a refusal's number and row, or the text's length and the count of blocks.
 pub enum Converted {
@@ -151,7 +163,88 @@ fn has_room(out: &[u8], ledger: &[u8], at: usize, blocks: usize) -> bool
     true
 }
 
-// The blocks of a document, measured and then written: the text, and a row for each.
+// The draft's text and rows, where the draft is long enough for the text; else the blocks are converted once more.
+fn deliver<'a>(
+    draft: &[u8],
+    draft_rows: &[u8],
+    rows: &[u8],
+    text: &'a [u8],
+    rules: &'a [u8],
+    index: &[u32],
+    from: Standing,
+    blocks: usize,
+    out: &mut [u8],
+    ledger: &mut [u8],
+)
+    requires { ⌜ Draft (now rules) (now index) (now rows) (now text) from blocks (now draft) (now «draft_rows») (now out) (now ledger) ⌝ }
+    ensures { λ _. ⌜ Delivers (now (rules .entry)) (now (index .entry)) (now (rows .entry)) (now (text .entry)) from blocks (now (draft .entry)) (now («draft_rows» .entry)) (now (out .entry)) (now (ledger .entry)) (now (out .exit)) (now (ledger .exit)) ⌝ }
+{
+    let at = out.len();
+    if draft.len() < at {
+        write_blocks(out, ledger, rows, text, rules, index, from, blocks);
+        return;
+    }
+    let end = ROW_SIZE * blocks;
+    put(out, 0, &draft[..at]);
+    put(&mut ledger[..end], 0, &draft_rows[..end]);
+}
+
+// The blocks of a document, drafted and then delivered: the text, and a row for each.
+fn convert_by_draft<'a>(
+    draft: &mut [u8],
+    draft_rows: &mut [u8],
+    rows: &[u8],
+    text: &'a [u8],
+    rules: &'a [u8],
+    index: &[u32],
+    mode: LaTeXMode,
+    blocks: usize,
+    out: &mut [u8],
+    ledger: &mut [u8],
+) -> Converted
+    requires { ⌜ Document (now rules) (now index) (now rows) (now text) blocks ⌝ }
+    requires { ⌜ (length (now draft) ≤ cap) × (rowSize * blocks ≤ length (now «draft_rows»)) ⌝ }
+    ensures { λ r. ⌜ ConvertsBlocks (now (rules .entry)) (now (index .entry)) (now (rows .entry)) (now (text .entry)) mode blocks (now (out .entry)) (now (ledger .entry)) r (now (out .exit)) (now (ledger .exit)) ⌝ }
+{
+    let from = stand_at(rows, 0, 0, opening(mode));
+    let m = draft_blocks(draft, draft_rows, rows, text, rules, index, from, blocks);
+    let whole = m.walked;
+    let number = whole.refusal;
+    let row = whole.row;
+    let at = whole.at;
+    let room = has_room(out, ledger, at, blocks);
+    if number != 0 {
+        return Converted::Refused { number, row };
+    }
+    if !room {
+        return Converted::Refused { number: 15, row: 0 };
+    }
+    deliver(
+        draft,
+        draft_rows,
+        rows,
+        text,
+        rules,
+        index,
+        from,
+        blocks,
+        &mut out[..at],
+        ledger,
+    );
+    Converted::Done { length: at, blocks }
+}
+
+// Whether a document is short.
+fn is_short(text: &[u8], blocks: usize) -> bool
+    ensures { λ r. ⌜ (r ≡ true → blocks ≤ 64) ⌝ }
+{
+    if SHORT_TEXT < text.len() {
+        return false;
+    }
+    blocks <= SHORT_BLOCKS
+}
+
+// The blocks of a document, over a draft: a short one where the document is short, since clearing a draft takes its time.
 fn convert_blocks<'a>(
     rows: &[u8],
     text: &'a [u8],
@@ -165,30 +258,36 @@ fn convert_blocks<'a>(
     requires { ⌜ Document (now rules) (now index) (now rows) (now text) blocks ⌝ }
     ensures { λ r. ⌜ ConvertsBlocks (now (rules .entry)) (now (index .entry)) (now (rows .entry)) (now (text .entry)) mode blocks (now (out .entry)) (now (ledger .entry)) r (now (out .exit)) (now (ledger .exit)) ⌝ }
 {
-    let from = stand_at(rows, 0, 0, opening(mode));
-    let m = measure(rows, text, rules, index, ledger, false, from, blocks);
-    let whole = m.walked;
-    let number = whole.refusal;
-    let row = whole.row;
-    let at = whole.at;
-    let room = has_room(out, ledger, at, blocks);
-    if number != 0 {
-        return Converted::Refused { number, row };
+    if is_short(text, blocks) {
+        let mut draft = [0u8; SHORT_DRAFT];
+        let mut draft_rows = [0u8; SHORT_DRAFT];
+        return convert_by_draft(
+            &mut draft,
+            &mut draft_rows,
+            rows,
+            text,
+            rules,
+            index,
+            mode,
+            blocks,
+            out,
+            ledger,
+        );
     }
-    if !room {
-        return Converted::Refused { number: 15, row: 0 };
-    }
-    write_blocks(
-        &mut out[..at],
-        ledger,
+    let mut draft = [0u8; DRAFT];
+    let mut draft_rows = [0u8; DRAFT];
+    convert_by_draft(
+        &mut draft,
+        &mut draft_rows,
         rows,
         text,
         rules,
         index,
-        from,
+        mode,
         blocks,
-    );
-    Converted::Done { length: at, blocks }
+        out,
+        ledger,
+    )
 }
 
 // A tree file converted from its start, for mode 0 (text) or 1 (math): the text and a ledger row for each block are written.

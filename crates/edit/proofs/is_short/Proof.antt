@@ -1,0 +1,14 @@
+-- `is_short`: true is answered by the count of blocks alone.
+use mathlib.Core.Bool.{false≢true}
+use borrow.Author.Needs.{needs}
+use Rattle.edit.proofs.is_short.Statement.{statement}
+use Rattle.edit.proofs.is_short.Tie as tie
+
+returns : tie.Need-returns
+returns c = λ e. absurd (false≢true e)
+
+returns-2 : tie.Need-returns-2
+returns-2 c = search needs
+
+pub is-short-spec : {M : Type 1} → statement M
+is-short-spec = tie.close (tie.spec returns returns-2)
