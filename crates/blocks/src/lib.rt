@@ -1,5 +1,5 @@
-// Passes over the blocks of a document, one block a turn: one that measures, up to the last block or up to the first whose carry is
-// that of its kept row, and one that writes what was measured.
+// Passes over the blocks of a document, one block a turn. Convert's goes over all blocks, measures and writes. Edit has two: one that
+// measures up to the first block whose carry is that of its kept row, and one that writes what was measured.
 use ledger::same_carry;
 use ledger::write_row;
 use mitex_state::Converter;
@@ -90,13 +90,10 @@ pub fn step<'a>(
 }
 
 // Whether an edit that began at block `first` stops at a standing: behind that block, where the carry is that of the kept row before.
-fn met(kept: &[u8], edits: bool, first: usize, s: Standing) -> bool
-    requires { ⌜ (edits ≡ true → first < s .block → RowFits (s .block - 1) (now kept)) × (s .walked .converter .«label_len» ≤ labelMost) ⌝ }
-    ensures { λ r. ⌜ r ≡ meets edits first s (now (kept .entry)) ⌝ }
+fn met(kept: &[u8], first: usize, s: Standing) -> bool
+    requires { ⌜ (first < s .block → RowFits (s .block - 1) (now kept)) × (s .walked .converter .«label_len» ≤ labelMost) ⌝ }
+    ensures { λ r. ⌜ r ≡ meets true first s (now (kept .entry)) ⌝ }
 {
-    if !edits {
-        return false;
-    }
     let k = s.block;
     if k <= first {
         return false;
@@ -105,20 +102,19 @@ fn met(kept: &[u8], edits: bool, first: usize, s: Standing) -> bool
     same_carry(kept, k - 1, walked.converter)
 }
 
-// Blocks measured from a standing on: up to the last, or in an edit up to the first whose carry is that of its kept row.
+// Blocks measured from a standing on, up to the first whose carry is that of its kept row, or up to the last.
 pub fn measure<'a>(
     rows: &[u8],
     text: &'a [u8],
     rules: &'a [u8],
     index: &[u32],
     kept: &[u8],
-    edits: bool,
     from: Standing,
     blocks: usize,
 ) -> Standing
     requires { ⌜ Whole (now rules) (now index) (now rows) (now text) from blocks ⌝ }
-    requires { ⌜ (edits ≡ true → (i : ℕ) → i < blocks → RowFits i (now kept)) ⌝ }
-    ensures { λ r. ⌜ Measures (now (rules .entry)) (now (index .entry)) (now (rows .entry)) (now (text .entry)) from blocks edits (now (kept .entry)) r ⌝ }
+    requires { ⌜ ((i : ℕ) → i < blocks → RowFits i (now kept)) ⌝ }
+    ensures { λ r. ⌜ Measures (now (rules .entry)) (now (index .entry)) (now (rows .entry)) (now (text .entry)) from blocks true (now (kept .entry)) r ⌝ }
 {
     let mut s = from;
     while s.block < blocks {
@@ -128,7 +124,7 @@ pub fn measure<'a>(
         if walked.refusal != 0 {
             return next;
         }
-        if met(kept, edits, from.block, next) {
+        if met(kept, from.block, next) {
             return next;
         }
         s = next;

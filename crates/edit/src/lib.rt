@@ -1,4 +1,4 @@
-// Convert and Edit, for any caller with any bytes: the files are checked, the blocks measured, and only then anything is written.
+// Convert and Edit, for any caller with any bytes: the files are checked, the blocks measured, and only then any lent byte is written.
 use blocks::Standing;
 use blocks::draft_blocks;
 use blocks::measure;
@@ -490,7 +490,7 @@ fn edit_blocks<'a>(
     }
     let at = end_before(ledger, block);
     let from = stand_at(rows, block, at, carry_before(ledger, block, mode));
-    let m = measure(rows, text, rules, index, ledger, true, from, blocks);
+    let m = measure(rows, text, rules, index, ledger, from, blocks);
     let walked = m.walked;
     if walked.refusal != 0 {
         return Edited::Refused {

@@ -1,6 +1,7 @@
 -- `measure`: who finishes from the standing s has finished from the start, for whatever the pass was given (`Passed`); the measure is
 -- the blocks left.
 use mathlib.Core.Path.{refl}
+use mathlib.Core.Bool.{true}
 use Prim.Native.Nat.{_-_}
 use native.Mathlib.Omega.{arith}
 use Rattle.blocks.specs.Passes.{Whole}
@@ -10,10 +11,10 @@ use Rattle.blocks.proofs.measure.Statement.{statement}
 use Rattle.blocks.proofs.measure.Tie as tie
 
 abbrev Inv-loop : tie.InvT-loop
-Inv-loop rows text rules index kept edits from blocks s₀ s = (w : Whole rules index rows text from blocks) → Passed w edits kept s
+Inv-loop rows text rules index kept from blocks s₀ s = (w : Whole rules index rows text from blocks) → Passed w true kept s
 
 abbrev μ-loop : tie.MeasureT-loop
-μ-loop rows text rules index kept edits from blocks s₀ s = blocks - s .block
+μ-loop rows text rules index kept from blocks s₀ s = blocks - s .block
 
 abbrev start : tie.At-loop Inv-loop μ-loop → tie.Start Inv-loop μ-loop
 start c = let d = c .before .before .before in d .before .before .before
@@ -49,7 +50,7 @@ met-requires c κs =
     let l = standing d in
     let h = d .before .before .if1 .taken in
     let w = l .loop .inv (start l .pre .0) .whole in
-    (λ e k. start l .pre .1 e _ (omega (arith, h, one-more w h (d .step .ensures))), label-short w h (d .step .ensures) (c .if2 .left))
+    (λ k. start l .pre .1 _ (omega (arith, h, one-more w h (d .step .ensures))), label-short w h (d .step .ensures) (c .if2 .left))
 
 returns-2 : tie.Need-returns-2 Inv-loop μ-loop
 returns-2 c =

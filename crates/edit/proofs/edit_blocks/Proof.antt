@@ -97,7 +97,7 @@ measure-requires c κs =
     let f = fits (six s) in (
       begin w (stood s w) (d .carry-before .ensures n (omega (arith, f .block))) (omega (arith, d .before .before .end-before .ensures .1))
           (omega (arith, f .block)),
-      λ e. row-fits f,
+      row-fits f,
     )
 
 same-length-3 : tie.Need-same-length-3
