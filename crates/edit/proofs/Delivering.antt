@@ -15,12 +15,15 @@ use Rattle.edit.proofs.Settling.{part-put}
 
 module _ {rules index rows text : List ℕ} {from : Standing} {n : ℕ} {draft draftRows out ledger : List ℕ}
     (w : Draft rules index rows text from n draft draftRows out ledger) where
+  -- a row can say where the text ends
   pub text-small : length out ≤ cap
   text-small = omega (arith, w .long, w .pieced .end)
 
+  -- the rows fill the part of the draft that is copied
   rows-long : rowSize * n ≡ length (encodeRows (rowsFrom 0 (w .pieced .ps)))
   rows-long = sym (length-take-le (rowSize * n) draftRows (w .room)) ∙ ap length (w .holds-rows)
 
+  -- text and rows copied
   pub delivered :
       {out′ ledger₁ : List ℕ} → length out ≤ length draft → out′ ≡ sets out 0 (take (length out) draft)
       → ledger₁ ≡ sets (take (rowSize * n) ledger) 0 (take (rowSize * n) draftRows)

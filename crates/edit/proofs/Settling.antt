@@ -146,7 +146,7 @@ module _ {rules index rows text : List ℕ} {n : ℕ} (w : Document rules index 
           pub settled-within : r .walked .at ≤ min (length out) textMost
           settled-within = omega (arith, fit .0, exact)
 
-          -- a ledger with a row for each block
+          -- they can be written, with a ledger that has a row for each block
           abbrev pieced : (l : List ℕ) → rowSize * n ≤ length l → Pieced rules index rows text from n l
           pieced l h =
               let s = p .stood in
@@ -160,6 +160,7 @@ module _ {rules index rows text : List ℕ} {n : ℕ} (w : Document rules index 
                 few = w .most;
               }
 
+          -- each piece has a row
           rows-long : rowSize * n ≡ length (encodeRows (rowsFrom 0 (measured .ps)))
           rows-long =
               let en = walked-encodable (blocksIn m (w .rs)) (keeps-short (some m) (some (w .rs))) walked (omega (arith, exact, fit .0)) in

@@ -41,14 +41,16 @@ const TEXT_MOST: usize = 4294967295;
 // Rules that a rule file has at most.
 const RULES_MOST: usize = 8192;
 
-// Bytes of a draft's text, and of its rows: enough for the rows of 512 blocks, the most that there are.
+// Bytes of a draft's text, and as many of its rows: those of 512 blocks, the most that a document has.
 const DRAFT: usize = 65536;
 
-// The same for a short document, and what counts as one: up to so many blocks, whose rows have room, and so many bytes of token texts.
+// The same for a short document.
 const SHORT_DRAFT: usize = 8192;
 
+// A short document has at most so many blocks, whose rows have room in its draft.
 const SHORT_BLOCKS: usize = 64;
 
+// And at most so many bytes of token texts, half of what its draft can hold: the text that they come to is seldom twice as long.
 const SHORT_TEXT: usize = 4096;
 
 // Convert's answer: a refusal's number and row, or the text's length and the count of blocks.
@@ -244,7 +246,7 @@ fn is_short(text: &[u8], blocks: usize) -> bool
     blocks <= SHORT_BLOCKS
 }
 
-// The blocks of a document, over a draft: a short one where the document is short, since clearing a draft takes its time.
+// The blocks of a document, over a draft: a short one for a short document, since a draft is cleared before it is used.
 fn convert_blocks<'a>(
     rows: &[u8],
     text: &'a [u8],
