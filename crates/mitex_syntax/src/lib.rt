@@ -180,13 +180,14 @@ pub fn extent(rows: &[u8], i: usize) -> usize
     8 + 8 * number(rows, i)
 }
 
-// The text bytes of the row at `i`, 0 of a node.
+// The text bytes of the row at `i`, 0 of a node. The number is read of either, which leaves a choice in place of a jump.
 pub fn token_len(rows: &[u8], i: usize) -> usize
     requires { ⌜ i + 8 ≤ length (now rows) ⌝ }
     ensures { λ r. ⌜ r ≡ tokenAt (drop i (now (rows .entry))) ⌝ }
 {
+    let n = number(rows, i);
     if rows[i + 1] == 1 {
-        return number(rows, i);
+        return n;
     }
     0
 }
