@@ -5,6 +5,7 @@ pub mod Nesting
 pub mod Runs
 pub mod Roots
 pub mod Shapes
+pub mod Scanning
 pub mod Answers
 pub mod Rules
 pub mod Shaped

@@ -1,16 +1,16 @@
 -- What the parts of the check promise, each of what it is handed.
 use mathlib.Core.Path.{_≡_}
-use mathlib.Core.Bool.{Bool, true, false, _&&_, cond}
+use mathlib.Core.Bool.{Bool, true, false, _&&_, _||_, cond}
 use mathlib.Core.Option.{Option}
 use mathlib.Core.Option.Option.{none as nothing, some}
-use Prim.Native.Nat.{ℕ, suc, _+_, _*_, _≤_, _<_}
+use Prim.Native.Nat.{ℕ, suc, _+_, _*_, _/_, _≤_, _<_}
 use mathlib.Core.List.{List, [], _∷_, _++_}
-use lib.ListN.{length, getD}
+use lib.ListN.{length, drop, getD}
 use lib.Dec.{T, eqb, leb}
 use Rattle.text.specs.Numbers.{four, fourAt}
 use Rattle.text.specs.Writing.{cap}
-use Rattle.mitex_syntax.specs.Syntax.{ScopeRoot, isNode}
-use Rattle.mitex_syntax.specs.Tree.{Forest, rowsOfs, count}
+use Rattle.mitex_syntax.specs.Syntax.{ClauseLR, ScopeRoot, ItemBegin, ItemEnd, TokenCommandSym, ItemEnv, isNode}
+use Rattle.mitex_syntax.specs.Tree.{Tree, Forest, rowsOfs, count}
 use Rattle.mitex_syntax.specs.Tree.Tree.{token, node}
 use Rattle.mitex_syntax.specs.Tree.Forest.{none, more}
 use Rattle.mitex_syntax.specs.Spells.{tokenFits, SpellsAll, SomeTree}
@@ -19,6 +19,7 @@ use Rattle.mitex_syntax.specs.declared.Place.the-variants.{Nowhere, At}
 use Rattle.mitex_parser.specs.Layout.{fileMost, blocksMost, Line, root}
 use Rattle.mitex_parser.specs.Layout.Line.{tok, nod}
 use Rattle.mitex_parser.specs.Depth.{depths, depthMost}
+use Rattle.mitex_parser.specs.Shape.{symFits, nodeFits, lowests}
 use Rattle.mitex_parser.specs.Check.{byDepth, answerOf}
 use Rattle.mitex_parser.specs.declared.Row.{Row}
 use Rattle.mitex_parser.specs.declared.Row.the-variants.{Bad, Token, Node}
@@ -27,6 +28,8 @@ use Rattle.mitex_parser.specs.declared.Nest.the-variants.{Broken, Deep, 
 use Rattle.mitex_parser.specs.declared.Blocks.{Blocks}
 use Rattle.mitex_parser.specs.declared.Blocks.the-variants.{Amiss, Are}
 use Rattle.mitex_parser.specs.declared.Checked.{Checked}
+use Rattle.mitex_parser.specs.declared.Pass.{Pass}
+use Rattle.mitex_parser.specs.declared.Pass.the-variants.{Broke, Past}
 use Rattle.mitex_parser.specs.declared.Shape.{Shape}
 use Rattle.mitex_parser.specs.declared.Shape.the-variants.{Right, Breaks}
 
@@ -83,6 +86,34 @@ abbrev pub shapeOf : Option ℕ → Shape
 shapeOf nothing = Right
 shapeOf (some row) = Breaks row
 
+-- ---- the scan for shape
+
+-- the kind exempts the names right under it
+abbrev pub isFrame : ℕ → Bool
+isFrame k = eqb k ItemBegin || eqb k ItemEnd
+
+-- a rule is on elements of this kind
+abbrev pub isRuled : ℕ → Bool
+isRuled k = eqb k ClauseLR || (leb TokenCommandSym k && leb k ItemEnv)
+
+-- an element's own row breaks no rule, where what is above exempts nothing
+abbrev pub firstFits : Tree → Bool
+firstFits (token k s) = symFits 0 k s
+firstFits (node k f) = nodeFits k f
+
+-- rows and text are those of elements whose lowest row that breaks a rule, from `next` on, is that of f from `row` on
+pub record Reaches (f : Forest) (row next : ℕ) (rows text : List ℕ) : Type 0 where
+  pub forest : Forest
+  pub spells : SpellsAll forest rows text
+  pub same : lowests 0 row f ≡ lowests 0 next forest
+
+-- what stands first breaks a rule, or e bytes of rows and n of text on what is left decides
+abbrev pub Passes : List ℕ → List ℕ → ℕ → Pass → Type 0
+Passes rows text row (Broke r) = (f : Forest) → SpellsAll f rows text → lowests 0 row f ≡ some r
+Passes rows text row (Past e n) =
+    (8 ≤ e) × (e ≤ length rows) × (n ≤ length text)
+    × ((f : Forest) → SpellsAll f rows text → Reaches f row (row + e / 8) (drop e rows) (drop n text))
+
 -- the answer for the trees that the rows of a file grow to
 abbrev pub answerTo : Option Forest → Checked
 answerTo o = answerOf (byDepth (root o))
@@ -114,6 +145,14 @@ pub record SomeTrees (rows text : List ℕ) : Type 0 where
 pub record Areas (rows text : List ℕ) : Type 0 where
   pub many : ℕ
   pub so-many : length rows ≡ 8 * many
+  pub few : length rows ≤ fileMost
+  pub short : length text ≤ fileMost
+
+-- elements side by side are spelt, one or more, in bytes within the limits
+pub record Scannable (rows text : List ℕ) : Type 0 where
+  pub forest : Forest
+  pub spells : SpellsAll forest rows text
+  pub some : 8 ≤ length rows
   pub few : length rows ≤ fileMost
   pub short : length text ≤ fileMost
 

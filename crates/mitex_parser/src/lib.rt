@@ -6,15 +6,16 @@ ghost use Prim.Native.Nat.{ℕ, _*_, _≤_, _<_};
 ghost use lib.ListN.{length};
 ghost use Rattle.text.specs.Writing.{cap};
 ghost use Rattle.mitex_syntax.specs.Tree.{Tree, Forest, rowsOfs, count};
+ghost use Rattle.mitex_syntax.specs.Tree.Forest.{more};
 ghost use Rattle.mitex_syntax.specs.Syntax.{ItemCurly, ItemBracket};
 ghost use Rattle.mitex_syntax.specs.Views.{textIn, argumentWith, goodEnds};
 ghost use Rattle.mitex_syntax.specs.Spells.{tokenFits, Spells, SpellsAll, Begins, SomeForest};
-ghost use Rattle.mitex_parser.specs.Layout.{Line, tokenRow, nodeRow, rowAt, taken as takenOf, lines, split, grow, grows};
+ghost use Rattle.mitex_parser.specs.Layout.{fileMost, Line, tokenRow, nodeRow, rowAt, taken as takenOf, lines, split, grow, grows};
 ghost use Rattle.mitex_parser.specs.Depth.{depths, depthMost};
 ghost use Rattle.mitex_parser.specs.Shape.{isSome, slashed, symFits, lrFits, labelFits, endsIn, imageFits, colorFits, argumentsFit, cmdFits, envFits, nodeFits, unless, lowest};
 ghost use Rattle.mitex_parser.specs.Check.{checkTree, answerOf};
 ghost use Rattle.mitex_parser.specs.declared.Nest.the-variants.{Deep};
-ghost use Rattle.mitex_parser.specs.Parts.{bytesOf, Fits, isBad, underOf, Nested, blocksIn, isThere, shapeOf, answerTo, SomeLines, SomeRows, SomeTrees, Areas, Checkable};
+ghost use Rattle.mitex_parser.specs.Parts.{bytesOf, Fits, isBad, underOf, Nested, blocksIn, isThere, shapeOf, isFrame, isRuled, firstFits, Passes, answerTo, SomeLines, SomeRows, SomeTrees, Areas, Scannable, Checkable};
 use mitex_syntax::CLAUSE_ARGUMENT;
 use mitex_syntax::CLAUSE_LR;
 use mitex_syntax::ITEM_BEGIN;
@@ -35,6 +36,7 @@ use mitex_syntax::is_token;
 use mitex_syntax::name_tok;
 use mitex_syntax::span_at;
 use mitex_syntax::text_at;
+use mitex_syntax::token_len;
 use text::read_u32;
 use text::same;
 use utf8::valid;
@@ -85,6 +87,12 @@ pub enum Blocks {
 pub enum Shape {
     Right,
     Breaks(usize),
+}
+
+// What stands first, passed: the lowest row of it that breaks a rule, or how many bytes of rows and text come before the next.
+pub enum Pass {
+    Broke(usize),
+    Past { rows: usize, text: usize },
 }
 
 // The answer: where the rows start, how many they are, and how many the blocks are; or a refusal and its row.
@@ -530,6 +538,97 @@ fn check_shape(rows: &[u8], text: &[u8], up: u8, row: usize) -> Shape
     Shape::Right
 }
 
+// Whether the kind exempts the names right under it.
+fn is_frame(k: u8) -> bool
+    ensures { λ r. ⌜ r ≡ isFrame k ⌝ }
+{
+    if k == ITEM_BEGIN {
+        return true;
+    }
+    k == ITEM_END
+}
+
+// Whether a rule is on elements of this kind.
+fn is_ruled(k: u8) -> bool
+    ensures { λ r. ⌜ r ≡ isRuled k ⌝ }
+{
+    if k == CLAUSE_LR {
+        return true;
+    }
+    if k < TOKEN_COMMAND_SYM {
+        return false;
+    }
+    k <= ITEM_ENV
+}
+
+// Whether the row that stands first, not right under an ItemBegin or ItemEnd, breaks no rule.
+fn first_fits(rows: &[u8], text: &[u8]) -> bool
+    requires { ⌜ Scannable (now rows) (now text) ⌝ }
+    ensures { λ r. ⌜ ((t : Tree) (f : Forest) → SpellsAll (more t f) (now (rows .entry)) (now (text .entry)) → r ≡ firstFits t) ⌝ }
+{
+    let k = rows[0];
+    if !is_ruled(k) {
+        return true;
+    }
+    if k == TOKEN_COMMAND_SYM {
+        return begins_slashed(text);
+    }
+    let end = extent(rows, 0);
+    node_fits(k, &rows[8..end], text)
+}
+
+// The element that stands first, passed as a whole.
+fn pass_whole(rows: &[u8], text: &[u8], row: usize) -> Pass
+    requires { ⌜ Scannable (now rows) (now text) × (row ≤ fileMost) ⌝ }
+    ensures { λ r. ⌜ Passes (now (rows .entry)) (now (text .entry)) row r ⌝ }
+{
+    let s = span_at(rows, 0);
+    let e = s.rows;
+    let n = s.text;
+    match check_shape(&rows[..e], &text[..n], 0, row) {
+        Shape::Breaks(r) => Pass::Broke(r),
+        Shape::Right => Pass::Past { rows: e, text: n },
+    }
+}
+
+// The row that stands first, passed: what is under a node comes next. An ItemBegin or ItemEnd is passed as a whole.
+fn pass_row(rows: &[u8], text: &[u8], row: usize) -> Pass
+    requires { ⌜ Scannable (now rows) (now text) × (row ≤ fileMost) ⌝ }
+    ensures { λ r. ⌜ Passes (now (rows .entry)) (now (text .entry)) row r ⌝ }
+{
+    if is_frame(rows[0]) {
+        return pass_whole(rows, text, row);
+    }
+    if !first_fits(rows, text) {
+        return Pass::Broke(row);
+    }
+    Pass::Past {
+        rows: 8,
+        text: token_len(rows, 0),
+    }
+}
+
+// The lowest row of a tree that breaks a shape rule: row by row, whatever is above.
+fn scan_shape(rows: &[u8], text: &[u8]) -> Shape
+    requires { ⌜ Checkable (now rows) (now text) 0 ⌝ }
+    ensures { λ r. ⌜ ((t : Tree) → Spells t (now (rows .entry)) (now (text .entry)) → r ≡ shapeOf (lowest 0 0 t)) ⌝ }
+{
+    let mut l = rows;
+    let mut t = text;
+    let mut at: usize = 0;
+    while 8 <= l.len() {
+        match pass_row(l, t, at) {
+            Pass::Broke(r) => return Shape::Breaks(r),
+            Pass::Past { rows: e, text: n } => {
+                l = &l[e..];
+                t = &t[n..];
+                at += e / 8;
+            }
+        }
+    }
+    Shape::Right
+}
+
 // ---- the check
 
 // The answer for rows that lie deeper than allowed, or do not nest.
@@ -565,7 +664,7 @@ fn check_root(rows: &[u8], text: &[u8]) -> Checked
             number: BAD_LAYOUT,
             row: 0,
         },
-        Blocks::Are(blocks) => match check_shape(rows, text, 0, 0) {
+        Blocks::Are(blocks) => match scan_shape(rows, text) {
             Shape::Breaks(row) => Checked::Refused {
                 number: BAD_SHAPE,
                 row,

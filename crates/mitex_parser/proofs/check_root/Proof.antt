@@ -23,8 +23,8 @@ enum-told c = search needs
 enum-known-blocks : tie.Need-enum-known-blocks
 enum-known-blocks c = search needs
 
-check-shape-requires : tie.Need-check-shape-requires
-check-shape-requires c κs =
+scan-shape-requires : tie.Need-scan-shape-requires
+scan-shape-requires c κs =
     let here = c .before in
     let p = entry here .pre in
     let a = rooted here (p .forest) (p .spells) in
@@ -49,14 +49,14 @@ returns-2 c =
     let called = c .before .before .before in
     λ f sp d.
     let a = rooted (called .before .before) f sp in
-    answer-breaks a d (called .check-shape .result) (called .check-shape .ensures (a .tree) (root-spells a sp)) (c .before .row .given .0 .0) (c .before .row .given .1)
+    answer-breaks a d (called .scan-shape .result) (called .scan-shape .ensures (a .tree) (root-spells a sp)) (c .before .row .given .0 .0) (c .before .row .given .1)
 
 returns-3 : tie.Need-returns-3
 returns-3 c =
     let called = c .before .before in
     λ f sp d.
     let a = rooted (called .before .before) f sp in
-    answer-whole a d (called .check-shape .result) (called .check-shape .ensures (a .tree) (root-spells a sp)) sp (c .enum-told2 .given .1)
+    answer-whole a d (called .scan-shape .result) (called .scan-shape .ensures (a .tree) (root-spells a sp)) sp (c .enum-told2 .given .1)
 
 pub check-root-spec : {M : Type 1} → statement M
 check-root-spec =
@@ -65,7 +65,7 @@ check-root-spec =
     root-blocks-requires
     enum-told
     enum-known-blocks
-    check-shape-requires
+    scan-shape-requires
     enum-known-row
     enum-told-2
     returns
