@@ -226,6 +226,11 @@ unfolding depth
 depth-child (tok k s) g left h p = h
 depth-child (nod k n) g left h p = omega arith
 
+-- a row that has none under it
+pub none-under : (ns : List Line) (n left : ℕ) → n ≤ 0 → Nested (grow (take n ns)) left Fine
+unfolding grow depth
+none-under ns n left h = let z : 0 ≡ n = omega arith in subst (λ m. Nested (grow (take m ns)) left Fine) z (none, (refl, omega arith))
+
 pub at-next : {ls : List Line} {left : ℕ} {rest : List ℕ} {n : ℕ} → (a : At ls left rest n) → 8 + 8 * n ≤ length rest → 1 ≤ left → Nested (grow (take n (a .ns))) (left - 1) Fine
     → Turn ls left (take (length rest - (8 + 8 * n)) (drop (8 + 8 * n) rest))
 unfolding depth

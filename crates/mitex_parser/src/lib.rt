@@ -230,10 +230,12 @@ fn check_rows(rows: &[u8], left: usize) -> Nest
         if rest.len() < end {
             return Nest::Broken;
         }
-        match check_rows(&rest[8..end], left - 1) {
-            Nest::Broken => return Nest::Broken,
-            Nest::Deep => return Nest::Deep,
-            Nest::Fine => {}
+        if 0 < n {
+            match check_rows(&rest[8..end], left - 1) {
+                Nest::Broken => return Nest::Broken,
+                Nest::Deep => return Nest::Deep,
+                Nest::Fine => {}
+            }
         }
         rest = &rest[end..];
     }

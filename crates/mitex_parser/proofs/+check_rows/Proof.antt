@@ -3,13 +3,14 @@
 use native.Mathlib.Omega.{arith}
 use borrow.Author.Needs.{needs}
 use mathlib.Core.Path.{_≡_}
+use mathlib.Core.Logic.{⊎-elim}
 use mathlib.Core.List.{List}
 use lib.ListN.{length, take, drop}
 use Rattle.mitex_parser.specs.Layout.{Line, grow}
 use Rattle.mitex_parser.specs.Parts.{bytesOf, Fits, Nested}
 use Rattle.mitex_parser.specs.declared.Nest.{Nest}
 use Rattle.mitex_parser.specs.declared.Nest.the-variants.{Broken, Deep, Fine}
-use Rattle.mitex_parser.proofs.Nesting.{Turn, At, turn-start, turn-deep, turn-end, at-row, at-short, at-broken, at-deep, at-next, at-answer, past-length, child-length}
+use Rattle.mitex_parser.proofs.Nesting.{Turn, At, turn-start, turn-deep, turn-end, at-row, at-short, at-broken, at-deep, at-next, at-answer, none-under, past-length, child-length}
 use Prim.Native.Nat.{ℕ, _+_, _*_, _-_, _≤_, _<_}
 use borrow.Fn.Kinds.{In}
 use borrow.Fn.PlainCycle.{Measures, is, falls, and}
@@ -45,8 +46,11 @@ AtRow t = check-rows-lts.After-under (check-rows-calls t) (check-rows-at t) chec
 abbrev AtChild : ℕ → Type 0
 AtChild t = check-rows-lts.After-check-rows (check-rows-calls t) (check-rows-at t) check-rows.Post check-rows-Inv-loop check-rows-μ-loop
 
+abbrev AtJoin : ℕ → Type 0
+AtJoin t = check-rows-lts.Joined3 (check-rows-calls t) (check-rows-at t) check-rows.Post check-rows-Inv-loop check-rows-μ-loop
+
 abbrev rowOf : (t : ℕ) → AtChild t → AtRow t
-rowOf t c = c .before .before .before
+rowOf t c = c .before .before .before .before
 
 abbrev rowsAt : (t : ℕ) (c : AtRow t) → List ℕ
 rowsAt t c = c .before .before .before .before .before .args .rows .now
@@ -64,7 +68,14 @@ here t c ls e h = at-row (c .before .before .before .loop .inv .1 ls e h) (c .be
 -- what is known of the rows under it
 child : (t : ℕ) (c : AtChild t) (x : Nest) → c .check-rows .result ≡ x → (ls : List Line) (e : rowsAt t (rowOf t c) ≡ bytesOf ls) (h : Fits ls)
     → Nested (grow (take (rowOf t c .under .result) (here t (rowOf t c) ls e h .ns))) (leftAt t (rowOf t c) - 1) x
-child t c x told ls e h = at-answer (here t (rowOf t c) ls e h) (c .before .before .if2 .left) (c .check-rows .result) x (c .check-rows .ensures) told
+child t c x told ls e h = at-answer (here t (rowOf t c) ls e h) (c .before .before .before .if2 .left) (c .check-rows .result) x (c .check-rows .ensures) told
+
+-- whether there are any or not, they are fine
+fine : (t : ℕ) (c : AtJoin t) (ls : List Line) (e : rowsAt t (c .before .before) ≡ bytesOf ls) (h : Fits ls)
+    → Nested (grow (take (c .before .before .under .result) (here t (c .before .before) ls e h .ns))) (leftAt t (c .before .before) - 1) Fine
+fine t c ls e h =
+    let row = here t (c .before .before) ls e h in
+    ⊎-elim (λ w. at-answer row (c .before .if2 .left) (w .2 .result) Fine (w .2 .ensures) (w .4 .given .1)) (λ w. none-under (row .ns) _ _ (w .left)) (c .if3 .came)
 
 -- what is left after it is shorter
 shorter : (t : ℕ) (c : AtRow t) → 8 + 8 * c .under .result ≤ length (restAt t c)
@@ -103,9 +114,9 @@ check-rows-sub-check-rows-2 t c = omega arith
 
 check-rows-check-rows-requires : (t : ℕ) → check-rows-lts.Need-check-rows-requires (check-rows-calls t) (check-rows-at t) check-rows.Post check-rows-Inv-loop check-rows-μ-loop
 check-rows-check-rows-requires t c κs =
-    let row = c .before .before in
+    let row = c .before .before .before in
     let turn = row .before .before .before in
-    (omega (arith, child-length (turn .loop .rest .now) (row .under .result) (c .before .if2 .left), turn .before .before .pre .0, turn .loop .inv .0), tt)
+    (omega (arith, child-length (turn .loop .rest .now) (row .under .result) (c .before .before .if2 .left), turn .before .before .pre .0, turn .loop .inv .0), tt)
 
 check-rows-enum-told : (t : ℕ) → check-rows-lts.Need-enum-told (check-rows-calls t) (check-rows-at t) check-rows.Post check-rows-Inv-loop check-rows-μ-loop
 check-rows-enum-told t c = search needs
@@ -113,7 +124,7 @@ check-rows-enum-told t c = search needs
 check-rows-returns-3 : (t : ℕ) → check-rows-lts.Need-returns-3 (check-rows-calls t) (check-rows-at t) check-rows.Post check-rows-Inv-loop check-rows-μ-loop
 check-rows-returns-3 t c =
     let called = c .before .before in
-    λ ls e h. at-broken (here t (rowOf t called) ls e h) (called .before .before .if2 .left) (child t called Broken (c .enum-told .given .1) ls e h)
+    λ ls e h. at-broken (here t (rowOf t called) ls e h) (called .before .before .before .if2 .left) (child t called Broken (c .enum-told .given .1) ls e h)
 
 check-rows-enum-told-2 : (t : ℕ) → check-rows-lts.Need-enum-told-2 (check-rows-calls t) (check-rows-at t) check-rows.Post check-rows-Inv-loop check-rows-μ-loop
 check-rows-enum-told-2 t c = search needs
@@ -121,7 +132,7 @@ check-rows-enum-told-2 t c = search needs
 check-rows-returns-4 : (t : ℕ) → check-rows-lts.Need-returns-4 (check-rows-calls t) (check-rows-at t) check-rows.Post check-rows-Inv-loop check-rows-μ-loop
 check-rows-returns-4 t c =
     let called = c .before .before in
-    λ ls e h. at-deep (here t (rowOf t called) ls e h) (called .before .before .if2 .left) (omega arith) (child t called Deep (c .enum-told2 .given .1) ls e h)
+    λ ls e h. at-deep (here t (rowOf t called) ls e h) (called .before .before .before .if2 .left) (omega arith) (child t called Deep (c .enum-told2 .given .1) ls e h)
 
 check-rows-enum-told-3 : (t : ℕ) → check-rows-lts.Need-enum-told-3 (check-rows-calls t) (check-rows-at t) check-rows.Post check-rows-Inv-loop check-rows-μ-loop
 check-rows-enum-told-3 t c = search needs
@@ -136,15 +147,15 @@ check-rows-part-rest-end : (t : ℕ) → check-rows-lts.Need-part-rest-end (chec
 check-rows-part-rest-end t c = omega arith
 
 check-rows-loop-less : (t : ℕ) → check-rows-lts.Need-loop-less (check-rows-calls t) (check-rows-at t) check-rows.Post check-rows-Inv-loop check-rows-μ-loop
-check-rows-loop-less t c = let called = c .before .before .before in shorter t (rowOf t called) (called .before .before .if2 .left)
+check-rows-loop-less t c = let joined = c .before in shorter t (joined .before .before) (joined .before .if2 .left)
 
 check-rows-loop-again : (t : ℕ) → check-rows-lts.Need-loop-again (check-rows-calls t) (check-rows-at t) check-rows.Post check-rows-Inv-loop check-rows-μ-loop
 check-rows-loop-again t c =
-    let called = c .before .before .before in
-    let row = rowOf t called in
-    let long = called .before .before .if2 .left in
+    let joined = c .before in
+    let row = joined .before .before in
+    let long = joined .before .if2 .left in
     let less = shorter t row long in
-    (omega arith, λ ls e h. at-next (here t row ls e h) long (omega arith) (child t called Fine (c .before .enum-told3 .given .1) ls e h))
+    (omega arith, λ ls e h. at-next (here t row ls e h) long (omega arith) (fine t joined ls e h))
 
 check-rows-returns-5 : (t : ℕ) → check-rows-lts.Need-returns-5 (check-rows-calls t) (check-rows-at t) check-rows.Post check-rows-Inv-loop check-rows-μ-loop
 check-rows-returns-5 t c = λ ls e h. turn-end (c .before .loop .inv .1 ls e h) (c .loop-test .left)
