@@ -1,16 +1,19 @@
 -- Valid text by its characters: it is made of the RFC's characters, which are those of `chars`. So it stays valid where it
 -- is put together, cut before a byte that continues none, and cut at one-byte ends.
 use mathlib.Core.Path.{_≡_, refl, sym, ap, subst, _∙_}
-use mathlib.Core.Bool.{true, false, and-false}
+use mathlib.Core.Bool.{Bool, true, false, _&&_, and-false, cond}
 use mathlib.Core.List.{List, [], _∷_, _++_}
-use Prim.Native.Nat.{ℕ, suc, _+_, _-_, _≤_, _<_}
+use Prim.Native.Nat.{ℕ, zero, suc, _+_, _-_, _≤_, _<_}
 use native.Mathlib.Omega.{arith}
-use lib.Dec.{eqb}
-use borrow.Author.Tests.{le-leb, lt-leb}
-use lib.ListN.{length, take, drop, getD, take-append-drop}
+use native.Mathlib.Decide.{decLe, decLt}
+use mathlib.Core.Logic.{dite}
+use native.Mathlib.Numerals.{add-one}
+use lib.Dec.{eqb, leb, ltb}
+use borrow.Author.Tests.{le-leb, lt-leb, lt-ltb, le-ltb, leb-true}
+use lib.ListN.{length, take, drop, getD, take-append-drop, drop-of-length-le}
 use lib.Seq.{drop-cons}
 use Rattle.utf8.specs.declared.State.{State}
-use Rattle.utf8.specs.Utf8.{Between, Tail, Char, Text, lengthBy, whole, run, valid}
+use Rattle.utf8.specs.Utf8.{Between, Tail, Char, Text, lengthBy, whole, run, oneByteEach, valid}
 use Rattle.utf8.specs.Utf8.Char.{one, two, three-e0, three-e1, three-ed, three-ee, four-f0, four-f1, four-f4}
 use Rattle.utf8.specs.Utf8.Text.{end, then}
 use Rattle.utf8.specs.Chars.{continues, goesOn, chars, concat, first, charLen, AllChar}
@@ -155,3 +158,51 @@ valid-inside (x ∷ s) n l a z e =
     let g : goesOn (drop n s) ≡ false = rw (drop-cons s n 0) (low-starts last) in
     let v : valid (take n s ++ drop n s) ≡ true = rw take-append-drop (sym (valid-one x s a) ∙ e) in
     valid-split (take n s) (drop n s) g v .0
+
+-- ---- characters of one byte
+
+both : (a b : Bool) → (a && b) ≡ true → (a ≡ true) × (b ≡ true)
+both true b e = (refl, e)
+both false b e = absurd (let z : _≡_ {A = ℕ} 0 1 = cc in omega arith)
+
+pub one-valid : (s : List ℕ) → oneByteEach s ≡ true → valid s ≡ true
+unfolding oneByteEach
+one-valid [] e = valid-text [] .1 end
+one-valid (b ∷ s) e = let w = both (leb b 0x7F) (oneByteEach s) e in valid-one b s (leb-true b 0x7F (w .0)) ∙ one-valid s (w .1)
+
+pub one-take : (n : ℕ) (s : List ℕ) → oneByteEach s ≡ true → oneByteEach (take n s) ≡ true
+unfolding oneByteEach
+one-take zero s e = refl
+one-take (suc n) [] e = refl
+one-take (suc n) (b ∷ s) e = let w = both (leb b 0x7F) (oneByteEach s) e in rw (w .0) (one-take n s (w .1))
+
+pub one-drop : (n : ℕ) (s : List ℕ) → oneByteEach s ≡ true → oneByteEach (drop n s) ≡ true
+unfolding oneByteEach
+one-drop zero s e = e
+one-drop (suc n) [] e = refl
+one-drop (suc n) (b ∷ s) e = one-drop n s (both (leb b 0x7F) (oneByteEach s) e .1)
+
+-- what is left, of one byte more and at the end
+pub one-cons : (s : List ℕ) (i : ℕ) → i < length s → oneByteEach (drop i s) ≡ (leb (getD s i 0) 0x7F && oneByteEach (drop (i + 1) s))
+unfolding oneByteEach
+one-cons s i h = rw (drop-cons s i 0, add-one)
+
+pub one-end : (s : List ℕ) (i : ℕ) → length s ≤ i → oneByteEach (drop i s) ≡ true
+unfolding oneByteEach
+one-end s i h = rw (drop-of-length-le s h)
+
+-- the greater of two bytes is one where both are
+greater-one : (a b : ℕ) → leb (cond (ltb a b) b a) 0x7F ≡ (leb a 0x7F && leb b 0x7F)
+greater-one a b = dite (decLt a b)
+    (λ h. rw (lt-ltb a b h) (dite (decLe b 0x7F) (λ l. rw (le-leb b 0x7F l, le-leb a 0x7F (omega arith))) (λ l. rw (lt-leb b 0x7F (omega arith), and-false))))
+    (λ h. rw (le-ltb a b (omega arith)) (dite (decLe a 0x7F) (λ l. rw (le-leb a 0x7F l, le-leb b 0x7F (omega arith))) (λ l. rw (lt-leb a 0x7F (omega arith)))))
+
+pub one-next : (s : List ℕ) (i m n : ℕ) → i < length s → n ≡ cond (ltb m (getD s i 0)) (getD s i 0) m
+    → (leb m 0x7F && oneByteEach (drop i s)) ≡ (leb n 0x7F && oneByteEach (drop (i + 1) s))
+one-next s i m n h e =
+    ap (λ b. leb m 0x7F && b) (one-cons s i h) ∙ sym (and-assoc (leb m 0x7F) (leb (getD s i 0) 0x7F) (oneByteEach (drop (i + 1) s)))
+    ∙ ap (λ b. b && oneByteEach (drop (i + 1) s)) (sym (ap (λ k. leb k 0x7F) e ∙ greater-one m (getD s i 0)))
+  where
+    and-assoc : (a b c : Bool) → ((a && b) && c) ≡ (a && (b && c))
+    and-assoc true b c = refl
+    and-assoc false b c = refl

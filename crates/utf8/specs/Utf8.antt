@@ -1,6 +1,6 @@
 -- UTF-8 by RFC 3629: what a character is (section 4 of the RFC, "Syntax of UTF-8 Byte Sequences"), what valid text is, and
 -- a test that goes byte by byte. `valid-text` (proofs/Grammar.antt) says that the test accepts just the valid texts.
-use mathlib.Core.Bool.{Bool, _&&_, cond}
+use mathlib.Core.Bool.{Bool, true, _&&_, cond}
 use Prim.Native.Nat.{ℕ, _-_, _≤_}
 use mathlib.Core.List.{List, [], _∷_, _++_}
 use lib.Dec.{eqb, leb}
@@ -78,3 +78,8 @@ run u (b ∷ s) = run (step u b) s
 -- the bytes are whole characters
 unfoldable pub valid : List ℕ → Bool
 valid s = eqb (run whole s .more) 0
+
+-- each character has one byte
+unfoldable pub oneByteEach : List ℕ → Bool
+oneByteEach [] = true
+oneByteEach (b ∷ s) = leb b 0x7F && oneByteEach s

@@ -5,9 +5,9 @@ ghost use mathlib.Core.Path.{_≡_};
 ghost use mathlib.Core.Bool.{cond};
 ghost use mathlib.Core.List.{[], _∷_};
 ghost use Prim.Native.Nat.{_<_};
-ghost use lib.Dec.{eqb};
+ghost use lib.Dec.{eqb, ltb};
 ghost use lib.ListN.{length};
-ghost use Rattle.utf8.specs.Utf8.{lengthBy, secondLow, secondHigh, plain, dead, begun, step, valid};
+ghost use Rattle.utf8.specs.Utf8.{lengthBy, secondLow, secondHigh, plain, dead, begun, step, oneByteEach, valid};
 ghost use Rattle.utf8.specs.Chars.{continues, charLen, LastAt, isWhite};
 ghost use Rattle.utf8.specs.Trim.{trimStart, trimEnd, trim};
 
@@ -123,10 +123,36 @@ fn step(u: State, b: u8) -> State
     plain(u.more - 1)
 }
 
+// The greater of two bytes.
+fn greater(a: u8, b: u8) -> u8
+    ensures { λ r. ⌜ r ≡ cond (ltb a b) b a ⌝ }
+{
+    if a < b {
+        return b;
+    }
+    a
+}
+
+// Whether each character has one byte. No way leads out of the loop, so that the compiler may compare many bytes at once.
+pub fn one_byte_each(s: &[u8]) -> bool
+    ensures { λ r. ⌜ r ≡ oneByteEach (now (s .entry)) ⌝ }
+{
+    let mut most: u8 = 0;
+    let mut i = 0;
+    while i < s.len() {
+        most = greater(most, s[i]);
+        i += 1;
+    }
+    most <= 0x7F
+}
+
 // Whether the bytes are valid text: whole characters, none overlong, no surrogate, none above 10FFFF.
 pub fn valid(s: &[u8]) -> bool
     ensures { λ r. ⌜ r ≡ valid (now (s .entry)) ⌝ }
 {
+    if one_byte_each(s) {
+        return true;
+    }
     let mut u = plain(0);
     let mut i = 0;
     while i < s.len() {

@@ -1,4 +1,4 @@
--- The invariant: the run over what is left, from the present state, ends as the run over the whole.
+-- One-byte characters are valid text. Otherwise, the invariant: the run over what is left, from the present state, ends as the run over the whole.
 use mathlib.Core.Path.{_≡_, ap, sym, _∙_}
 use Prim.Native.Nat.{_≤_, _-_}
 use native.Mathlib.Omega.{arith}
@@ -8,6 +8,7 @@ use lib.Dec.{eqb}
 use Rattle.utf8.specs.Utf8.{whole, run, valid}
 use Rattle.utf8.specs.declared.State.{State}
 use Rattle.utf8.proofs.Run.{run-cons, run-end}
+use Rattle.utf8.proofs.Texts.{one-valid}
 use Rattle.utf8.proofs.valid.Statement.{statement}
 use Rattle.utf8.proofs.valid.Tie as tie
 
@@ -16,6 +17,12 @@ Inv-loop s u₀ i₀ u i = (i ≤ length s) × (run u (drop i s) ≡ run whole s
 
 abbrev μ-loop : tie.MeasureT-loop
 μ-loop s u₀ i₀ u i = length s - i
+
+one-byte-each-requires : tie.Need-one-byte-each-requires Inv-loop μ-loop
+one-byte-each-requires c κs = search needs
+
+returns : tie.Need-returns Inv-loop μ-loop
+returns c = sym (one-valid _ (sym (c .before .one-byte-each .ensures) ∙ c .if1 .taken))
 
 plain-requires : tie.Need-plain-requires Inv-loop μ-loop
 plain-requires c κs = search needs
@@ -39,13 +46,13 @@ loop-again : tie.Need-loop-again Inv-loop μ-loop
 loop-again c =
     let turn = c .before .before in
     let at = turn .before .loop in
-    (omega arith, rw (c .step .ensures, ← run-cons (at .u) (turn .before .before .before .before .args .s .now) (at .i) (turn .loop-test .taken)) (at .inv .1))
+    (omega arith, rw (c .step .ensures, ← run-cons (at .u) (turn .before .before .before .before .before .before .args .s .now) (at .i) (turn .loop-test .taken)) (at .inv .1))
 
-returns : tie.Need-returns Inv-loop μ-loop
+returns-2 : tie.Need-returns-2 Inv-loop μ-loop
 unfolding valid
-returns c =
+returns-2 c =
     let at = c .before .before in
-    ap (λ (u : State). eqb (u .more) 0) (sym (run-end (at .loop .u) (at .before .before .before .args .s .now) (at .loop .i) (c .before .loop-test .left)) ∙ at .loop .inv .1)
+    ap (λ (u : State). eqb (u .more) 0) (sym (run-end (at .loop .u) (at .before .before .before .before .before .args .s .now) (at .loop .i) (c .before .loop-test .left)) ∙ at .loop .inv .1)
 
 pub valid-spec : {M : Type 1} → statement M
 valid-spec =
@@ -53,6 +60,8 @@ valid-spec =
     (tie.spec
     Inv-loop
     μ-loop
+    one-byte-each-requires
+    returns
     plain-requires
     loop-holds
     shared-slice-read-step
@@ -60,4 +69,4 @@ valid-spec =
     add-i
     loop-less
     loop-again
-    returns)
+    returns-2)

@@ -1,0 +1,54 @@
+-- The greatest byte so far and what is left decide.
+use mathlib.Core.Path.{_≡_, refl, sym, ap, _∙_}
+use mathlib.Core.Bool.{_&&_, and-true}
+use Prim.Native.Nat.{_≤_, _-_}
+use native.Mathlib.Omega.{arith}
+use borrow.Author.Needs.{needs}
+use lib.Dec.{leb}
+use lib.ListN.{length, drop}
+use Rattle.utf8.specs.Utf8.{oneByteEach}
+use Rattle.utf8.proofs.Texts.{one-next, one-end}
+use Rattle.utf8.proofs.one_byte_each.Statement.{statement}
+use Rattle.utf8.proofs.one_byte_each.Tie as tie
+
+abbrev Inv-loop : tie.InvT-loop
+Inv-loop s most₀ i₀ most i = (i ≤ length s) × (oneByteEach s ≡ (leb most 0x7F && oneByteEach (drop i s)))
+
+abbrev μ-loop : tie.MeasureT-loop
+μ-loop s most₀ i₀ most i = length s - i
+
+loop-holds : tie.Need-loop-holds Inv-loop μ-loop
+loop-holds c = (omega arith, refl)
+
+shared-slice-read-greater : tie.Need-shared-slice-read-greater Inv-loop μ-loop
+shared-slice-read-greater c = search needs
+
+greater-requires : tie.Need-greater-requires Inv-loop μ-loop
+greater-requires c κs = search needs
+
+add-i : tie.Need-add-i Inv-loop μ-loop
+add-i c = search needs
+
+loop-less : tie.Need-loop-less Inv-loop μ-loop
+loop-less c = search needs
+
+loop-again : tie.Need-loop-again Inv-loop μ-loop
+loop-again c = (omega arith, c .before .before .before .loop .inv .1 ∙ one-next (c .before .before .before .before .before .args .s .now) (c .before .before .before .loop .i) (c .before .before .before .loop .most) (c .greater .result) (c .before .before .loop-test .taken) (c .greater .ensures))
+
+returns : tie.Need-returns Inv-loop μ-loop
+returns c =
+    sym (c .before .loop .inv .1 ∙ ap (λ b. leb (c .before .loop .most) 0x7F && b) (one-end (c .before .before .before .args .s .now) (c .before .loop .i) (c .loop-test .left)) ∙ and-true _)
+
+pub one-byte-each-spec : {M : Type 1} → statement M
+one-byte-each-spec =
+    tie.close
+    (tie.spec
+    Inv-loop
+    μ-loop
+    loop-holds
+    shared-slice-read-greater
+    greater-requires
+    add-i
+    loop-less
+    loop-again
+    returns)
