@@ -1,10 +1,12 @@
 // The check of a tree file: its layout, its depth, and the tree-shape rules.
 ghost use mathlib.Core.Path.{_≡_};
+ghost use mathlib.Core.Bool.{true};
 ghost use mathlib.Core.Option.Option.{some};
 ghost use mathlib.Core.List.{List};
 ghost use Prim.Native.Nat.{ℕ, _*_, _≤_, _<_};
 ghost use lib.ListN.{length};
 ghost use Rattle.text.specs.Writing.{cap};
+ghost use Rattle.utf8.specs.Utf8.{oneByteEach};
 ghost use Rattle.mitex_syntax.specs.Tree.{Tree, Forest, rowsOfs, count};
 ghost use Rattle.mitex_syntax.specs.Tree.Forest.{more};
 ghost use Rattle.mitex_syntax.specs.Syntax.{ItemCurly, ItemBracket};
@@ -39,6 +41,7 @@ use mitex_syntax::text_at;
 use mitex_syntax::token_len;
 use text::read_u32;
 use text::same;
+use utf8::one_byte_each;
 use utf8::valid;
 
 // The refusals of a tree file, in checking order.
@@ -110,12 +113,18 @@ pub enum Checked {
 
 // ---- the layout
 
+// Of the layout, `plain` says that the characters of the text have one byte each: then no part of it is looked at again.
+
 // Whether this is a token's kind and text.
-fn token_fits(k: u8, s: &[u8]) -> bool
+fn token_fits(k: u8, s: &[u8], plain: bool) -> bool
+    requires { ⌜ (plain ≡ true → oneByteEach (now s) ≡ true) ⌝ }
     ensures { λ r. ⌜ r ≡ tokenFits k (now (s .entry)) ⌝ }
 {
     if is_token(k) {
         if 1 <= s.len() {
+            if plain {
+                return true;
+            }
             return valid(s);
         }
     }
@@ -123,13 +132,13 @@ fn token_fits(k: u8, s: &[u8]) -> bool
 }
 
 // The row that stands first, a token, where `text` is left.
-fn token_row(rows: &[u8], text: &[u8]) -> Row
-    requires { ⌜ 8 ≤ length (now rows) ⌝ }
+fn token_row(rows: &[u8], text: &[u8], plain: bool) -> Row
+    requires { ⌜ (8 ≤ length (now rows)) × (plain ≡ true → oneByteEach (now text) ≡ true) ⌝ }
     ensures { λ r. ⌜ r ≡ tokenRow (now (rows .entry)) (now (text .entry)) ⌝ }
 {
     let n = read_u32(rows, 4);
     if n <= text.len() {
-        if token_fits(rows[0], &text[..n]) {
+        if token_fits(rows[0], &text[..n], plain) {
             return Row::Token(n);
         }
     }
@@ -150,8 +159,8 @@ fn node_row(rows: &[u8]) -> Row
 }
 
 // The row that stands first, where `text` is left.
-fn row_at(rows: &[u8], text: &[u8]) -> Row
-    requires { ⌜ 8 ≤ length (now rows) ⌝ }
+fn row_at(rows: &[u8], text: &[u8], plain: bool) -> Row
+    requires { ⌜ (8 ≤ length (now rows)) × (plain ≡ true → oneByteEach (now text) ≡ true) ⌝ }
     ensures { λ r. ⌜ r ≡ rowAt (now (rows .entry)) (now (text .entry)) ⌝ }
 {
     if rows[2] != 0 {
@@ -161,7 +170,7 @@ fn row_at(rows: &[u8], text: &[u8]) -> Row
         return Row::Bad;
     }
     if rows[1] == 1 {
-        return token_row(rows, text);
+        return token_row(rows, text, plain);
     }
     node_row(rows)
 }
@@ -191,10 +200,11 @@ fn taken(r: Row) -> usize
 fn lines_fit(rows: &[u8], text: &[u8]) -> bool
     ensures { λ r. ⌜ ((n : ℕ) → length (now (rows .entry)) ≡ 8 * n → r ≡ isSome (lines n (now (rows .entry)) (now (text .entry)))) ⌝ }
 {
+    let plain = one_byte_each(text);
     let mut l = rows;
     let mut t = text;
     while 8 <= l.len() {
-        let row = row_at(l, t);
+        let row = row_at(l, t, plain);
         if is_bad(row) {
             return false;
         }

@@ -3,6 +3,7 @@ use mathlib.Core.Path.{sym, _∙_}
 use borrow.Author.Tests.{le-leb, lt-leb}
 use lib.Seq.{length-take-le}
 use borrow.Author.Needs.{needs}
+use Rattle.utf8.proofs.Texts.{one-take}
 use Rattle.mitex_parser.proofs.token_row.Statement.{statement}
 use Rattle.mitex_parser.proofs.token_row.Tie as tie
 
@@ -16,7 +17,7 @@ slice-aggregate-token-fits : tie.Need-slice-aggregate-token-fits
 slice-aggregate-token-fits c = sym (length-take-le _ _ (c .before .before .if1 .taken))
 
 token-fits-requires : tie.Need-token-fits-requires
-token-fits-requires c κs = search needs
+token-fits-requires c κs = λ e. one-take (c .before .before .before .read-u32 .result) (c .before .before .before .before .before .before .args .text .now) (c .before .before .before .before .before .before .pre .1 e)
 
 returns : tie.Need-returns
 returns c = rw (sym (c .before .before .before .before .before .read-u32 .ensures .0), le-leb _ _ (c .before .before .before .before .if1 .taken), sym (c .before .token-fits .ensures) ∙ c .if2 .taken)
