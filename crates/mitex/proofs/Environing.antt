@@ -29,7 +29,7 @@ use Rattle.mitex_state.specs.Contract.{Place, Agrees}
 use Rattle.mitex_state.specs.Contract.Agrees.{declines, accepts}
 use Rattle.mitex_state.specs.Children.{each}
 use Rattle.mitex_state.specs.Tables.{lettersFit, tableHead}
-use Rattle.mitex_state.specs.Environments.{Caption, isCaption, captionAt, orLater, lastCaption, captioned, tableBy, tableWith, envOf, envWith, envBy, environment, envBody, plainEnv, mathEnv}
+use Rattle.mitex_state.specs.Environments.{Caption, isCaption, captionAt, orLater, lastCaption, captioned, figureEnv, tableBy, tableWith, envOf, envWith, envBy, environment, envBody, plainEnv, mathEnv}
 use Rattle.mitex_state.specs.Environments.Caption.{absent, bare, caption}
 use Rattle.mitex_state.specs.Parts.{CaptionStands, CaptionFound}
 use Rattle.mitex_state.specs.Parts.CaptionFound.{no-caption, bare-caption, caption-at}
@@ -44,6 +44,7 @@ use Rattle.mitex_state.specs.declared.CaptionPart.{CaptionPart}
 use Rattle.mitex_state.specs.declared.CaptionPart.the-variants.{NoCaption, BareCaption, CaptionAt}
 use Rattle.mitex_state.specs.declared.Walked.{Walked}
 use Rattle.mitex_commands.specs.Leaves.{isAbsent, classOf}
+use Rattle.mitex_plans.specs.Plans.{isBare, bareRow}
 
 -- ---- by rule
 
@@ -141,13 +142,12 @@ letters-bad w l conv x f c e = rw e
 
 pub letters-good :
     (w l : List ℕ) (conv : Conv) (x : Context) (f : Forest) (c : Carry) → lettersFit l ≡ true → tableWith w l conv x f c
-    ≡ after (hash ++ (w ++ (leftParen ++ tableHead l))) (closing [] (each (conv (inEnv TableEnv x)) 1 (Table true) f c))
+    ≡ after (hash ++ (w ++ (leftParen ++ tableHead l))) (each (conv (inEnv TableEnv x)) 1 (Table true) f c)
 letters-good w l conv x f c e =
     ap
     (λ (b : Bool).
     cond b (after (hash ++ (w ++ (leftParen ++ tableHead l))) (each (conv (inEnv TableEnv x)) 1 (Table true) f c)) (refused 13 0))
     e
-    ∙ ap (after (hash ++ (w ++ (leftParen ++ tableHead l)))) (sym (closing-nil (each (conv (inEnv TableEnv x)) 1 (Table true) f c)))
 
 -- ---- how far down a caption stands
 
@@ -259,3 +259,20 @@ math-by-tag Matrix w conv x f c h = refl
 math-by-tag Cases w conv x f c h = refl
 math-by-tag SubStack w conv x f c h = refl
 math-by-tag MathCurlyGroup w conv x f c h = refl
+
+-- ---- captions
+
+-- a caption without an argument is refused
+pub figure-bare :
+    (w : List ℕ) (conv : Conv) (x : Context) {f : Forest} {rows text : List ℕ} (c : Carry) {p : CaptionPart} → CaptionFound f rows text p
+    → isBare p ≡ true → figureEnv w conv x f c ≡ refused 12 (1 + bareRow p)
+figure-bare w conv x c (no-caption e) h = let z : _≡_ {A = ℕ} 0 1 = cc in absurd (omega arith)
+figure-bare w conv x {f} c (bare-caption e) h =
+    ap (λ (q : Caption). after (hash ++ (w ++ leftParen)) (captioned q conv (inEnv Figure x) f c)) e
+figure-bare w conv x c (caption-at s) h = let z : _≡_ {A = ℕ} 0 1 = cc in absurd (omega arith)
+
+pub bare-row-low :
+    {f : Forest} {rows text : List ℕ} {p : CaptionPart} → SpellsAll f rows text → CaptionFound f rows text p → 8 * bareRow p ≤ length rows
+bare-row-low sp (no-caption e) = omega arith
+bare-row-low sp (bare-caption {below} e) = bare-low below sp e
+bare-row-low sp (caption-at s) = omega arith

@@ -1,6 +1,6 @@
+pub mod Rooms
 pub mod Walking
-pub mod Arms
+pub mod Planning
 pub mod Nodes
 pub mod Commanding
 pub mod Environing
-pub mod Going

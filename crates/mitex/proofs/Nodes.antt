@@ -25,7 +25,7 @@ use Rattle.mitex.specs.Walks.{Room, Siblings, Converts, Walks}
 use Rattle.mitex_state.proofs.Agreeing.{agrees-as}
 use Rattle.mitex_tokens.specs.Puts.{tokenTurn}
 use Rattle.mitex_commands.proofs.Elements.{ofNode, element-node, element-token, element-unexpected}
-use Rattle.mitex.proofs.Walking.{rest-rows, room-part}
+use Rattle.mitex.proofs.Rooms.{rest-rows, room-part}
 
 -- the rows behind an element's first
 abbrev pub below : List ℕ → List ℕ

@@ -1,41 +1,48 @@
 -- Laws of the loop over elements side by side. `Stands` has the numbers of the loop, `Left` its meaning: whoever agrees with what is
--- left agrees with the whole.
+-- left agrees with the whole; `Looping` is all that holds at the loop's head.
 use mathlib.Core.Path.{_≡_, refl, sym, ap, subst, _∙_}
 use mathlib.Core.Bool.{Bool, true, false, cond}
+use mathlib.Core.Option.Option.{some}
 use mathlib.Core.List.{List, [], _++_, append-nil}
-use Prim.Native.Nat.{ℕ, _+_, _-_, _/_, _≤_, _<_}
+use Prim.Native.Nat.{ℕ, _+_, _-_, _*_, _/_, _≤_, _<_}
 use native.Mathlib.Omega.{arith}
 use lib.Dec.{eqb}
 use lib.ListN.{length, take, drop, getD, length-drop}
-use lib.Seq.{take-all, length-take-le}
-use Rattle.text.specs.Writing.{cap}
+use lib.Seq.{getD-drop, drop-drop}
+use Rattle.text.specs.Writing.{cap, Wrote}
+use Rattle.text.proofs.Writing.{wrote-low}
 use Rattle.mitex_spec.specs.Rules.{Rule}
+use Rattle.mitex_spec.specs.RuleFile.{rulesOf}
 use Rattle.mitex_spec.specs.Index.{Ready, SomeRules}
 use Rattle.mitex_syntax.specs.Syntax.{ClauseArgument}
-use Rattle.mitex_syntax.specs.Tree.{Tree, Forest, size, sizes, kindOf, textOf, rowsOfs}
-use Rattle.mitex_syntax.specs.Tree.Forest.{none, more}
+use Rattle.mitex_syntax.specs.Tree.{Tree, Forest, size, sizes, kindOf, textOf}
+use Rattle.mitex_syntax.specs.Tree.Forest.{none}
 use Rattle.mitex_syntax.specs.Spells.{Spells, SpellsAll, SomeTree}
 use Rattle.mitex_syntax.specs.Rows.{extentOf, tokenSum, Spans}
-use Rattle.mitex_syntax.proofs.Trees.{Element, element, all-begins, spans, kind-at, rows-e, text-n, part, part-spells, part-length, part-short, past-exact, no-left, size-more}
-use Rattle.mitex_state.specs.Outcome.{Carry, Outcome, Arm, after, andThen, closing, shift, labelMost}
+use Rattle.mitex_syntax.proofs.Trees.{Element, element, all-begins, spans, kind-at, rows-e, text-n, part, part-spells, part-length, part-short, past-exact, no-left, size-more, length-rowss}
+use Rattle.mitex_state.specs.Outcome.{Context, Label, Carry, Outcome, after, andThen, closing, shift, labelMost}
 use Rattle.mitex_state.specs.Outcome.Outcome.{refused, done}
-use Rattle.mitex_state.specs.State.{contextOf, carryOf}
-use Rattle.mitex_state.specs.Contract.{Place, placeOf, Agrees, Closed}
+use Rattle.mitex_state.specs.State.{contextOf, carryOf, labelOf, placed}
+use Rattle.mitex_state.specs.Contract.{Place, placeOf, Agrees, Went, Declined}
 use Rattle.mitex_state.specs.Contract.Agrees.{declines, accepts}
-use Rattle.mitex_state.specs.Children.{actOf, before, converts, behind, nextLoop, turn, each}
+use Rattle.mitex_state.specs.Children.{actOf, before, converts, behind, nextLoop, loopEnd, turn, each}
 use Rattle.mitex_state.specs.Conversion.{convert}
-use Rattle.mitex_loops.specs.Given.{numberOf, OthersGiven}
+use Rattle.mitex_loops.specs.Given.{numberOf, ChildGiven, OthersGiven, Decides}
 use Rattle.mitex_loops.proofs.Closing.{passes-alone}
+use Rattle.mitex_tokens.specs.Puts.{inside, carrying}
+use Rattle.mitex_tokens.specs.Runs.{TokensGiven, Gone, Runs}
+use Rattle.mitex_tokens.specs.declared.Run.{Run}
+use Rattle.mitex_state.specs.declared.LaTeXMode.{LaTeXMode}
+use Rattle.mitex_state.specs.declared.LaTeXEnv.{LaTeXEnv}
 use Rattle.mitex_state.specs.declared.Loop.{Loop}
 use Rattle.mitex_state.specs.declared.Loop.the-variants.{Plain, Curly, Spaced, Attached, Greedy, Separated, Bracketed, Dollars, Arguments, Named, Inside, Figure, Table}
 use Rattle.mitex_state.specs.declared.Act.{Act}
-use Rattle.mitex_state.specs.declared.Act.the-variants.{Skip, Convert, ThenSpace, Space, ThenComma, InBrackets, InDollars, SplitBare, SplitBased, Name, Empty, EmptyLast, ThinRule, ThickRule, Open, Close, CloseLast}
-use Rattle.mitex_state.specs.declared.CaptionPart.{CaptionPart}
 use Rattle.mitex_state.specs.declared.Converter.{Converter}
 use Rattle.mitex_state.specs.declared.Walked.{Walked}
-use Rattle.mitex_state.proofs.Agreeing.{Good, good, agrees-as, agrees-shift, agrees-close, then-done, then-refused}
-use Rattle.mitex_state.proofs.Loops.{turn-converts, turn-passes, each-more, each-at}
-use Rattle.mitex.specs.Walks.{Room, Siblings, CaptionGiven, Converts, Walks, Turns, Loops, Captions}
+use Rattle.mitex_state.proofs.Agreeing.{Closed, Good, good, agrees-as, agrees-done, agrees-refused, agrees-after, agrees-close, agrees-shift, then-done, then-refused}
+use Rattle.mitex_state.proofs.Loops.{turn-converts, turn-passes, each-none, each-more}
+use Rattle.mitex.specs.Walks.{Room, Siblings, Converts}
+use Rattle.mitex.proofs.Rooms.{rest-rows}
 
 -- ---- where a loop stands
 
@@ -56,26 +63,44 @@ pub record Left (target : Outcome) (x : Place) (row at₀ : ℕ) (out₀ : List 
   pub fits : sizes forest ≤ level
   pub onward : (a : Walked) (o : List ℕ) → Agrees a x row at out o (rest forest) → Agrees a x row at₀ out₀ o target
 
-pub left-start :
-    {f : Forest} {rows text : List ℕ} (rest : Forest → Outcome) {x : Place} {row at : ℕ} {out : List ℕ} {level : ℕ} → SpellsAll f rows text
-    → sizes f ≤ level → Left (rest f) x row at out rest level rows text 0 0 at out
-left-start {f} rest sp h = record { forest = f; spells = sp; fits = h; onward = λ a o m. m }
+-- what the whole loop comes to, and what is left of it
+abbrev pub wholly : List Rule → ℕ → Converter → Loop → Forest → Outcome
+wholly rs n d l f = each (convert n (contextOf rs d)) 0 l f (carryOf d)
 
-pub stands-start :
-    {slack at row : ℕ} {rows text out : List ℕ} {c : Converter} → Room slack rows text out at row c → Stands rows text out out c c 0 0 at
-stands-start r = record { high = omega arith; begun = omega arith; place = r .place; same = refl; short = r .label; placed-so = refl }
+abbrev remains : List Rule → ℕ → Converter → ℕ → Loop → Converter → Forest → Outcome
+remains rs n d₀ i l d g = each (convert n (contextOf rs d₀)) (i / 8) l g (carryOf d)
 
--- at the end of the rows
-pub left-done :
-    {target : Outcome} {x : Place} {row at₀ : ℕ} {out₀ : List ℕ} {rest : Forest → Outcome} {level : ℕ} {rows text : List ℕ} {i j at : ℕ}
-    {out : List ℕ} → Left target x row at₀ out₀ rest level rows text i j at out → length rows ≤ i → (a : Walked) (o : List ℕ)
-    → Agrees a x row at out o (rest none) → Agrees a x row at₀ out₀ o target
-left-done {rest = rest} l h a o m =
-    l .onward a o (agrees-as (ap rest (no-left (l .forest) (l .spells .rows-are) (simp length-drop (omega arith)))) m)
+-- what holds at the loop's head: it began with the converter d₀ and the loop l₀ at the place w₀, and stands at i and j
+pub record Looping (rules index rows text : List ℕ) (row : ℕ) (out₀ : List ℕ) (w₀ : ℕ) (d₀ : Converter) (l₀ : Loop) (out : List ℕ) (w : ℕ)
+    (d : Converter) (l : Loop) (i j : ℕ) : Type 0 where
+  pub room : Room 0 rows text out₀ w₀ row d₀
+  pub some-rules : SomeRules rules index
+  pub spelt : Siblings rows text
+  pub stands : Stands rows text out₀ out d₀ d i j w
+  pub counts : numberOf l ≤ i
+  pub left :
+      (rs : List Rule) → Ready rules index rs → (f : Forest) → SpellsAll f rows text → (n : ℕ) → sizes f ≤ n
+      → Left (wholly rs n d₀ l₀ f) (placeOf d₀) row w₀ out₀ (remains rs n d₀ i l d) n rows text i j w out
 
--- the rows behind the child, as the code has them
-pub rest-rows : (rows : List ℕ) (n : ℕ) → take (length rows - n) (drop n rows) ≡ drop n rows
-rest-rows rows n = take-all (length rows - n) (drop n rows) (simp length-drop (omega arith))
+pub looping-start :
+    {rules index rows text : List ℕ} {row : ℕ} {out : List ℕ} {w : ℕ} {d : Converter} {l : Loop} → Room 0 rows text out w row d
+    → SomeRules rules index → Siblings rows text → numberOf l ≡ 0 → Looping rules index rows text row out w d l out w d l 0 0
+looping-start r s g h =
+    record {
+      room = r;
+      some-rules = s;
+      spelt = g;
+      stands = record { high = omega arith; begun = omega arith; place = r .place; same = refl; short = r .label; placed-so = refl };
+      counts = omega arith;
+      left = λ rs ready f sp n k. record { forest = f; spells = sp; fits = k; onward = λ a o m. m };
+    }
+
+-- a walk that went well, with this converter, at this place
+abbrev pub well : Converter → ℕ → Walked
+well c at = record { converter = c; at = at; refusal = 0; row = 0 }
+
+well-went : (c : Converter) (at : ℕ) → Went c at (well c at)
+well-went c at = record { gives = refl; next = refl; well = refl }
 
 -- ---- the child at i, as the code has it: e bytes of rows, n bytes of text
 
@@ -87,142 +112,8 @@ pub record Child (rows text out : List ℕ) (c : Converter) (i j e n at row : �
   pub given : SomeTree (part rows i e) (part text j n)
   pub long : length (part rows i e) ≡ e
 
-module _ {rows text out₀ out : List ℕ} {c₀ c : Converter} {i j at₀ at row : ℕ} (r : Room 0 rows text out₀ at₀ row c₀)
-    (s : Stands rows text out₀ out c₀ c i j at) (h : i < length rows) where
-  pub child-element : {f : Forest} → SpellsAll f (drop i rows) (drop j text) → Element f rows text i j
-  child-element sp = element (all-begins sp) h (s .begun) (r .few) (r .short)
-
-  pub child-spans : {f : Forest} → SpellsAll f (drop i rows) (drop j text) → Spans rows i
-  child-spans sp = spans (child-element sp) (r .few) (r .short)
-
-  module _ (e n : ℕ) (is-e : e ≡ extentOf (drop i rows)) (is-n : n ≡ tokenSum (take (extentOf (drop i rows)) (drop i rows))) where
-    pub child : {f : Forest} → SpellsAll f (drop i rows) (drop j text) → Child rows text out c i j e n at row
-    child sp =
-        let x = child-element sp in
-        let re = rows-e x e n is-e is-n in
-        let tn = text-n x e n is-e is-n in
-        let pl = part-length x e n is-e is-n in
-        let ps = part-short x e n is-e is-n in
-        let z = x .end in
-        let y = x .stop in
-        let b = x .some in
-        let rl = r .low in
-        let rd = r .deep in
-        let ind : c .indent ≡ c₀ .indent = ap (λ (q : Place). q .indent) (s .placed-so) in
-        record {
-          end = omega arith;
-          stop = omega arith;
-          some = omega arith;
-          room = record {
-            few = let w = r .few in omega arith;
-            short = let w = r .short in omega arith;
-            room = let w = r .room in let v = s .same in omega arith;
-            place = s .place;
-            low = omega arith;
-            deep = omega arith;
-            label = s .short;
-          };
-          given = record { tree = x .tree; spells = part-spells x e n is-e is-n };
-          long = pl;
-        }
-
-    -- the elements behind it
-    pub child-behind : {f : Forest} → SpellsAll f (drop i rows) (drop j text) → OthersGiven (take (length rows - (i + e)) (drop (i + e) rows))
-    child-behind sp =
-        let x = child-element sp in
-        let q = rest-rows rows (i + e) in
-        record {
-          few = omega (arith, r .few, ap length q, length-drop (i + e) rows);
-          others = record { forest = x .others; rows-are = q ∙ past-exact x e n is-e is-n sp .rows-are };
-        }
-
-    module _ {rules index : List ℕ} (l : Loop) (act : Act) {a : Walked} {out′ : List ℕ}
-        (m : Turns rules index (part rows i e) (part text j n) (row + i / 8) c at out a out′ act)
-        (d : (t : Tree) (f : Forest) → Spells t (part rows i e) (part text j n) → drop (i + e) rows ≡ rowsOfs f → act ≡ actOf l t f)
-        (rs : List Rule) (ready : Ready rules index rs) (level : ℕ) where
-      abbrev conv : Tree → Carry → Outcome
-      conv = convert level (contextOf rs c₀)
-
-      module _ {target : Outcome} (k : Left target (placeOf c₀) row at₀ out₀ (λ g. each conv (i / 8) l g (carryOf c)) level rows text i j at out) where
-        abbrev here : Element (k .forest) rows text i j
-        here = child-element (k .spells)
-
-        smaller : size (here .tree) + sizes (here .others) ≤ level
-        smaller = omega (arith, k .fits, ap sizes (here .is), size-more (here .tree) (here .others))
-
-        spelt : Spells (here .tree) (part rows i e) (part text j n)
-        spelt = part-spells here e n is-e is-n
-
-        acted : act ≡ actOf l (here .tree) (here .others)
-        acted = d (here .tree) (here .others) spelt (past-exact here e n is-e is-n (k .spells) .rows-are)
-
-        -- what follows the child
-        then : Carry → Outcome
-        then = each conv (i / 8 + size (here .tree)) (nextLoop l (kindOf (here .tree)) (actOf l (here .tree) (here .others))) (here .others)
-
-        met : Agrees a (placeOf c) row at out out′ (shift (i / 8) (turn conv act (here .tree) (carryOf c)))
-        met =
-            agrees-shift (i / 8)
-            (subst
-            (λ (p : Place). Agrees a (placeOf c) (row + i / 8) at out out′
-            (turn (convert level (record { rules = rs; mode = p .mode; env = p .env; indent = p .indent })) act (here .tree) (carryOf c)))
-            (s .placed-so)
-            (m rs ready (here .tree) spelt level (omega (arith, smaller))))
-
-        is-rest : each conv (i / 8) l (k .forest) (carryOf c) ≡ andThen (shift (i / 8) (turn conv act (here .tree) (carryOf c))) then
-        unfolding then
-        is-rest =
-            ap (λ (g : Forest). each conv (i / 8) l g (carryOf c)) (here .is)
-            ∙ each-more conv (i / 8) l (here .tree) (here .others) (carryOf c)
-            ∙ ap (λ (b : Act). andThen (shift (i / 8) (turn conv b (here .tree) (carryOf c))) then) (sym acted)
-
-        -- the child was refused
-        pub each-refused : (a .refusal ≡ 0 → ⊥) → Agrees a (placeOf c₀) row at₀ out₀ out′ target
-        each-refused z = k .onward a out′ (agrees-as is-rest (then-refused then met z))
-
-        -- the child was converted, and there is more to do
-        pub each-next :
-            a .refusal ≡ 0 → (l′ : Loop) → l′ ≡ nextLoop l (getD rows i 0) act
-            → Left target (placeOf c₀) row at₀ out₀ (λ g. each conv ((i + e) / 8) l′ g (carryOf (a .converter))) level rows text (i + e) (j + n)
-            (a .at) out′
-        unfolding then
-        each-next z l′ next =
-            let re = rows-e here e n is-e is-n in
-            let at-next : (i + e) / 8 ≡ i / 8 + size (here .tree) = omega arith in
-            let loop-next : l′ ≡ nextLoop l (kindOf (here .tree)) (actOf l (here .tree) (here .others))
-            = next
-            ∙ ap (λ (q : ℕ). nextLoop l q act) (kind-at here)
-            ∙ ap (nextLoop l (kindOf (here .tree))) acted in
-            record {
-              forest = here .others;
-              spells = past-exact here e n is-e is-n (k .spells);
-              fits = omega (arith, smaller);
-              onward =
-                  λ b p mm. k .onward b p
-                  (agrees-as is-rest (then-done then (let w = r .room in let v = s .same in omega arith) met z
-                  (agrees-as
-                  (ap (λ (q : ℕ). each conv q (nextLoop l (kindOf (here .tree)) (actOf l (here .tree) (here .others))) (here .others)
-                  (carryOf (a .converter))) (sym at-next)
-                  ∙ ap (λ (q : Loop). each conv ((i + e) / 8) q (here .others) (carryOf (a .converter))) (sym loop-next)) mm)));
-            }
-
--- ---- from one child to the next
-
-pub turn-good :
-    {rules index rows text out out′ : List ℕ} {c : Converter} {i j e n at row : ℕ} (act : Act) {a : Walked} → Child rows text out c i j e n at row
-    → {rs : List Rule} → Ready rules index rs → Turns rules index (part rows i e) (part text j n) (row + i / 8) c at out a out′ act
-    → a .refusal ≡ 0 → Good a (placeOf c)
-turn-good act x {rs} ready m z = good (m rs ready (x .given .tree) (x .given .spells) (size (x .given .tree)) (omega arith)) z
-
-pub stands-next :
-    {rows text out₀ out out′ : List ℕ} {c₀ c : Converter} {i j e n at row : ℕ} {a : Walked} → Stands rows text out₀ out c₀ c i j at
-    → Child rows text out c i j e n at row → Good a (placeOf c) → length out′ ≡ length out
-    → Stands rows text out₀ out′ c₀ (a .converter) (i + e) (j + n) (a .at)
-stands-next s x g k =
-    record { high = x .end; begun = x .stop; place = g .place; same = k ∙ s .same; short = g .short; placed-so = g .placed-so ∙ s .placed-so }
-
 -- the number of the next named argument grows by at most one
-pub next-number : (l : Loop) (k : ℕ) (a : Act) → numberOf (nextLoop l k a) ≤ numberOf l + 1
+next-number : (l : Loop) (k : ℕ) (a : Act) → numberOf (nextLoop l k a) ≤ numberOf l + 1
 next-number Plain k a = omega arith
 next-number (Curly blank) k a = omega arith
 next-number Spaced k a = omega arith
@@ -241,123 +132,411 @@ next-number Inside k a = omega arith
 next-number Figure k a = omega arith
 next-number (Table exterior) k a = omega arith
 
-pub turn-alone :
-    (conv : Tree → Carry → Outcome) (a : Act) (t : Tree) (c : Carry) (s : List ℕ) → converts a ≡ false → s ≡ textOf t
-    → turn conv a t c ≡ done c (before a s)
-turn-alone conv a t c s e h =
-    turn-passes conv a t c e
-    ∙ ap (λ (w : List ℕ). done c (before a (textOf t) ++ w)) (passes-alone a e)
-    ∙ ap (done c) (append-nil (before a (textOf t)))
-    ∙ ap (λ (w : List ℕ). done c (before a w)) (sym h)
+-- what is promised of one child with which the loop does an act
+abbrev pub Turned : List ℕ → List ℕ → List ℕ → List ℕ → ℕ → Converter → ℕ → List ℕ → Walked → List ℕ → Act → Type 0
+Turned rules index rows text row c at out a out′ act =
+    (rs : List Rule) → Ready rules index rs → (t : Tree) → Spells t rows text → (n : ℕ) → size t ≤ n
+    → Agrees a (placeOf c) row at out out′ (turn (convert n (contextOf rs c)) act t (carryOf c))
 
-pub turn-around :
-    (conv : Tree → Carry → Outcome) (a : Act) (t : Tree) (c : Carry) (s : List ℕ) → converts a ≡ true → s ≡ textOf t
-    → turn conv a t c ≡ after (before a s) (closing (behind a) (conv t c))
-turn-around conv a t c s e h = turn-converts conv a t c e ∙ ap (λ (w : List ℕ). after (before a w) (closing (behind a) (conv t c))) (sym h)
+module _ {rules index rows text : List ℕ} {row : ℕ} {out₀ : List ℕ} {w₀ : ℕ} {d₀ : Converter} {l₀ : Loop} {out : List ℕ} {w : ℕ}
+    {d : Converter} {l : Loop} {i j : ℕ} (k : Looping rules index rows text row out₀ w₀ d₀ l₀ out w d l i j) where
+  -- what is left spells elements
+  pub left-spelt : Siblings (drop i rows) (drop j text)
+  left-spelt =
+      let z = k .left (k .some-rules .rules) (k .some-rules .ready) (k .spelt .forest) (k .spelt .spells) (sizes (k .spelt .forest)) (omega arith) in
+      record { forest = z .forest; spells = z .spells }
 
--- a walk that is closed where it is
-pub agrees-closed :
-    {row at : ℕ} {out out₁ out₂ w : List ℕ} {a r : Walked} {x : Place} {o : Outcome} → length out ≤ cap → Agrees a x row at out out₁ o
-    → Closed a (placeOf (a .converter)) w out₁ r out₂ → Agrees r x row at out out₂ (closing w o)
-agrees-closed {a = a} h (declines {n} {r = k} g p q) c =
-    let z : a .refusal ≡ 0 → ⊥ = λ e. omega arith in
-    let same = c .refused-on z .0 in
-    declines {r = k} g (ap (λ (b : Walked). b .refusal) same ∙ p) (ap (λ (b : Walked). b .row) same ∙ q)
-agrees-closed {row} {at} {out} {out₁} {out₂} {w} {a} {r} {x} h (accepts {c = k} {w = v} u ex ec l wr) c =
-    subst (λ (y : Place). Agrees r y row at out out₂ (done k (v ++ w))) ex (agrees-close {y = x} h (accepts u ex ec l wr) c)
+  pub loop-room : length out ≤ cap
+  loop-room = omega (arith, k .room .room, k .stands .same)
 
--- what an element that was walked gives
+  -- what is left is some rows whole
+  i-eighth : i ≡ 8 * (i / 8)
+  i-eighth =
+      omega (
+        arith,
+        length-rowss (k .spelt .forest),
+        ap length (k .spelt .spells .rows-are),
+        length-rowss (left-spelt .forest),
+        ap length (left-spelt .spells .rows-are),
+        length-drop i rows,
+        k .stands .high,
+      )
+
+  -- there is room for a whole row
+  pub loop-row : i < length rows → i + 8 ≤ length rows
+  loop-row h = omega (arith, i-eighth, length-rowss (k .spelt .forest), ap length (k .spelt .spells .rows-are))
+
+  module _ (h : i < length rows) where
+    child-element : {f : Forest} → SpellsAll f (drop i rows) (drop j text) → Element f rows text i j
+    child-element sp = element (all-begins sp) h (k .stands .begun) (k .room .few) (k .room .short)
+
+    pub child-spans : Spans rows i
+    child-spans = spans (child-element (left-spelt .spells)) (k .room .few) (k .room .short)
+
+    module _ (e n : ℕ) (is-e : e ≡ extentOf (drop i rows)) (is-n : n ≡ tokenSum (take (extentOf (drop i rows)) (drop i rows))) where
+      pub child : Child rows text out d i j e n w row
+      child =
+          let x = child-element (left-spelt .spells) in
+          let re = rows-e x e n is-e is-n in
+          let tn = text-n x e n is-e is-n in
+          let pl = part-length x e n is-e is-n in
+          let ps = part-short x e n is-e is-n in
+          let z = x .end in
+          let y = x .stop in
+          let b = x .some in
+          let r = k .room in
+          let ind : d .indent ≡ d₀ .indent = ap (λ (q : Place). q .indent) (k .stands .placed-so) in
+          record {
+            end = omega arith;
+            stop = omega arith;
+            some = omega arith;
+            room = record {
+              few = omega (arith, r .few);
+              short = omega (arith, r .short);
+              room = loop-room;
+              place = k .stands .place;
+              low = omega (arith, r .low);
+              deep = omega (arith, r .deep);
+              label = k .stands .short;
+            };
+            given = record { tree = x .tree; spells = part-spells x e n is-e is-n };
+            long = pl;
+          }
+
+      pub child-given : ChildGiven (part rows i e) (part text j n)
+      child-given = record { few = child .room .few; short = child .room .short; child = child .given }
+
+      -- the elements behind it
+      pub child-behind : OthersGiven (take (length rows - (i + e)) (drop (i + e) rows))
+      child-behind =
+          let x = child-element (left-spelt .spells) in
+          let q = rest-rows rows (i + e) in
+          record {
+            few = omega (arith, k .room .few, ap length q, length-drop (i + e) rows);
+            others = record { forest = x .others; rows-are = q ∙ past-exact x e n is-e is-n (left-spelt .spells) .rows-are };
+          }
+
+      module _ (act : Act) {a : Walked} {out′ : List ℕ} (m : Turned rules index (part rows i e) (part text j n) (row + i / 8) d w out a out′ act)
+          (de : Decides l (part rows i e) (part text j n) (take (length rows - (i + e)) (drop (i + e) rows)) act) where
+        module _ (rs : List Rule) (ready : Ready rules index rs) (f : Forest) (sp : SpellsAll f rows text) (level : ℕ) (fit : sizes f ≤ level) where
+          abbrev conv : Tree → Carry → Outcome
+          conv = convert level (contextOf rs d₀)
+
+          abbrev at-head : Left (wholly rs level d₀ l₀ f) (placeOf d₀) row w₀ out₀ (remains rs level d₀ i l d) level rows text i j w out
+          at-head = k .left rs ready f sp level fit
+
+          abbrev here : Element (at-head .forest) rows text i j
+          here = child-element (at-head .spells)
+
+          smaller : size (here .tree) + sizes (here .others) ≤ level
+          smaller = omega (arith, at-head .fits, ap sizes (here .is), size-more (here .tree) (here .others))
+
+          spelt-child : Spells (here .tree) (part rows i e) (part text j n)
+          spelt-child = part-spells here e n is-e is-n
+
+          acted : act ≡ actOf l (here .tree) (here .others)
+          acted = de (here .tree) (here .others) spelt-child (rest-rows rows (i + e) ∙ past-exact here e n is-e is-n (at-head .spells) .rows-are)
+
+          -- what follows the child
+          then : Carry → Outcome
+          then = each conv (i / 8 + size (here .tree)) (nextLoop l (kindOf (here .tree)) (actOf l (here .tree) (here .others))) (here .others)
+
+          met : Agrees a (placeOf d) row w out out′ (shift (i / 8) (turn conv act (here .tree) (carryOf d)))
+          met =
+              agrees-shift (i / 8)
+              (subst
+              (λ (p : Place). Agrees a (placeOf d) (row + i / 8) w out out′
+              (turn (convert level (record { rules = rs; mode = p .mode; env = p .env; indent = p .indent })) act (here .tree) (carryOf d)))
+              (k .stands .placed-so)
+              (m rs ready (here .tree) spelt-child level (omega (arith, smaller))))
+
+          is-rest : remains rs level d₀ i l d (at-head .forest) ≡ andThen (shift (i / 8) (turn conv act (here .tree) (carryOf d))) then
+          unfolding then
+          is-rest =
+              ap (λ (g : Forest). each conv (i / 8) l g (carryOf d)) (here .is)
+              ∙ each-more conv (i / 8) l (here .tree) (here .others) (carryOf d)
+              ∙ ap (λ (b : Act). andThen (shift (i / 8) (turn conv b (here .tree) (carryOf d))) then) (sym acted)
+
+          -- the child was refused
+          pub loop-refused : (a .refusal ≡ 0 → ⊥) → Agrees a (placeOf d₀) row w₀ out₀ out′ (wholly rs level d₀ l₀ f)
+          loop-refused z = at-head .onward a out′ (agrees-as is-rest (then-refused then met z))
+
+          next-left :
+              a .refusal ≡ 0 → (l′ : Loop) → l′ ≡ nextLoop l (getD rows i 0) act
+              → Left (wholly rs level d₀ l₀ f) (placeOf d₀) row w₀ out₀ (remains rs level d₀ (i + e) l′ (a .converter)) level rows text (i + e) (j + n)
+              (a .at) out′
+          unfolding then
+          next-left z l′ next =
+              let re = rows-e here e n is-e is-n in
+              let at-next : (i + e) / 8 ≡ i / 8 + size (here .tree) = omega arith in
+              let loop-next : l′ ≡ nextLoop l (kindOf (here .tree)) (actOf l (here .tree) (here .others))
+              = next
+              ∙ ap (λ (q : ℕ). nextLoop l q act) (kind-at here)
+              ∙ ap (nextLoop l (kindOf (here .tree))) acted in
+              record {
+                forest = here .others;
+                spells = past-exact here e n is-e is-n (at-head .spells);
+                fits = omega (arith, smaller);
+                onward =
+                    λ b p mm. at-head .onward b p
+                    (agrees-as is-rest (then-done then loop-room met z
+                    (agrees-as
+                    (ap (λ (q : ℕ). each conv q (nextLoop l (kindOf (here .tree)) (actOf l (here .tree) (here .others))) (here .others)
+                    (carryOf (a .converter))) (sym at-next)
+                    ∙ ap (λ (q : Loop). each conv ((i + e) / 8) q (here .others) (carryOf (a .converter))) (sym loop-next)) mm)));
+              }
+
+        -- the child is done, and there is more to do
+        pub loop-next :
+            a .refusal ≡ 0 → length out′ ≡ length out → {l′ : Loop} → l′ ≡ nextLoop l (getD rows i 0) act
+            → Looping rules index rows text row out₀ w₀ d₀ l₀ out′ (a .at) (a .converter) l′ (i + e) (j + n)
+        loop-next z same {l′} next =
+            let x = child in
+            let g : Good a (placeOf d)
+            = good (m (k .some-rules .rules) (k .some-rules .ready) (x .given .tree) (x .given .spells) (size (x .given .tree)) (omega arith)) z in
+            record {
+              room = k .room;
+              some-rules = k .some-rules;
+              spelt = k .spelt;
+              stands = record {
+                high = x .end;
+                begun = x .stop;
+                place = g .place;
+                same = same ∙ k .stands .same;
+                short = g .short;
+                placed-so = g .placed-so ∙ k .stands .placed-so;
+              };
+              counts = omega (arith, x .some, k .counts, next-number l (getD rows i 0) act, ap numberOf next);
+              left = λ rs ready f sp level fit. next-left rs ready f sp level fit z l′ next;
+            }
+
+-- ---- what is written behind a walk
+
+-- a refusal stays one, in whatever place, with whatever would be written behind
+pub refused-closing :
+    {a : Walked} {x y : Place} {row at at₁ : ℕ} {out out₁ out₂ : List ℕ} (w : List ℕ) {o : Outcome} → Agrees a x row at out out₂ o
+    → (a .refusal ≡ 0 → ⊥) → Agrees a y row at₁ out₁ out₂ (closing w o)
+refused-closing w (declines g p q) z = declines g p q
+refused-closing w (accepts u ex ec l v) z = absurd (z u)
+
+-- a walk that went well is closed to a place, with a text behind it
+closed-well :
+    {a : Walked} {q : ℕ} {out out′ w : List ℕ} (x : Place) → placeOf (a .converter) ≡ x → a .refusal ≡ 0 → Wrote (a .at) out w q out′
+    → Closed a x w out (well (a .converter) q) out′
+closed-well {a} x e z wr =
+    record {
+      refused-on = λ n. absurd (n z);
+      accepted = λ u. refl;
+      converter = λ u. (λ i. record {
+        mode = e i .mode;
+        env = e i .env;
+        indent = e i .indent;
+        label = a .converter .label;
+        «label_len» = a .converter .«label_len»;
+        «label_held» = a .converter .«label_held»;
+        «skip_next_space» = a .converter .«skip_next_space»;
+      });
+      written = λ u. wr;
+    }
+
+-- ---- one child, as the code does it: a text before, the child itself, a text behind
+
+module _ {rules index rows text : List ℕ} {row : ℕ} (d : Converter) {w p : ℕ} {out out₁ : List ℕ} (act : Act) (room : length out ≤ cap)
+    (begun : Wrote w out (before act text) p out₁) where
+  -- it is passed over
+  pub turned-passed : converts act ≡ false → d .«label_len» ≤ labelMost → Turned rules index rows text row d w out (well d p) out₁ act
+  turned-passed e short rs ready t sp n h =
+      agrees-as
+      (turn-passes (convert n (contextOf rs d)) act t (carryOf d) e
+      ∙ ap (λ (v : List ℕ). done (carryOf d) (before act (textOf t) ++ v)) (passes-alone act e)
+      ∙ ap (done (carryOf d)) (append-nil (before act (textOf t)))
+      ∙ ap (λ (s : List ℕ). done (carryOf d) (before act s)) (sym (sp .text-is)))
+      (agrees-done d (well-went d p) refl refl short begun)
+
+  module _ {a : Walked} {out₂ : List ℕ} (e : converts act ≡ true) (m : Converts rules index rows text row d p out₁ a out₂) where
+    around :
+        (rs : List Rule) (n : ℕ) (t : Tree) → Spells t rows text
+        → turn (convert n (contextOf rs d)) act t (carryOf d)
+        ≡ after (before act text) (closing (behind act) (convert n (contextOf rs d) t (carryOf d)))
+    around rs n t sp =
+        turn-converts (convert n (contextOf rs d)) act t (carryOf d) e
+        ∙ ap (λ (s : List ℕ). after (before act s) (closing (behind act) (convert n (contextOf rs d) t (carryOf d)))) (sym (sp .text-is))
+
+    -- it is refused
+    pub turned-refused : (a .refusal ≡ 0 → ⊥) → Turned rules index rows text row d w out a out₂ act
+    turned-refused z rs ready t sp n h =
+        agrees-as (around rs n t sp) (agrees-after room begun (refused-closing (behind act) (m rs ready t sp n h) z))
+
+    -- it is converted
+    pub turned :
+        {q : ℕ} {out₃ : List ℕ} → length out₁ ≤ cap → a .refusal ≡ 0 → Wrote (a .at) out₂ (behind act) q out₃
+        → Turned rules index rows text row d w out (well (a .converter) q) out₃ act
+    turned {q} {out₃} room₁ z ended rs ready t sp n h =
+        agrees-as (around rs n t sp)
+        (agrees-after room begun
+        (agrees-close room₁ (m rs ready t sp n h)
+        (closed-well (placeOf d) (good (m rs ready t sp n h) z .placed-so) z ended)))
+
+-- what an element that was converted gives
 pub converts-good :
     {rules index rows text : List ℕ} {row : ℕ} (c : Converter) {at : ℕ} {out : List ℕ} {a : Walked} {out′ : List ℕ} → SomeRules rules index
     → SomeTree rows text → Converts rules index rows text row c at out a out′ → a .refusal ≡ 0 → Good a (placeOf c)
-converts-good c rs g m z = good (m (rs .rules) (rs .ready) (g .tree) (g .spells) (size (g .tree)) (omega arith)) z
+converts-good c s g m z = good (m (s .rules) (s .ready) (g .tree) (g .spells) (size (g .tree)) (omega arith)) z
 
-pub loops-good :
-    {rules index rows text : List ℕ} {row : ℕ} (c : Converter) {at : ℕ} {out : List ℕ} {a : Walked} {out′ : List ℕ} (l : Loop)
-    → SomeRules rules index → Siblings rows text → Loops rules index rows text row c at out a out′ l → a .refusal ≡ 0 → Good a (placeOf c)
-loops-good c l rs g m z = good (m (rs .rules) (rs .ready) (g .forest) (g .spells) (sizes (g .forest)) (omega arith)) z
+-- ---- a run of tokens
 
-pub walks-good :
-    {rules index rows text : List ℕ} {row : ℕ} (c : Converter) {at : ℕ} {out : List ℕ} {a : Walked} {out′ : List ℕ} (arm : Arm)
-    → SomeRules rules index → Siblings rows text → Walks rules index rows text row c at out a out′ arm → a .refusal ≡ 0 → Good a (placeOf c)
-walks-good c arm rs g m z = good (m (rs .rules) (rs .ready) (g .forest) (g .spells) (sizes (g .forest)) (omega arith)) z
-
-pub captions-good :
-    {rules index rows text : List ℕ} {row : ℕ} (c : Converter) {at : ℕ} {out : List ℕ} {a : Walked} {out′ : List ℕ} {p : CaptionPart}
-    → SomeRules rules index → CaptionGiven rows text p → Captions rules index rows text row c at out a out′ p → a .refusal ≡ 0 → Good a (placeOf c)
-captions-good c rs g m z = good (m (rs .rules) (rs .ready) (g .forest) (g .spells) (g .found) (sizes (g .forest)) (omega arith)) z
-
--- ---- what one walk is given by another
-
--- the same rows, another place and converter
-pub room-for :
-    {slack at row : ℕ} {rows text out : List ℕ} {c : Converter} → Room slack rows text out at row c → (slack′ row′ : ℕ) (d : Converter)
-    → row′ + slack′ ≤ row + slack → d .indent + slack′ ≤ c .indent + slack → d .«label_len» ≤ labelMost → {at′ : ℕ} {out′ : List ℕ}
-    → length out′ ≡ length out → at′ ≤ cap → Room slack′ rows text out′ at′ row′ d
-room-for r slack′ row′ d h k l e p =
+-- the converter with another flag
+abbrev pub flagSet : Bool → Converter → Converter
+flagSet b c =
     record {
-      few = r .few;
-      short = r .short;
-      room = let z = r .room in omega arith;
-      place = p;
-      low = let z = r .low in omega arith;
-      deep = let z = r .deep in omega arith;
-      label = l;
+      mode = c .mode;
+      env = c .env;
+      indent = c .indent;
+      label = c .label;
+      «label_len» = c .«label_len»;
+      «label_held» = c .«label_held»;
+      «skip_next_space» = b;
     }
 
--- the children of a node
-pub room-under :
-    {at row : ℕ} {rows text out : List ℕ} {c : Converter} → Room 0 rows text out at row c → 8 ≤ length rows → (d : Converter)
-    → d .indent ≡ c .indent → d .«label_len» ≤ labelMost → Room 8 (drop 8 rows) text out at row d
-room-under {rows = rows} r h d e l =
-    let n = length-drop 8 rows in
-    record {
-      few = let z = r .few in omega arith;
-      short = r .short;
-      room = r .room;
-      place = r .place;
-      low = let z = r .low in omega arith;
-      deep = let z = r .deep in omega arith;
-      label = l;
-    }
+-- what stands behind a place, from which the code goes on
+abbrev pub rest : List ℕ → ℕ → List ℕ
+rest l n = take (length l - n) (drop n l)
 
--- a part of the rows and of the text
-pub room-part :
-    {slack at row : ℕ} {rows text out : List ℕ} {c : Converter} → Room slack rows text out at row c → (slack′ row′ : ℕ) {rows′ text′ : List ℕ}
-    → (d : Converter) → length rows′ ≤ length rows → length text′ ≤ length text → row′ + slack′ + length rows′ ≤ row + slack + length rows
-    → d .indent + slack′ + length rows′ ≤ c .indent + slack + length rows → d .«label_len» ≤ labelMost → {at′ : ℕ} {out′ : List ℕ}
-    → length out′ ≡ length out → at′ ≤ cap → Room slack′ rows′ text′ out′ at′ row′ d
-room-part r slack′ row′ d hr ht h k l e p =
-    record {
-      few = let z = r .few in omega arith;
-      short = let z = r .short in omega arith;
-      room = let z = r .room in omega arith;
-      place = p;
-      low = let z = r .low in omega arith;
-      deep = let z = r .deep in omega arith;
-      label = l;
-    }
+rest-behind : (l : List ℕ) (n m : ℕ) → drop m (rest l n) ≡ drop (n + m) l
+rest-behind l n m = ap (drop m) (rest-rows l n) ∙ drop-drop m n l
 
--- ---- a loop as part of an arm: its first child stands k rows below the node
+module _ {rules index rows text : List ℕ} {row : ℕ} {out₀ : List ℕ} {w₀ : ℕ} {d₀ : Converter} {l₀ : Loop} {out : List ℕ} {w : ℕ}
+    {d : Converter} {l : Loop} {i j : ℕ} (k : Looping rules index rows text row out₀ w₀ d₀ l₀ out w d l i j) where
+  rest-spells : {g : Forest} → SpellsAll g (drop i rows) (drop j text) → SpellsAll g (rest rows i) (rest text j)
+  rest-spells {g} sp =
+      subst (λ (r : List ℕ). SpellsAll g r (rest text j)) (sym (rest-rows rows i))
+      (subst (λ (s : List ℕ). SpellsAll g (drop i rows) s) (sym (rest-rows text j)) sp)
 
-module _ {rules index rows text : List ℕ} {row : ℕ} (k : ℕ) (c : Converter) {at : ℕ} {out : List ℕ} {a : Walked} {out′ : List ℕ} (l : Loop)
-    (m : Loops rules index rows text (row + k) c at out a out′ l) where
-  pub loops-at :
-      (rs : List Rule) → Ready rules index rs → (f : Forest) → SpellsAll f rows text → (d : ℕ) → sizes f ≤ d
-      → Agrees a (placeOf c) row at out out′ (each (convert d (contextOf rs c)) k l f (carryOf c))
-  loops-at rs ready f sp d h = agrees-as (each-at (convert d (contextOf rs c)) k l f (carryOf c)) (agrees-shift k (m rs ready f sp d h))
+  rest-long : length (rest rows i) ≡ length rows - i
+  rest-long = ap length (rest-rows rows i) ∙ length-drop i rows
 
--- ---- a part of the rows or of the text
+  pub tokens-given : i < length rows → getD rows (i + 1) 0 ≡ 1 → TokensGiven (rest rows i) (rest text j) l
+  tokens-given h e =
+      let s = left-spelt k in
+      record {
+        forest = s .forest;
+        spells = rest-spells (s .spells);
+        few = omega (arith, rest-long, k .room .few);
+        short = omega (arith, ap length (rest-rows text j), length-drop j text, k .room .short);
+        some = omega (arith, rest-long);
+        token = ap (λ (r : List ℕ). getD r 1 0) (rest-rows rows i) ∙ getD-drop i rows 1 0 ∙ e;
+        counts = omega (arith, rest-long, k .counts, k .room .few);
+      }
 
-pub between-length : (l : List ℕ) (a b : ℕ) → a ≤ b → b ≤ length l → length (take (b - a) (drop a l)) ≡ b - a
-between-length l a b h k = length-take-le (b - a) (drop a l) (simp length-drop (omega arith))
+  module _ {mode : LaTeXMode} {env : LaTeXEnv} {indent : ℕ} (x : placeOf d₀ ≡ record { mode = mode; env = env; indent = indent }) {r : Run}
+      {out′ : List ℕ}
+      (m : (rs : List Rule) → rulesOf rules ≡ some rs
+      → Runs (inside rs mode env indent) (d .«skip_next_space») l (rest rows i) (rest text j) w out r out′) where
+    abbrev first : Runs (inside (k .some-rules .rules) mode env indent) (d .«skip_next_space») l (rest rows i) (rest text j) w out r out′
+    first = m (k .some-rules .rules) (k .some-rules .ready .decodes)
 
--- a walk over a part, whose first row stands behind those before it
-pub room-between :
-    {at row : ℕ} {rows text out : List ℕ} {c : Converter} → Room 8 rows text out at row c → (i e j u : ℕ) → i ≤ e → e ≤ length rows → j ≤ u
-    → u ≤ length text → (d : Converter) → d .indent ≤ c .indent + 2 → d .«label_len» ≤ labelMost → {at′ : ℕ} {out′ : List ℕ} → length out′ ≡ length out
-    → at′ ≤ cap → Room 0 (take (e - i) (drop i rows)) (take (u - j) (drop j text)) out′ at′ (row + 1 + i / 8) d
-room-between {row = row} {rows = rows} {text = text} r i e j u hi he hj hu d hd l k p =
-    let lr = between-length rows i e hi he in
-    let lt = between-length text j u hj hu in
-    room-part r 0 (row + 1 + i / 8) d (omega arith) (omega arith) (omega arith) (omega arith) l k p
+    in-place : (rs : List Rule) → contextOf rs d₀ ≡ inside rs mode env indent
+    in-place rs = ap (λ (p : Place). record { rules = rs; mode = p .mode; env = p .env; indent = p .indent }) x
+
+    abbrev held-so : Label
+    held-so = labelOf (d .«label_held») (d .«label_len») (d .label)
+
+    pub run-high : i + r .rows ≤ length rows
+    run-high = omega (arith, first .high, rest-long, k .stands .high)
+
+    pub run-stop : j + r .text ≤ length text
+    run-stop = omega (arith, first .stop, ap length (rest-rows text j), length-drop j text, k .stands .begun)
+
+    pub run-some : r .refusal ≡ 0 → 8 ≤ r .rows
+    run-some z = first .some z
+
+    module _ (rs : List Rule) (ready : Ready rules index rs) (f : Forest) (sp : SpellsAll f rows text) (level : ℕ) (fit : sizes f ≤ level) where
+      abbrev head : Left (wholly rs level d₀ l₀ f) (placeOf d₀) row w₀ out₀ (remains rs level d₀ i l d) level rows text i j w out
+      head = k .left rs ready f sp level fit
+
+      abbrev conv-in : Context → Tree → Carry → Outcome
+      conv-in y = convert level y
+
+      -- the token behind the run was refused
+      pub run-refused :
+          {a : Walked} {o : List ℕ} → (r .refusal ≡ 0 → ⊥) → Declined (r .refusal) (row + (i + r .rows) / 8) a
+          → Agrees a (placeOf d₀) row w₀ out₀ o (wholly rs level d₀ l₀ f)
+      run-refused {a} {o} z de =
+          let e8 = i-eighth k in
+          let at-row : row + (i + r .rows) / 8 ≡ row + (i / 8 + r .rows / 8) = omega arith in
+          head .onward a o
+          (agrees-as
+          (ap (λ (y : Context). each (conv-in y) (i / 8) l (head .forest) (carryOf d)) (in-place rs)
+          ∙ m rs (ready .decodes) .refuses z (head .forest) level held-so (i / 8) (rest-spells (head .spells)) (head .fits))
+          (agrees-refused (i / 8 + r .rows / 8) (omega arith)
+          (subst (λ (q : ℕ). Declined (r .refusal) q a) at-row de)))
+
+      run-left :
+          r .refusal ≡ 0
+          → Left (wholly rs level d₀ l₀ f) (placeOf d₀) row w₀ out₀ (remains rs level d₀ (i + r .rows) (r .how) (flagSet (r .flag) d)) level rows text
+          (i + r .rows) (j + r .text) (r .at) out′
+      run-left z =
+          let g = m rs (ready .decodes) .goes z (head .forest) level (rest-spells (head .spells)) (head .fits) in
+          let e8 = i-eighth k in
+          let at-next : i / 8 + r .rows / 8 ≡ (i + r .rows) / 8 = omega arith in
+          record {
+            forest = g .forest;
+            spells = subst (λ (v : List ℕ). SpellsAll (g .forest) v (drop (j + r .text) text)) (rest-behind rows i (r .rows))
+                (subst (λ (v : List ℕ). SpellsAll (g .forest) (drop (r .rows) (rest rows i)) v) (rest-behind text j (r .text)) (g .spells));
+            fits = omega (arith, g .fits, head .fits);
+            onward =
+                λ b p mm. head .onward b p
+                (agrees-as
+                (ap (λ (y : Context). each (conv-in y) (i / 8) l (head .forest) (carryOf d)) (in-place rs)
+                ∙ g .is held-so (i / 8)
+                ∙ ap (λ (y : Context). after (g .written) (each (conv-in y) (i / 8 + r .rows / 8) (r .how) (g .forest) (carrying (r .flag) held-so))) (sym (in-place rs))
+                ∙ ap (λ (q : ℕ). after (g .written) (each (convert level (contextOf rs d₀)) q (r .how) (g .forest) (carrying (r .flag) held-so))) at-next)
+                (agrees-after (loop-room k) (g .wrote) mm));
+          }
+
+    -- the run is done, and there is more to do
+    pub run-next :
+        r .refusal ≡ 0 → length out′ ≡ length out
+        → Looping rules index rows text row out₀ w₀ d₀ l₀ out′ (r .at) (flagSet (r .flag) d) (r .how) (i + r .rows) (j + r .text)
+    run-next z same =
+        let s = left-spelt k in
+        let g = first .goes z (s .forest) (sizes (s .forest)) (rest-spells (s .spells)) (omega arith) in
+        record {
+          room = k .room;
+          some-rules = k .some-rules;
+          spelt = k .spelt;
+          stands = record {
+            high = run-high;
+            begun = run-stop;
+            place = wrote-low (g .wrote);
+            same = same ∙ k .stands .same;
+            short = k .stands .short;
+            placed-so = k .stands .placed-so;
+          };
+          counts = omega (arith, first .counts, k .counts);
+          left = λ rs ready f sp level fit. run-left rs ready f sp level fit z;
+        }
+
+-- ---- the end of the loop
+
+module _ {rules index rows text : List ℕ} {row : ℕ} {out₀ : List ℕ} {w₀ : ℕ} {d₀ : Converter} {l₀ : Loop} {out : List ℕ} {w : ℕ}
+    {d : Converter} {l : Loop} {i j : ℕ} (k : Looping rules index rows text row out₀ w₀ d₀ l₀ out w d l i j) (h : length rows ≤ i) where
+  -- the loop's own end is written, then a text, and the converter comes back to a place
+  pub loop-ended :
+      {p q : ℕ} {out₁ out₂ e : List ℕ} {b : Converter} {a : Walked} (x : Place) → Wrote w out (loopEnd l) p out₁ → Wrote p out₁ e q out₂
+      → b ≡ placed (x .mode) (x .env) (x .indent) d → Went b q a → (rs : List Rule) → Ready rules index rs → (f : Forest)
+      → SpellsAll f rows text → (n : ℕ) → sizes f ≤ n → Agrees a x row w₀ out₀ out₂ (closing e (wholly rs n d₀ l₀ f))
+  loop-ended {p} {q} {out₁} {out₂} {e} {b} {a} x ended behind-it back went rs ready f sp n fit =
+      let z = k .left rs ready f sp n fit in
+      agrees-close (k .room .room)
+      (z .onward (well d p) out₁
+      (agrees-as
+      (ap (remains rs n d₀ i l d) (no-left (z .forest) (z .spells .rows-are) (simp length-drop (omega arith)))
+      ∙ each-none (convert n (contextOf rs d₀)) (i / 8) l (carryOf d))
+      (agrees-done d (well-went d p) (k .stands .placed-so) refl (k .stands .short) ended)))
+      (record {
+        refused-on = λ u. absurd (u refl);
+        accepted = λ u. went .well;
+        converter = λ u. went .gives ∙ back;
+        written = λ u. subst (λ (v : ℕ). Wrote p out₁ e v out₂) (sym (went .next)) behind-it;
+      })

@@ -1,5 +1,4 @@
 -- What the functions of the walk ask, and what they promise: that their answers agree with the meaning of what they were given.
-use mathlib.Core.Path.{_≡_}
 use Prim.Native.Nat.{ℕ, _+_, _≤_, _<_}
 use mathlib.Core.List.{List}
 use lib.ListN.{length}
@@ -8,19 +7,17 @@ use Rattle.mitex_spec.specs.Rules.{Rule, getCmd}
 use Rattle.mitex_spec.specs.Index.{Ready}
 use Rattle.mitex_syntax.specs.Tree.{Tree, Forest, size, sizes}
 use Rattle.mitex_syntax.specs.Spells.{Spells, SpellsAll}
-use Rattle.mitex_state.specs.Outcome.{Arm, labelMost}
+use Rattle.mitex_state.specs.Outcome.{Arm, andThen, labelMost}
 use Rattle.mitex_state.specs.State.{contextOf, carryOf}
 use Rattle.mitex_state.specs.Contract.{placeOf, Agrees}
-use Rattle.mitex_state.specs.Children.{turn, each}
-use Rattle.mitex_state.specs.Colors.{Model, colored, withModel, colorAlias}
-use Rattle.mitex_state.specs.Environments.{lastCaption, captioned}
+use Rattle.mitex_state.specs.Colors.{Model, withModel, colorAlias}
 use Rattle.mitex_state.specs.Conversion.{convert}
-use Rattle.mitex_state.specs.Parts.{ModelFound, CaptionFound}
-use Rattle.mitex_loops.specs.Given.{numberOf}
+use Rattle.mitex_state.specs.Parts.{rowsIn, textIn, ModelFound}
+use Rattle.mitex_plans.specs.Plans.{planned}
+use Rattle.mitex_plans.specs.declared.Plan.{Plan}
+use Rattle.mitex_plans.specs.declared.Plans.{Plans}
 use Rattle.mitex_state.specs.declared.ModelPart.{ModelPart}
-use Rattle.mitex_state.specs.declared.CaptionPart.{CaptionPart}
 use Rattle.mitex_state.specs.declared.Loop.{Loop}
-use Rattle.mitex_state.specs.declared.Act.{Act}
 use Rattle.mitex_state.specs.declared.Converter.{Converter}
 use Rattle.mitex_state.specs.declared.Walked.{Walked}
 
@@ -42,20 +39,6 @@ pub record Siblings (rows text : List ℕ) : Type 0 where
   pub forest : Forest
   pub spells : SpellsAll forest rows text
 
--- a colour's model was found in them, and the loop over its body counts nothing
-pub record ColorGiven (rows text : List ℕ) (p : ModelPart) (l : Loop) : Type 0 where
-  pub model : Model
-  pub forest : Forest
-  pub spells : SpellsAll forest rows text
-  pub found : ModelFound model forest rows text p
-  pub counts : numberOf l ≡ 0
-
--- a figure's captions were looked for in them
-pub record CaptionGiven (rows text : List ℕ) (p : CaptionPart) : Type 0 where
-  pub forest : Forest
-  pub spells : SpellsAll forest rows text
-  pub found : CaptionFound forest rows text p
-
 -- ---- what is promised: for whatever rules the file has, whatever tree is spelt, at every level that is high enough
 
 module _ (rules index rows text : List ℕ) (row : ℕ) (c : Converter) (at : ℕ) (out : List ℕ) (a : Walked) (out′ : List ℕ) where
@@ -71,17 +54,18 @@ module _ (rules index rows text : List ℕ) (row : ℕ) (c : Converter) (at : �
       (rs : List Rule) → Ready rules index rs → (f : Forest) → SpellsAll f rows text → (d : ℕ) → sizes f ≤ d
       → Agrees a (placeOf c) row at out out′ (arm (convert d) (contextOf rs c) f (carryOf c))
 
-  -- of elements side by side, the first of them at the row
-  abbrev pub Loops : Loop → Type 0
-  Loops l =
-      (rs : List Rule) → Ready rules index rs → (f : Forest) → SpellsAll f rows text → (d : ℕ) → sizes f ≤ d
-      → Agrees a (placeOf c) row at out out′ (each (convert d (contextOf rs c)) 0 l f (carryOf c))
+  -- of a part of the children, by its plan
+  abbrev pub Planned : Plan → Type 0
+  Planned p =
+      (rs : List Rule) → Ready rules index rs → (g : Forest) → SpellsAll g (rowsIn (p .part) rows) (textIn (p .part) text) → (d : ℕ)
+      → sizes g ≤ d → Agrees a (placeOf c) row at out out′ (planned (convert d) rs p g (carryOf c))
 
-  -- of one child in a loop
-  abbrev pub Turns : Act → Type 0
-  Turns act =
-      (rs : List Rule) → Ready rules index rs → (t : Tree) → Spells t rows text → (d : ℕ) → size t ≤ d
-      → Agrees a (placeOf c) row at out out′ (turn (convert d (contextOf rs c)) act t (carryOf c))
+  -- of two parts, one after the other
+  abbrev pub Both : Plans → Type 0
+  Both p =
+      (rs : List Rule) → Ready rules index rs → (g h : Forest) → SpellsAll g (rowsIn (p .first .part) rows) (textIn (p .first .part) text)
+      → SpellsAll h (rowsIn (p .second .part) rows) (textIn (p .second .part) text) → (d : ℕ) → sizes g ≤ d → sizes h ≤ d
+      → Agrees a (placeOf c) row at out out′ (andThen (planned (convert d) rs (p .first) g (carryOf c)) (planned (convert d) rs (p .second) h))
 
   -- of a colour command, by its model and the loop over its body
   abbrev pub Colors : List ℕ → ModelPart → Loop → Type 0
@@ -89,15 +73,3 @@ module _ (rules index rows text : List ℕ) (row : ℕ) (c : Converter) (at : �
       (rs : List Rule) → Ready rules index rs → (m : Model) (f : Forest) → SpellsAll f rows text → ModelFound m f rows text p → (d : ℕ)
       → sizes f ≤ d
       → Agrees a (placeOf c) row at out out′ (withModel (convert d) (contextOf rs c) (colorAlias (getCmd rs name)) l m (carryOf c))
-
-  -- of the colour and the body, the first of them at the row
-  abbrev pub Colored : Loop → Type 0
-  Colored l =
-      (rs : List Rule) → Ready rules index rs → (f : Forest) → SpellsAll f rows text → (d : ℕ) → sizes f ≤ d
-      → Agrees a (placeOf c) row at out out′ (colored (convert d) (contextOf rs c) l 0 f (carryOf c))
-
-  -- of a figure's caption and children
-  abbrev pub Captions : CaptionPart → Type 0
-  Captions p =
-      (rs : List Rule) → Ready rules index rs → (f : Forest) → SpellsAll f rows text → CaptionFound f rows text p → (d : ℕ) → sizes f ≤ d
-      → Agrees a (placeOf c) row at out out′ (captioned (lastCaption 1 f) (convert d) (contextOf rs c) f (carryOf c))

@@ -10,13 +10,12 @@ ghost use Rattle.mitex_spec.specs.LookUp.{aliasOf, ruleOf, endOf};
 ghost use Rattle.mitex_syntax.specs.Tree.{Forest};
 ghost use Rattle.mitex_syntax.specs.Views.{isSolid};
 ghost use Rattle.mitex_syntax.specs.Spells.{SpellsAll, SomeForest};
-ghost use Rattle.mitex_state.specs.Texts.{leftParen, leftBracket, mitexcolor, black, colorEnd};
-ghost use Rattle.mitex_state.specs.Colors.{Rest, seek, modelIn, isModel, argumentModel, colorAlias, bodyEnd};
+ghost use Rattle.mitex_state.specs.Texts.{leftParen, leftBracket, mitexcolor};
+ghost use Rattle.mitex_state.specs.Colors.{Rest, seek, modelIn, isModel, argumentModel, colorAlias};
 ghost use Rattle.mitex_state.specs.Parts.{between, modelText, GreedyFound, ModelFound};
 ghost use Rattle.mitex_colors.specs.Scanning.{stopsAt, picks, Left, Sought, Passed, modelAt, ColorFound};
 use mitex_spec::Found;
 use mitex_state::GreedyPart;
-use mitex_state::LaTeXMode;
 use mitex_state::ModelPart;
 use mitex_state::Part;
 use mitex_syntax::CLAUSE_ARGUMENT;
@@ -266,15 +265,4 @@ pub fn put_color_head(
     let to = m.to;
     let c = put_model(out, b, m.held, &text[from..to]);
     text::put(out, c, b"[")
-}
-
-// The colour and the body where there is no colour.
-pub fn put_black(out: &mut [u8], at: usize, mode: LaTeXMode) -> usize
-    requires { ⌜ (at ≤ cap) × (length (now out) ≤ cap) ⌝ }
-    ensures { λ r. ⌜ Wrote at (now (out .entry)) (black ++ (colorEnd ++ bodyEnd mode)) r (now (out .exit)) ⌝ }
-{
-    match mode {
-        LaTeXMode::Text => text::put(out, at, b"black])[];"),
-        LaTeXMode::Math => text::put(out, at, b"black])[]"),
-    }
 }

@@ -6,8 +6,6 @@ use Rattle.text.specs.Compare.{same}
 use Rattle.mitex_spec.specs.declared.Found.{Found}
 use Rattle.mitex_spec.specs.declared.Found.the-variants.{Absent, Plain, Aliased}
 use Rattle.mitex_state.specs.Texts.{colorName, textcolorName, colorboxName}
-use Rattle.mitex_state.specs.State.{enteredEnv}
-use Rattle.mitex_state.specs.declared.Converter.{Converter}
 use Rattle.mitex_state.specs.declared.LaTeXEnv.{LaTeXEnv}
 use Rattle.mitex_state.specs.declared.LaTeXEnv.the-variants.{None, Figure, Table, Itemize, Enumerate, Math, Matrix, Cases, SubStack, MathCurlyGroup}
 use Rattle.mitex_state.specs.declared.Command.{Command}
@@ -57,8 +55,3 @@ abbrev pub classOf : Found → ℕ
 classOf Absent = 0
 classOf (Plain class) = class
 classOf (Aliased class at size) = class
-
--- the converter in a stack, or as it is
-abbrev pub stackedIn : Bool → Converter → Converter
-stackedIn true c = enteredEnv SubStack c
-stackedIn false c = c

@@ -16,7 +16,7 @@ ghost use Rattle.mitex_state.specs.Contract.{placeOf, Agrees};
 ghost use Rattle.mitex_state.specs.Texts.{space, labelMark, substackName};
 ghost use Rattle.mitex_state.specs.Commands.{commandOf, itemText, itemIn, labelNow, labelHeld, labelIn, labelText, typstName, otherArguments, argumentsOf};
 ghost use Rattle.mitex_state.specs.Conversion.{elementOf};
-ghost use Rattle.mitex_commands.specs.Leaves.{colorOf, markOf, writesNow, isAbsent, classOf, stackedIn};
+ghost use Rattle.mitex_commands.specs.Leaves.{colorOf, markOf, writesNow, isAbsent, classOf};
 use mitex_spec::Found;
 use mitex_state::Arguments;
 use mitex_state::Command;
@@ -372,14 +372,4 @@ pub fn arguments_of(class: u8, mode: LaTeXMode, name: &[u8], written: &[u8]) -> 
         return Arguments::GreedyArgument;
     }
     other_arguments(mode, written)
-}
-
-// The converter in a stack, or as it is.
-pub fn stacked(c: Converter, stack: bool) -> Converter
-    ensures { λ r. ⌜ r ≡ stackedIn stack c ⌝ }
-{
-    if stack {
-        return c.entered_env(LaTeXEnv::SubStack);
-    }
-    c
 }

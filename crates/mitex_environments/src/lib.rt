@@ -13,8 +13,8 @@ ghost use Rattle.mitex_syntax.specs.Spells.{Spells, SpellsAll, SomeForest};
 ghost use Rattle.mitex_state.specs.Outcome.{labelMost};
 ghost use Rattle.mitex_state.specs.Texts.{leftParen, hash};
 ghost use Rattle.mitex_state.specs.State.{labelOf};
-ghost use Rattle.mitex_state.specs.Contract.{Place, Closed, Takes};
-ghost use Rattle.mitex_state.specs.Environments.{envOf, isList, envBegin, envEnd, heldText, isCaption, captionAt};
+ghost use Rattle.mitex_state.specs.Contract.{Place, Takes};
+ghost use Rattle.mitex_state.specs.Environments.{envOf, isList, envBegin, heldText, isCaption, captionAt};
 ghost use Rattle.mitex_state.specs.Parts.{between, BeginFound, CaptionFound};
 ghost use Rattle.mitex_environments.specs.Plain.{isPlain};
 ghost use Rattle.mitex_environments.specs.Captions.{ChildAt, captionIn, Shows, laterPart};
@@ -124,24 +124,6 @@ pub fn put_env_begin(out: &mut [u8], at: usize, env: LaTeXEnv, name: &[u8]) -> u
         return put_call(out, at, name, b"[");
     }
     at
-}
-
-// The end of a list or a normal environment; the converter comes back to the place before it.
-pub fn close_env(
-    out: &mut [u8],
-    a: Walked,
-    mode: LaTeXMode,
-    env: LaTeXEnv,
-    indent: usize,
-    inner: LaTeXEnv,
-) -> Walked
-    requires { ⌜ ((a .refusal ≡ 0 → a .at ≤ cap) × (length (now out) ≤ cap)) ⌝ }
-    ensures { λ r. ⌜ Closed a (record { mode = mode; env = env; indent = indent }) (envEnd inner) (now (out .entry)) r (now (out .exit)) ⌝ }
-{
-    if is_plain(inner) {
-        return mitex_state::close(out, a, mode, env, indent, b"];");
-    }
-    mitex_state::close(out, a, mode, env, indent, b"")
 }
 
 // ---- the held label

@@ -1,28 +1,14 @@
--- Laws of what follows a walk: the text behind it under another name, no text at all, and one byte or nothing.
-use mathlib.Core.Path.{_≡_, refl, subst}
+-- Laws of what is written behind a child: one byte or nothing, and nothing behind one that is passed over.
+use mathlib.Core.Path.{_≡_, refl}
 use mathlib.Core.Bool.{false}
-use mathlib.Core.List.{List, [], _∷_}
-use Prim.Native.Nat.{ℕ, _≤_}
+use mathlib.Core.List.{[], _∷_}
+use Prim.Native.Nat.{ℕ}
 use native.Mathlib.Omega.{arith}
 use borrow.Author.Tests.{ne-eqb}
-use Rattle.text.specs.Writing.{cap}
-use Rattle.text.proofs.Writing.{wrote-nil}
 use Rattle.mitex_state.specs.Children.{converts, behind}
-use Rattle.mitex_state.specs.Contract.{Place, placeOf, Closed}
-use Rattle.mitex_state.specs.declared.Walked.{Walked}
 use Rattle.mitex_state.specs.declared.Act.{Act}
 use Rattle.mitex_state.specs.declared.Act.the-variants.{Skip, Convert, ThenSpace, Space, ThenComma, InBrackets, InDollars, SplitBare, SplitBased, Name, Empty, EmptyLast, ThinRule, ThickRule, Open, Close, CloseLast}
 use Rattle.mitex_loops.specs.Marks.{behindByte, markOf}
-
-pub closed-as :
-    {a r : Walked} {x : Place} {w v out out′ : List ℕ} → w ≡ v → Closed a x w out r out′ → Closed a x v out r out′
-closed-as {a} {r} {x} {w} {v} {out} {out′} e m = subst (λ (u : List ℕ). Closed a x u out r out′) e m
-
-pub closed-nil : (a : Walked) (out : List ℕ) → (a .refusal ≡ 0 → a .at ≤ cap) → Closed a (placeOf (a .converter)) [] out a out
-closed-nil a out h =
-    record { refused-on = λ z. (refl, refl); accepted = λ z. z; converter = λ z. refl; written = λ z. wrote-nil (a .at) out (h z) }
-
--- ---- one byte or nothing
 
 pub some-mark : (b : ℕ) → (b ≡ 0 → ⊥) → b ∷ [] ≡ markOf b
 some-mark b h = rw (ne-eqb b 0 h)

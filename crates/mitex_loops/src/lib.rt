@@ -11,11 +11,10 @@ ghost use Rattle.mitex_syntax.specs.Tree.{Tree, Forest, rowsOfs, kindOf};
 ghost use Rattle.mitex_syntax.specs.Views.{childrenOf, cmdName};
 ghost use Rattle.mitex_syntax.specs.Spells.{Spells};
 ghost use Rattle.mitex_state.specs.Children.{isBlank, isDot, isSplit, isEnds, follows, othersFollow, isNamed, actOf, attachAct, ruleAct, cellAct, before, converts, behind, nextAttach, nextExterior, nextLoop, attachEnd, loopEnd};
-ghost use Rattle.mitex_state.specs.Texts.{leftParen, rightParen, colonSpace, formulaBegin, formulaEnd};
-ghost use Rattle.mitex_state.specs.Texts.{dollarBegin, dollarEnd, blankGroup, noBase, namedArg};
-ghost use Rattle.mitex_state.specs.Groups.{groupEnv, lrBegin, lrEnd, attachLoop};
-ghost use Rattle.mitex_state.specs.Colors.{bodyEnd, bodyLoop, argumentsLoop};
-ghost use Rattle.mitex_state.specs.Contract.{placeOf, Closed};
+ghost use Rattle.mitex_state.specs.Texts.{leftParen, colonSpace, formulaBegin};
+ghost use Rattle.mitex_state.specs.Texts.{dollarBegin, blankGroup, noBase, namedArg};
+ghost use Rattle.mitex_state.specs.Groups.{groupEnv, lrBegin, attachLoop};
+ghost use Rattle.mitex_state.specs.Colors.{bodyLoop, argumentsLoop};
 ghost use Rattle.mitex_state.specs.declared.Act.the-variants.{Skip, Convert, Space, ThenSpace, ThenComma, InDollars};
 ghost use Rattle.mitex_loops.specs.Marks.{behindByte};
 ghost use Rattle.mitex_loops.specs.Given.{ChildGiven, OthersGiven, Decides, numberOf};
@@ -24,7 +23,6 @@ use mitex_state::Attach;
 use mitex_state::LaTeXEnv;
 use mitex_state::LaTeXMode;
 use mitex_state::Loop;
-use mitex_state::Walked;
 use mitex_syntax::CLAUSE_ARGUMENT;
 use mitex_syntax::CLAUSE_COMMAND_NAME;
 use mitex_syntax::ITEM_BEGIN;
@@ -583,30 +581,7 @@ pub fn put_lr_begin(out: &mut [u8], at: usize, name: &[u8]) -> usize
     at
 }
 
-// What the body of a colour ends with.
-pub fn put_body_end(out: &mut [u8], at: usize, mode: LaTeXMode) -> usize
-    requires { ⌜ (at ≤ cap) × (length (now out) ≤ cap) ⌝ }
-    ensures { λ r. ⌜ Wrote at (now (out .entry)) (bodyEnd mode) r (now (out .exit)) ⌝ }
-{
-    match mode {
-        LaTeXMode::Text => text::put(out, at, b"];"),
-        LaTeXMode::Math => text::put(out, at, b"]"),
-    }
-}
-
-// ---- what follows a walk
-
-// A text behind a walk, in the place where it ended.
-fn close_here(out: &mut [u8], a: Walked, s: &[u8]) -> Walked
-    requires { ⌜ ((a .refusal ≡ 0 → a .at ≤ cap) × (length (now out) ≤ cap)) ⌝ }
-    ensures { λ r. ⌜ Closed a (placeOf (a .converter)) (now (s .entry)) (now (out .entry)) r (now (out .exit)) ⌝ }
-{
-    let c = a.converter;
-    let mode = c.mode;
-    let env = c.env;
-    let indent = c.indent;
-    mitex_state::close(out, a, mode, env, indent, s)
-}
+// ---- what is written behind a child
 
 // The byte that is written behind a child, 0 where none is.
 fn behind_byte(act: Act) -> u8
@@ -633,7 +608,7 @@ fn behind_byte(act: Act) -> u8
     }
 }
 
-// What is written behind a child that leaves the label alone.
+// What is written behind a child.
 pub fn put_behind(out: &mut [u8], at: usize, act: Act) -> usize
     requires { ⌜ (at ≤ cap) × (length (now out) ≤ cap) ⌝ }
     ensures { λ r. ⌜ Wrote at (now (out .entry)) (behind act) r (now (out .exit)) ⌝ }
@@ -643,81 +618,6 @@ pub fn put_behind(out: &mut [u8], at: usize, act: Act) -> usize
         return at;
     }
     text::put_byte(out, at, b)
-}
-
-// What is written behind a child.
-pub fn close_turn(out: &mut [u8], a: Walked, act: Act) -> Walked
-    requires { ⌜ ((a .refusal ≡ 0 → a .at ≤ cap) × (length (now out) ≤ cap)) ⌝ }
-    ensures { λ r. ⌜ Closed a (placeOf (a .converter)) (behind act) (now (out .entry)) r (now (out .exit)) ⌝ }
-{
-    let b = behind_byte(act);
-    if b == 0 {
-        return a;
-    }
-    let s = [b];
-    close_here(out, a, &s)
-}
-
-// The end of a formula; the converter comes back to the place before it.
-pub fn close_formula(
-    out: &mut [u8],
-    a: Walked,
-    mode: LaTeXMode,
-    env: LaTeXEnv,
-    indent: usize,
-    inline: bool,
-) -> Walked
-    requires { ⌜ ((a .refusal ≡ 0 → a .at ≤ cap) × (length (now out) ≤ cap)) ⌝ }
-    ensures { λ r. ⌜ Closed a (record { mode = mode; env = env; indent = indent }) (formulaEnd mode inline) (now (out .entry)) r (now (out .exit)) ⌝ }
-{
-    match mode {
-        LaTeXMode::Text => {
-            if inline {
-                return mitex_state::close(out, a, mode, env, indent, b"$);");
-            }
-            mitex_state::close(out, a, mode, env, indent, b" $")
-        }
-        LaTeXMode::Math => mitex_state::close(out, a, mode, env, indent, b""),
-    }
-}
-
-// The end of an environment for Math; the converter comes back to the place before it.
-pub fn close_math(
-    out: &mut [u8],
-    a: Walked,
-    mode: LaTeXMode,
-    env: LaTeXEnv,
-    indent: usize,
-) -> Walked
-    requires { ⌜ ((a .refusal ≡ 0 → a .at ≤ cap) × (length (now out) ≤ cap)) ⌝ }
-    ensures { λ r. ⌜ Closed a (record { mode = mode; env = env; indent = indent }) (rightParen ++ dollarEnd mode) (now (out .entry)) r (now (out .exit)) ⌝ }
-{
-    match mode {
-        LaTeXMode::Text => mitex_state::close(out, a, mode, env, indent, b") $"),
-        LaTeXMode::Math => mitex_state::close(out, a, mode, env, indent, b")"),
-    }
-}
-
-// The end of `\right`.
-pub fn close_lr(out: &mut [u8], a: Walked, name: &[u8]) -> Walked
-    requires { ⌜ ((a .refusal ≡ 0 → a .at ≤ cap) × (length (now out) ≤ cap)) ⌝ }
-    ensures { λ r. ⌜ Closed a (placeOf (a .converter)) (lrEnd (now (name .entry))) (now (out .entry)) r (now (out .exit)) ⌝ }
-{
-    if text::same(name, b"right") {
-        return close_here(out, a, b")");
-    }
-    a
-}
-
-// The end of a colour's body.
-pub fn close_body(out: &mut [u8], a: Walked, mode: LaTeXMode) -> Walked
-    requires { ⌜ ((a .refusal ≡ 0 → a .at ≤ cap) × (length (now out) ≤ cap)) ⌝ }
-    ensures { λ r. ⌜ Closed a (placeOf (a .converter)) (bodyEnd mode) (now (out .entry)) r (now (out .exit)) ⌝ }
-{
-    match mode {
-        LaTeXMode::Text => close_here(out, a, b"];"),
-        LaTeXMode::Math => close_here(out, a, b"]"),
-    }
 }
 
 // ---- where the arms begin

@@ -10,7 +10,7 @@ use Rattle.text.proofs.Writing.{wrote-then, wrote-low}
 use Rattle.mitex_state.specs.Outcome.{Carry, Outcome, andThen, after, closing, shift, labelMost}
 use Rattle.mitex_state.specs.Outcome.Outcome.{refused, done}
 use Rattle.mitex_state.specs.State.{carryOf, placed, Carried}
-use Rattle.mitex_state.specs.Contract.{Place, placeOf, Agrees, Went, Declined, Closed, Takes}
+use Rattle.mitex_state.specs.Contract.{Place, placeOf, Agrees, Went, Declined, Takes}
 use Rattle.mitex_state.specs.Contract.Agrees.{declines, accepts}
 use Rattle.mitex_state.specs.Environments.{taken, dropped, takeLabel}
 use Rattle.mitex_state.specs.declared.LaTeXMode.{LaTeXMode}
@@ -71,6 +71,13 @@ module _ {row at at₁ : ℕ} {out out₁ out₂ w : List ℕ} {a : Walked} {x :
       {o : Outcome} → length out ≤ cap → Wrote at out w at₁ out₁ → Agrees a x row at₁ out₁ out₂ o → Agrees a x row at out out₂ (after w o)
   agrees-after h wr (declines g p q) = declines g p q
   agrees-after h wr (accepts u ex ec l v) = accepts u ex ec l (wrote-then h wr v)
+
+-- what follows a walk: a refusal is handed on; else the converter is brought to the place x, and w is written behind
+pub record Closed (a : Walked) (x : Place) (w out : List ℕ) (r : Walked) (out′ : List ℕ) : Type 0 where
+  pub refused-on : (a .refusal ≡ 0 → ⊥) → (r ≡ a) × (out′ ≡ out)
+  pub accepted : a .refusal ≡ 0 → r .refusal ≡ 0
+  pub converter : a .refusal ≡ 0 → r .converter ≡ placed (x .mode) (x .env) (x .indent) (a .converter)
+  pub written : a .refusal ≡ 0 → Wrote (a .at) out w (r .at) out′
 
 module _ {row at : ℕ} {out out₁ out₂ w : List ℕ} {a r : Walked} {x y : Place} where
   -- a walk in another place is closed: the converter comes back to this one

@@ -6,7 +6,7 @@ use mathlib.Core.List.{List}
 use Rattle.text.specs.Writing.{Wrote}
 use Rattle.mitex_state.specs.Outcome.{Carry, Outcome, labelMost}
 use Rattle.mitex_state.specs.Outcome.Outcome.{refused, done}
-use Rattle.mitex_state.specs.State.{carryOf, placed}
+use Rattle.mitex_state.specs.State.{carryOf}
 use Rattle.mitex_state.specs.Environments.{taken, dropped}
 use Rattle.mitex_state.specs.declared.LaTeXMode.{LaTeXMode}
 use Rattle.mitex_state.specs.declared.LaTeXEnv.{LaTeXEnv}
@@ -39,13 +39,6 @@ pub record Went (c : Converter) (at : ℕ) (a : Walked) : Type 0 where
 pub record Declined (n row : ℕ) (a : Walked) : Type 0 where
   pub number : a .refusal ≡ n
   pub at-row : a .row ≡ row
-
--- what follows a walk: a refusal is handed on; else the converter is brought to the place x, and w is written behind
-pub record Closed (a : Walked) (x : Place) (w out : List ℕ) (r : Walked) (out′ : List ℕ) : Type 0 where
-  pub refused-on : (a .refusal ≡ 0 → ⊥) → (r ≡ a) × (out′ ≡ out)
-  pub accepted : a .refusal ≡ 0 → r .refusal ≡ 0
-  pub converter : a .refusal ≡ 0 → r .converter ≡ placed (x .mode) (x .env) (x .indent) (a .converter)
-  pub written : a .refusal ≡ 0 → Wrote (a .at) out w (r .at) out′
 
 -- what ends an environment: a refusal is handed on; else the held label is written and dropped where the environment takes it
 pub record Takes (a : Walked) (list : Bool) (m : LaTeXMode) (out : List ℕ) (r : Walked) (out′ : List ℕ) : Type 0 where

@@ -2,11 +2,10 @@
 ghost use mathlib.Core.Path.{_≡_};
 ghost use Prim.Native.Nat.{_+_, _<_, _≤_, _^_};
 ghost use lib.ListN.{length};
-ghost use Rattle.text.specs.Writing.{cap};
 ghost use Rattle.mitex_state.specs.Outcome.{flagged, labelled, labelMost, stepOf};
 ghost use Rattle.mitex_state.specs.Outcome.Label.{held, unheld};
 ghost use Rattle.mitex_state.specs.State.{carryOf, newOf, withMode, enteredEnv, exitedEnv, Carried};
-ghost use Rattle.mitex_state.specs.Contract.{Went, Declined, Closed};
+ghost use Rattle.mitex_state.specs.Contract.{Went, Declined};
 
 // The mode of the text that is written.
 pub enum LaTeXMode {
@@ -379,34 +378,4 @@ pub fn refuse(c: Converter, number: u8, row: usize) -> Walked
         refusal: number,
         row,
     }
-}
-
-// What follows a walk: a refusal is handed on, and a converter that comes back is brought to a mode, environment and indent, with a
-// text written behind.
-pub fn close(
-    out: &mut [u8],
-    a: Walked,
-    mode: LaTeXMode,
-    env: LaTeXEnv,
-    indent: usize,
-    s: &[u8],
-) -> Walked
-    requires { ⌜ ((a .refusal ≡ 0 → a .at ≤ cap) × (length (now out) ≤ cap)) ⌝ }
-    ensures { λ r. ⌜ Closed a (record { mode = mode; env = env; indent = indent }) (now (s .entry)) (now (out .entry)) r (now (out .exit)) ⌝ }
-{
-    if a.refusal != 0 {
-        return a;
-    }
-    let c = a.converter;
-    let p = a.at;
-    let q = text::put(out, p, s);
-    went(
-        Converter {
-            mode,
-            env,
-            indent,
-            ..c
-        },
-        q,
-    )
 }

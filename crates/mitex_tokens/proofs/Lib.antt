@@ -1,3 +1,4 @@
 pub mod Tokens
 pub mod Spacing
 pub mod Putting
+pub mod Running

@@ -18,7 +18,7 @@ use Rattle.mitex_syntax.specs.Syntax.{TokenApostrophe, TokenComma, TokenSlash, 
 use Rattle.mitex_state.specs.Outcome.{Context, Carry, flagged}
 use Rattle.mitex_state.specs.Outcome.Outcome.{refused, done}
 use Rattle.mitex_state.specs.Texts.{escape, columnMark, lineMark, ampersand, newLine}
-use Rattle.mitex_state.specs.Tokens.{tokenText, whiteSpace, symbolBy, commandSym, tokenOut}
+use Rattle.mitex_state.specs.Tokens.{word, tokenText, whiteSpace, symbolBy, commandSym, tokenOut}
 use Rattle.mitex_state.proofs.LaTeXEnv.{the-type as env-type}
 use Rattle.mitex_state.specs.declared.LaTeXEnv.{LaTeXEnv}
 use Rattle.mitex_state.specs.declared.LaTeXEnv.the-variants.{None, Figure, Table, Itemize, Enumerate, Math, Matrix, Cases, SubStack, MathCurlyGroup}
@@ -118,6 +118,10 @@ module _ (x : Context) (s : List ℕ) (c : Carry) where
   pub token-symbol : (k : ℕ) → k ≡ TokenCommandSym → tokenOut x k s c ≡ commandSym x s (flagged false c)
   unfolding tokenOut
   token-symbol k e = ap (λ (n : ℕ). tokenOut x n s c) e
+
+  pub token-word : (k : ℕ) → k ≡ TokenWord → tokenOut x k s c ≡ done (flagged false c) (word (x .mode) s)
+  unfolding tokenOut
+  token-word k e = ap (λ (n : ℕ). tokenOut x n s c) e
 
   pub token-other :
       (k : ℕ) → (k ≡ TokenWhiteSpace → ⊥) → (k ≡ TokenLineBreak → ⊥) → (k ≡ TokenError → ⊥) → (k ≡ ClauseCommandName → ⊥)

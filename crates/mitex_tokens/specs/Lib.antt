@@ -1,2 +1,4 @@
 pub mod Escapes
 pub mod Puts
+pub mod Running
+pub mod Runs

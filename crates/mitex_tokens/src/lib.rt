@@ -19,7 +19,11 @@ ghost use Rattle.mitex_state.specs.Texts.{escape, tilde, ampersand, newLine};
 ghost use Rattle.mitex_state.specs.Tokens.{spaced, word, tokenText, whiteSpace, commandSym, tokenOut};
 ghost use Rattle.mitex_tokens.specs.Escapes.{escapeOf};
 ghost use Rattle.mitex_tokens.specs.Puts.{inside, carrying, tokenTurn, Puts, Settles};
+ghost use Rattle.mitex_tokens.specs.Running.{isSteady, runOf};
+ghost use Rattle.mitex_tokens.specs.Runs.{TokensGiven, Runs};
+use mitex_loops::act_of;
 use mitex_loops::converts;
+use mitex_loops::next_loop;
 use mitex_loops::put_before;
 use mitex_loops::put_behind;
 use mitex_spec::Found;
@@ -27,6 +31,7 @@ use mitex_state::Act;
 use mitex_state::Converter;
 use mitex_state::LaTeXEnv;
 use mitex_state::LaTeXMode;
+use mitex_state::Loop;
 use mitex_state::Walked;
 use mitex_state::refuse;
 use mitex_state::went;
@@ -306,8 +311,8 @@ pub fn put_token(
     }
 }
 
-// A token with what a loop writes around it, or in its place.
-fn put_around(
+// A token as a child in a loop: with what the loop writes around it, or in its place.
+fn put_turn(
     out: &mut [u8],
     at: usize,
     kind: u8,
@@ -344,30 +349,6 @@ fn put_around(
     }
 }
 
-// A token as a child in a loop; most loops write nothing around it.
-fn put_turn(
-    out: &mut [u8],
-    at: usize,
-    kind: u8,
-    s: &[u8],
-    rules: &[u8],
-    index: &[u32],
-    mode: LaTeXMode,
-    env: LaTeXEnv,
-    indent: usize,
-    flag: bool,
-    act: Act,
-) -> TokenPut
-    requires { ⌜ (at ≤ cap) × (length (now out) ≤ cap) ⌝ }
-    requires { ⌜ SomeRules (now rules) (now index) ⌝ }
-    ensures { λ r. ⌜ ((rs : List Rule) (l : Label) → rulesOf (now (rules .entry)) ≡ some rs → Puts r l at (now (out .entry)) (now (out .exit)) (tokenTurn (inside rs mode env indent) act kind (now (s .entry)) (carrying flag l))) ⌝ }
-{
-    match act {
-        Act::Convert => put_token(out, at, kind, s, rules, index, mode, env, indent, flag),
-        _ => put_around(out, at, kind, s, rules, index, mode, env, indent, flag, act),
-    }
-}
-
 // The converter behind a token: only its flag moves.
 fn settled(a: TokenPut, row: usize, c: Converter) -> Walked
     ensures { λ r. ⌜ Settles a row c r ⌝ }
@@ -401,26 +382,208 @@ pub fn convert_token(
     settled(a, row, c)
 }
 
-// A token as a child in a loop, with the converter.
-pub fn turn_token(
+// Tokens behind each other, as children in a loop: how many bytes of rows and of text they have, the next place, the flag and the loop's
+// state behind them, with refusal 0; or a refusal, of the token that stands behind them.
+pub struct Run {
+    pub rows: usize,
+    pub text: usize,
+    pub at: usize,
+    pub flag: bool,
+    pub how: Loop,
+    pub refusal: u8,
+}
+
+// A word, which clears the flag.
+fn put_letters(out: &mut [u8], at: usize, s: &[u8], mode: LaTeXMode) -> TokenPut
+    requires { ⌜ (at ≤ cap) × (length (now out) ≤ cap) ⌝ }
+    ensures { λ r. ⌜ ((l : Label) → Puts r l at (now (out .entry)) (now (out .exit)) (done (carrying false l) (word mode (now (s .entry))))) ⌝ }
+{
+    let p = put_word(out, at, s, mode);
+    TokenPut {
+        at: p,
+        flag: false,
+        refusal: 0,
+    }
+}
+
+// A token of a run. Most are white space or words: they are told first, and take no further call.
+fn put_next(
     out: &mut [u8],
     at: usize,
     kind: u8,
     s: &[u8],
-    row: usize,
     rules: &[u8],
     index: &[u32],
-    c: Converter,
-    act: Act,
-) -> Walked
-    requires { ⌜ (at ≤ cap) × (length (now out) ≤ cap) × (c .«label_len» ≤ labelMost) ⌝ }
+    mode: LaTeXMode,
+    env: LaTeXEnv,
+    indent: usize,
+    flag: bool,
+) -> TokenPut
+    requires { ⌜ (at ≤ cap) × (length (now out) ≤ cap) ⌝ }
     requires { ⌜ SomeRules (now rules) (now index) ⌝ }
-    ensures { λ r. ⌜ ((rs : List Rule) → rulesOf (now (rules .entry)) ≡ some rs → Agrees r (placeOf c) row at (now (out .entry)) (now (out .exit)) (tokenTurn (contextOf rs c) act kind (now (s .entry)) (carryOf c))) ⌝ }
+    ensures { λ r. ⌜ ((rs : List Rule) (l : Label) → rulesOf (now (rules .entry)) ≡ some rs → Puts r l at (now (out .entry)) (now (out .exit)) (tokenOut (inside rs mode env indent) kind (now (s .entry)) (carrying flag l))) ⌝ }
 {
-    let mode = c.mode;
-    let env = c.env;
-    let indent = c.indent;
-    let flag = c.skip_next_space;
-    let a = put_turn(out, at, kind, s, rules, index, mode, env, indent, flag, act);
-    settled(a, row, c)
+    match kind {
+        TOKEN_WHITE_SPACE => put_space(out, at, s, flag),
+        TOKEN_WORD => put_letters(out, at, s, mode),
+        _ => put_token(out, at, kind, s, rules, index, mode, env, indent, flag),
+    }
+}
+
+// Whether a loop converts each token, with nothing around it, and goes on as it is.
+fn is_steady(how: Loop) -> bool
+    ensures { λ r. ⌜ r ≡ isSteady how ⌝ }
+{
+    match how {
+        Loop::Plain => true,
+        Loop::Curly(blank) => !blank,
+        Loop::Spaced => false,
+        Loop::Attached(_) => false,
+        Loop::Greedy => false,
+        Loop::Separated => false,
+        Loop::Bracketed => false,
+        Loop::Dollars => false,
+        Loop::Arguments(_) => false,
+        Loop::Named(_) => false,
+        Loop::Inside => true,
+        Loop::Figure => false,
+        Loop::Table(_) => false,
+    }
+}
+
+// A run up to here.
+fn ran(rows: usize, text: usize, at: usize, flag: bool, how: Loop, refusal: u8) -> Run
+    ensures { λ r. ⌜ r ≡ runOf rows text at flag how refusal ⌝ }
+{
+    Run {
+        rows,
+        text,
+        at,
+        flag,
+        how,
+        refusal,
+    }
+}
+
+// Tokens up to the next node, in a steady loop.
+fn put_run(
+    out: &mut [u8],
+    at: usize,
+    rows: &[u8],
+    text: &[u8],
+    rules: &[u8],
+    index: &[u32],
+    mode: LaTeXMode,
+    env: LaTeXEnv,
+    indent: usize,
+    flag: bool,
+    how: Loop,
+) -> Run
+    requires { ⌜ (at ≤ cap) × (length (now out) ≤ cap) ⌝ }
+    requires { ⌜ SomeRules (now rules) (now index) ⌝ }
+    requires { ⌜ TokensGiven (now rows) (now text) how ⌝ }
+    requires { ⌜ isSteady how ≡ true ⌝ }
+    ensures { λ r. ⌜ ((rs : List Rule) → rulesOf (now (rules .entry)) ≡ some rs → Runs (inside rs mode env indent) flag how (now (rows .entry)) (now (text .entry)) at (now (out .entry)) r (now (out .exit))) ⌝ }
+{
+    let mut w = at;
+    let mut f = flag;
+    let mut i = 0;
+    let mut j = 0;
+    while i < rows.len() {
+        if rows[i + 1] != 1 {
+            return ran(i, j, w, f, how, 0);
+        }
+        let kind = rows[i];
+        let u = j + mitex_syntax::number(rows, i);
+        let s = &text[j..u];
+        let t = put_next(out, w, kind, s, rules, index, mode, env, indent, f);
+        if t.refusal != 0 {
+            return ran(i, j, w, f, how, t.refusal);
+        }
+        w = t.at;
+        f = t.flag;
+        i += 8;
+        j = u;
+    }
+    ran(i, j, w, f, how, 0)
+}
+
+// The first token alone, by what the loop does with it.
+fn put_one(
+    out: &mut [u8],
+    at: usize,
+    rows: &[u8],
+    text: &[u8],
+    rules: &[u8],
+    index: &[u32],
+    mode: LaTeXMode,
+    env: LaTeXEnv,
+    indent: usize,
+    flag: bool,
+    how: Loop,
+) -> Run
+    requires { ⌜ (at ≤ cap) × (length (now out) ≤ cap) ⌝ }
+    requires { ⌜ SomeRules (now rules) (now index) ⌝ }
+    requires { ⌜ TokensGiven (now rows) (now text) how ⌝ }
+    ensures { λ r. ⌜ ((rs : List Rule) → rulesOf (now (rules .entry)) ≡ some rs → Runs (inside rs mode env indent) flag how (now (rows .entry)) (now (text .entry)) at (now (out .entry)) r (now (out .exit))) ⌝ }
+{
+    let kind = rows[0];
+    let u = mitex_syntax::number(rows, 0);
+    let s = &text[..u];
+    let act = act_of(how, &rows[..8], s, &rows[8..]);
+    let t = put_turn(out, at, kind, s, rules, index, mode, env, indent, flag, act);
+    if t.refusal != 0 {
+        return ran(0, 0, at, flag, how, t.refusal);
+    }
+    let next = next_loop(how, kind, act);
+    ran(8, u, t.at, t.flag, next, 0)
+}
+
+// Tokens behind each other, the first of these rows among them.
+pub fn put_tokens(
+    out: &mut [u8],
+    at: usize,
+    rows: &[u8],
+    text: &[u8],
+    rules: &[u8],
+    index: &[u32],
+    mode: LaTeXMode,
+    env: LaTeXEnv,
+    indent: usize,
+    flag: bool,
+    how: Loop,
+) -> Run
+    requires { ⌜ (at ≤ cap) × (length (now out) ≤ cap) ⌝ }
+    requires { ⌜ SomeRules (now rules) (now index) ⌝ }
+    requires { ⌜ TokensGiven (now rows) (now text) how ⌝ }
+    ensures { λ r. ⌜ ((rs : List Rule) → rulesOf (now (rules .entry)) ≡ some rs → Runs (inside rs mode env indent) flag how (now (rows .entry)) (now (text .entry)) at (now (out .entry)) r (now (out .exit))) ⌝ }
+{
+    if is_steady(how) {
+        return put_run(
+            out,
+            at,
+            rows,
+            text,
+            rules,
+            index,
+            mode,
+            env,
+            indent,
+            flag,
+            how,
+        );
+    }
+    put_one(
+        out,
+        at,
+        rows,
+        text,
+        rules,
+        index,
+        mode,
+        env,
+        indent,
+        flag,
+        how,
+    )
 }

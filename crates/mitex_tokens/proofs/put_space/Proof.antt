@@ -1,6 +1,5 @@
 -- `mitex_tokens::put_space` meets its contract: by the flag.
 use mathlib.Core.Path.{refl, ap}
-use mathlib.Core.Bool.{true, false}
 use Rattle.text.proofs.Writing.{wrote-nil}
 use Rattle.mitex_state.specs.Tokens.{whiteSpace}
 use Rattle.mitex_tokens.specs.Puts.{carrying}

@@ -1,0 +1,5 @@
+pub mod Wholes
+pub mod Parting
+pub mod Meaning
+pub mod Commanding
+pub mod Environing

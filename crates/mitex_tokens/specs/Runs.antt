@@ -1,0 +1,51 @@
+-- Tokens that stand one behind the other, as children in a loop: they are worked out together, without the converter, whose label none
+-- of them touches.
+use mathlib.Core.Path.{_≡_}
+use mathlib.Core.Bool.{Bool}
+use mathlib.Core.List.{List}
+use Prim.Native.Nat.{ℕ, _+_, _/_, _≤_, _<_}
+use lib.ListN.{length, getD, drop}
+use Rattle.text.specs.Writing.{cap, Wrote}
+use Rattle.mitex_syntax.specs.Tree.{Forest, sizes}
+use Rattle.mitex_syntax.specs.Spells.{SpellsAll}
+use Rattle.mitex_state.specs.Outcome.{Context, Label, after}
+use Rattle.mitex_state.specs.Outcome.Outcome.{refused}
+use Rattle.mitex_state.specs.Children.{each}
+use Rattle.mitex_state.specs.Conversion.{convert}
+use Rattle.mitex_loops.specs.Given.{numberOf}
+use Rattle.mitex_state.specs.declared.Loop.{Loop}
+use Rattle.mitex_tokens.specs.Puts.{carrying}
+use Rattle.mitex_tokens.specs.declared.Run.{Run}
+
+-- what is asked: some elements are spelt, of which the first is a token, in bytes that are few enough to be counted
+pub record TokensGiven (rows text : List ℕ) (how : Loop) : Type 0 where
+  pub forest : Forest
+  pub spells : SpellsAll forest rows text
+  pub few : length rows < cap
+  pub short : length text < cap
+  pub some : 0 < length rows
+  pub token : getD rows 1 0 ≡ 1
+  pub counts : numberOf how + length rows ≤ cap
+
+-- the loop over f goes on behind the run: with a text written, over the elements behind it, in the run's state and flag
+pub record Gone (x : Context) (flag : Bool) (how : Loop) (f : Forest) (n : ℕ) (rows text : List ℕ) (at : ℕ) (out : List ℕ) (r : Run) (out′ : List ℕ) : Type 0 where
+  pub forest : Forest
+  pub spells : SpellsAll forest (drop (r .rows) rows) (drop (r .text) text)
+  pub fits : sizes forest ≤ sizes f
+  pub written : List ℕ
+  pub wrote : Wrote at out written (r .at) out′
+  pub is :
+      (l : Label) (o : ℕ) → each (convert n x) o how f (carrying flag l)
+      ≡ after written (each (convert n x) (o + r .rows / 8) (r .how) forest (carrying (r .flag) l))
+
+-- what is promised: a run of at least one token, or the refusal of the token behind the run; whatever elements are spelt, at every level
+-- that is high enough
+pub record Runs (x : Context) (flag : Bool) (how : Loop) (rows text : List ℕ) (at : ℕ) (out : List ℕ) (r : Run) (out′ : List ℕ) : Type 0 where
+  pub high : r .rows ≤ length rows
+  pub stop : r .text ≤ length text
+  pub counts : numberOf (r .how) ≤ numberOf how + r .rows
+  pub some : r .refusal ≡ 0 → 8 ≤ r .rows
+  pub refuses :
+      (r .refusal ≡ 0 → ⊥) → (f : Forest) (n : ℕ) (l : Label) (o : ℕ) → SpellsAll f rows text → sizes f ≤ n
+      → each (convert n x) o how f (carrying flag l) ≡ refused (r .refusal) (o + r .rows / 8)
+  pub goes : r .refusal ≡ 0 → (f : Forest) (n : ℕ) → SpellsAll f rows text → sizes f ≤ n → Gone x flag how f n rows text at out r out′
