@@ -1,114 +1,259 @@
 -- The needs of `each`.
 use mathlib.Core.Path.{refl, sym, ap, _∙_}
+use lib.ListN.{length}
+use Prim.Native.Nat.{ℕ, _+_, _-_, _/_}
 use borrow.Author.Tests.{not-true, not-false}
 use Rattle.text.proofs.Writing.{wrote-low}
 use Rattle.mitex_state.specs.Contract.{placeOf}
+use Rattle.mitex_state.specs.Parts.{rowsIn, textIn}
 use Rattle.mitex.proofs.Rooms.{room-on, room-between, between-length}
-use Rattle.mitex.proofs.Walking.{Looping, looping-start, loop-room, loop-row, child-spans, child, child-given, child-behind, loop-refused, loop-next, turned-passed, turned-refused, turned, tokens-given, run-high, run-stop, run-some, run-refused, run-next, loop-ended, converts-good}
+use Rattle.mitex.proofs.Walking.{Looping, Child, looping-start, loop-room, loop-row, child-spans, child, child-given, child-behind, loop-refused, loop-next, turned-passed, turned-refused, turned, tokens-given, run-high, run-stop, run-some, run-refused, run-next, loop-ended, converts-good}
 use Rattle.mitex.proofs.Planning.{planned-at, planned-refused}
 use native.Mathlib.Omega.{arith}
-use Prim.Native.Nat.{ℕ, _-_}
-use lib.ListN.{length}
 use borrow.Author.Needs.{needs}
 use Rattle.mitex.proofs.each.Reads as each
 use Rattle.mitex.proofs.+clause_lr+command+command_color+convert+curly_group+each+env_body+env_figure+env_table+environment+formula+normal_command+twice.Lts-each as each-lts
 use Rattle.mitex.proofs.+clause_lr+command+command_color+convert+curly_group+each+env_body+env_figure+env_table+environment+formula+normal_command+twice.Proof.Setup.{each-at, each-calls}
 
 abbrev pub each-Inv-loop : each-lts.InvT-loop
-each-Inv-loop out₀ at rows text row rules index c plan a b x y mode env indent elements words first w₀ d₀ l₀ i₀ j₀ out w d l i j = Looping rules index elements words first out₀ w₀ d₀ l₀ out w d l i j
+each-Inv-loop out₀ at rows text row rules index c plan a b x y mode env indent elements words first w₀ d₀ l₀ i₀ j₀ out w d l i j =
+    Looping rules index elements words first out₀ w₀ d₀ l₀ out w d l i j
 
 abbrev pub each-μ-loop : each-lts.MeasureT-loop
-each-μ-loop out₀ at rows text row rules index c plan a b x y mode env indent elements words first w₀ d₀ l₀ i₀ j₀ out w d l i j = length elements - i
+each-μ-loop out₀ at rows text row rules index c plan a b x y mode env indent elements words first w₀ d₀ l₀ i₀ j₀ out w d l i j = length
+    elements - i
+
+-- a place in a turn of the loop, behind the measuring of the child; the loop's head before it, and the function's entry
+abbrev Here : ℕ → Type 0
+Here t = each-lts.After-span-at (each-calls t) (each-at t) each.Post each-Inv-loop each-μ-loop
+
+abbrev head : (t : ℕ) → Here t → each-lts.At-loop (each-calls t) (each-at t) each.Post each-Inv-loop each-μ-loop
+head t c = c .before .before .before .before
+
+abbrev entry : (t : ℕ) → Here t → each-lts.Start (each-calls t) (each-at t) each.Post each-Inv-loop each-μ-loop
+entry t c = let at-part = head t c .before .before .before .before in at-part .before .before .before .before .before .before
+
+-- the child there
+child-here :
+    (t : ℕ) (c : Here t)
+    → Child (rowsIn (entry t c .args .plan .part) (entry t c .args .rows .now))
+    (textIn (entry t c .args .plan .part) (entry t c .args .text .now))
+    (head t c .loop .out) (head t c .loop .d) (head t c .loop .i) (head t c .loop .j) (c .span-at .result .rows)
+    (c .span-at .result .text) (head t c .loop .w)
+    (entry t c .args .row + 1 + entry t c .args .plan .part .i / 8)
+child-here t c = child (head t c .loop .inv) (c .before .before .before .loop-test .taken) _ _ (c .span-at .ensures .0)
+    (c .span-at .ensures .1)
 
 each-sub-elements : (t : ℕ) → each-lts.Need-sub-elements (each-calls t) (each-at t) each.Post each-Inv-loop each-μ-loop
-each-sub-elements t c = c .before .before .before .before .before .before .pre .1 .1 .1 .inside .low
+each-sub-elements t c =
+    let at-slice-known = c .before .before .before .before .before in
+    let start = at-slice-known .before in
+    start .pre .1 .1 .1 .inside .low
 
 each-part-elements-start : (t : ℕ) → each-lts.Need-part-elements-start (each-calls t) (each-at t) each.Post each-Inv-loop each-μ-loop
-each-part-elements-start t c = c .before .before .before .before .before .before .pre .1 .1 .1 .inside .low
+each-part-elements-start t c =
+    let at-slice-known = c .before .before .before .before .before in
+    let start = at-slice-known .before in
+    start .pre .1 .1 .1 .inside .low
 
 each-part-elements-end : (t : ℕ) → each-lts.Need-part-elements-end (each-calls t) (each-at t) each.Post each-Inv-loop each-μ-loop
-each-part-elements-end t c = c .before .before .before .before .before .before .pre .1 .1 .1 .inside .high
+each-part-elements-end t c =
+    let at-slice-known = c .before .before .before .before .before in
+    let start = at-slice-known .before in
+    start .pre .1 .1 .1 .inside .high
 
 each-sub-words : (t : ℕ) → each-lts.Need-sub-words (each-calls t) (each-at t) each.Post each-Inv-loop each-μ-loop
-each-sub-words t c = c .before .before .before .before .before .before .before .pre .1 .1 .1 .inside .begun
+each-sub-words t c =
+    let at-shared-slice-known = c .before .before .before .before .before in
+    let start = at-shared-slice-known .before .before in
+    start .pre .1 .1 .1 .inside .begun
 
 each-part-words-start : (t : ℕ) → each-lts.Need-part-words-start (each-calls t) (each-at t) each.Post each-Inv-loop each-μ-loop
-each-part-words-start t c = c .before .before .before .before .before .before .before .pre .1 .1 .1 .inside .begun
+each-part-words-start t c =
+    let at-shared-slice-known = c .before .before .before .before .before in
+    let start = at-shared-slice-known .before .before in
+    start .pre .1 .1 .1 .inside .begun
 
 each-part-words-end : (t : ℕ) → each-lts.Need-part-words-end (each-calls t) (each-at t) each.Post each-Inv-loop each-μ-loop
-each-part-words-end t c = c .before .before .before .before .before .before .before .pre .1 .1 .1 .inside .stop
+each-part-words-end t c =
+    let at-shared-slice-known = c .before .before .before .before .before in
+    let start = at-shared-slice-known .before .before in
+    start .pre .1 .1 .1 .inside .stop
 
 each-add-first : (t : ℕ) → each-lts.Need-add-first (each-calls t) (each-at t) each.Post each-Inv-loop each-μ-loop
-each-add-first t c = omega (arith, c .before .before .before .before .before .before .before .before .pre .1 .0 .low)
+each-add-first t c =
+    let at-shared-slice-known2 = c .before .before .before .before .before in
+    let start = at-shared-slice-known2 .before .before .before in
+    omega (arith, start .pre .1 .0 .low)
 
 each-add-first-2 : (t : ℕ) → each-lts.Need-add-first-2 (each-calls t) (each-at t) each.Post each-Inv-loop each-μ-loop
-each-add-first-2 t c = omega (arith, c .before .before .before .before .before .before .before .before .pre .1 .0 .low, c .before .before .before .before .before .before .before .before .pre .1 .1 .1 .inside .low, c .before .before .before .before .before .before .before .before .pre .1 .1 .1 .inside .high)
+each-add-first-2 t c =
+    let at-shared-slice-known2 = c .before .before .before .before .before in
+    let start = at-shared-slice-known2 .before .before .before in
+    omega (arith, start .pre .1 .0 .low, start .pre .1 .1 .1 .inside .low, start .pre .1 .1 .1 .inside .high)
 
 each-placed-requires : (t : ℕ) → each-lts.Need-placed-requires (each-calls t) (each-at t) each.Post each-Inv-loop each-μ-loop
 each-placed-requires t c κs = search needs
 
 each-loop-holds : (t : ℕ) → each-lts.Need-loop-holds (each-calls t) (each-at t) each.Post each-Inv-loop each-μ-loop
-each-loop-holds t c = let g = c .before .before .before .before .before .before .before .before .before .pre .1 .1 .1 in let e = c .placed .ensures in looping-start (room-between (c .before .before .before .before .before .before .before .before .before .pre .1 .0) (c .before .before .before .before .before .before .before .before .before .args .plan .part) (g .inside) (c .placed .result) (omega (arith, ap (λ y. y .indent) e, g .near)) (omega (arith, ap (λ y. y .«label_len») e, c .before .before .before .before .before .before .before .before .before .pre .1 .0 .label))) (c .before .before .before .before .before .before .before .before .before .pre .1 .1 .0) (record { forest = g .forest; spells = g .spells }) (g .counts)
+each-loop-holds t c =
+    let at-shared-slice-known3 = c .before .before .before .before .before in
+    let start = at-shared-slice-known3 .before .before .before .before in
+    let g = start .pre .1 .1 .1 in let e = c .placed .ensures in looping-start
+    (room-between (start .pre .1 .0) (start .args .plan .part) (g .inside) (c .placed .result)
+    (omega (arith, ap (λ y. y .indent) e, g .near)) (omega (arith, ap (λ y. y .«label_len») e, start .pre .1 .0 .label)))
+    (start .pre .1 .1 .0) (record { forest = g .forest; spells = g .spells }) (g .counts)
 
 each-add-if1 : (t : ℕ) → each-lts.Need-add-if1 (each-calls t) (each-at t) each.Post each-Inv-loop each-μ-loop
-each-add-if1 t c = omega (arith, c .loop-test .taken, c .before .loop .inv .room .few)
+each-add-if1 t c =
+    let at-loop = c .before in
+    omega (arith, c .loop-test .taken, at-loop .loop .inv .room .few)
 
 each-shared-slice-read-if1 : (t : ℕ) → each-lts.Need-shared-slice-read-if1 (each-calls t) (each-at t) each.Post each-Inv-loop each-μ-loop
-each-shared-slice-read-if1 t c = omega (arith, loop-row (c .before .before .loop .inv) (c .before .loop-test .taken))
+each-shared-slice-read-if1 t c =
+    let at-loop = c .before in
+    let at-loop = at-loop .before in
+    omega (arith, loop-row (at-loop .loop .inv) (at-loop .loop-test .taken))
 
 each-sub-put-tokens : (t : ℕ) → each-lts.Need-sub-put-tokens (each-calls t) (each-at t) each.Post each-Inv-loop each-μ-loop
-each-sub-put-tokens t c = omega (arith, c .before .before .before .loop-test .taken)
+each-sub-put-tokens t c =
+    let at-loop = c .before .before .before in
+    omega (arith, at-loop .loop-test .taken)
 
 each-part-put-tokens-start : (t : ℕ) → each-lts.Need-part-put-tokens-start (each-calls t) (each-at t) each.Post each-Inv-loop each-μ-loop
-each-part-put-tokens-start t c = omega (arith, c .before .before .before .loop-test .taken)
+each-part-put-tokens-start t c =
+    let at-loop = c .before .before .before in
+    omega (arith, at-loop .loop-test .taken)
 
 each-part-put-tokens-end : (t : ℕ) → each-lts.Need-part-put-tokens-end (each-calls t) (each-at t) each.Post each-Inv-loop each-μ-loop
 each-part-put-tokens-end t c = omega arith
 
 each-sub-put-tokens-2 : (t : ℕ) → each-lts.Need-sub-put-tokens-2 (each-calls t) (each-at t) each.Post each-Inv-loop each-μ-loop
-each-sub-put-tokens-2 t c = c .before .before .before .before .before .loop .inv .stands .begun
+each-sub-put-tokens-2 t c =
+    let at-loop = c .before .before .before .before .before in
+    at-loop .loop .inv .stands .begun
 
-each-part-put-tokens-start-2 : (t : ℕ) → each-lts.Need-part-put-tokens-start-2 (each-calls t) (each-at t) each.Post each-Inv-loop each-μ-loop
-each-part-put-tokens-start-2 t c = c .before .before .before .before .before .loop .inv .stands .begun
+each-part-put-tokens-start-2 : (t : ℕ) → each-lts.Need-part-put-tokens-start-2 (each-calls t) (each-at t) each.Post each-Inv-loop
+    each-μ-loop
+each-part-put-tokens-start-2 t c =
+    let at-loop = c .before .before .before .before .before in
+    at-loop .loop .inv .stands .begun
 
 each-part-put-tokens-end-2 : (t : ℕ) → each-lts.Need-part-put-tokens-end-2 (each-calls t) (each-at t) each.Post each-Inv-loop each-μ-loop
 each-part-put-tokens-end-2 t c = omega arith
 
 each-put-tokens-requires : (t : ℕ) → each-lts.Need-put-tokens-requires (each-calls t) (each-at t) each.Post each-Inv-loop each-μ-loop
-each-put-tokens-requires t c κs = ((c .before .before .before .before .before .before .loop .inv .stands .place, loop-room (c .before .before .before .before .before .before .loop .inv)), (c .before .before .before .before .before .before .loop .inv .some-rules, tokens-given (c .before .before .before .before .before .before .loop .inv) (c .before .before .before .before .before .loop-test .taken) (c .before .before .before .if1 .taken)))
+each-put-tokens-requires t c κs =
+    let at-if1 = c .before .before .before in
+    let at-loop = at-if1 .before .before in
+    let at-loop = at-loop .before in (
+      (at-loop .loop .inv .stands .place, loop-room (at-loop .loop .inv)),
+      (at-loop .loop .inv .some-rules, tokens-given (at-loop .loop .inv) (at-loop .loop-test .taken) (at-if1 .if1 .taken)),
+    )
 
 each-add-i : (t : ℕ) → each-lts.Need-add-i (each-calls t) (each-at t) each.Post each-Inv-loop each-μ-loop
-each-add-i t c = omega (arith, run-high (c .before .before .before .before .before .before .before .before .before .before .loop .inv) (ap placeOf (c .before .before .before .before .before .before .before .before .before .before .before .placed .ensures)) (c .before .before .before .put-tokens .ensures), c .before .before .before .before .before .before .before .before .before .before .loop .inv .room .few)
+each-add-i t c =
+    let at-put-tokens = c .before .before .before in
+    let at-shared-slice-known5 = at-put-tokens .before .before .before .before .before in
+    let at-loop = at-shared-slice-known5 .before .before in
+    let at-placed = at-loop .before in
+    omega (
+      arith,
+      run-high (at-loop .loop .inv) (ap placeOf (at-placed .placed .ensures)) (at-put-tokens .put-tokens .ensures),
+      at-loop .loop .inv .room .few,
+    )
 
 each-add-j : (t : ℕ) → each-lts.Need-add-j (each-calls t) (each-at t) each.Post each-Inv-loop each-μ-loop
-each-add-j t c = omega (arith, run-stop (c .before .before .before .before .before .before .before .before .before .before .before .loop .inv) (ap placeOf (c .before .before .before .before .before .before .before .before .before .before .before .before .placed .ensures)) (c .before .before .before .before .put-tokens .ensures), c .before .before .before .before .before .before .before .before .before .before .before .loop .inv .room .short)
+each-add-j t c =
+    let at-put-tokens = c .before .before .before .before in
+    let at-shared-slice-known5 = at-put-tokens .before .before .before .before .before in
+    let at-loop = at-shared-slice-known5 .before .before in
+    let at-placed = at-loop .before in
+    omega (
+      arith,
+      run-stop (at-loop .loop .inv) (ap placeOf (at-placed .placed .ensures)) (at-put-tokens .put-tokens .ensures),
+      at-loop .loop .inv .room .short,
+    )
 
 each-add-refuse : (t : ℕ) → each-lts.Need-add-refuse (each-calls t) (each-at t) each.Post each-Inv-loop each-μ-loop
-each-add-refuse t c = omega (arith, run-high (c .before .before .before .before .before .before .before .before .before .before .before .before .before .loop .inv) (ap placeOf (c .before .before .before .before .before .before .before .before .before .before .before .before .before .before .placed .ensures)) (c .before .before .before .before .before .before .put-tokens .ensures), c .before .before .before .before .before .before .before .before .before .before .before .before .before .loop .inv .room .low)
+each-add-refuse t c =
+    let at-out = c .before .before .before .before .before in
+    let at-put-tokens = at-out .before in
+    let at-shared-slice-known5 = at-put-tokens .before .before .before .before .before in
+    let at-loop = at-shared-slice-known5 .before .before in
+    let at-placed = at-loop .before in
+    omega (
+      arith,
+      run-high (at-loop .loop .inv) (ap placeOf (at-placed .placed .ensures)) (at-put-tokens .put-tokens .ensures),
+      at-loop .loop .inv .room .low,
+    )
 
 each-refuse-requires : (t : ℕ) → each-lts.Need-refuse-requires (each-calls t) (each-at t) each.Post each-Inv-loop each-μ-loop
 each-refuse-requires t c κs = search needs
 
 each-same-length : (t : ℕ) → each-lts.Need-same-length (each-calls t) (each-at t) each.Post each-Inv-loop each-μ-loop
-each-same-length t c = c .before .before .before .before .before .before .before .put-tokens .kept .0 ∙ c .before .before .before .before .before .before .before .before .before .before .before .before .before .before .loop .inv .stands .same
+each-same-length t c =
+    let at-slice-known2 = c .before .before .before .before .before in
+    let at-put-tokens = at-slice-known2 .before .before in
+    let at-shared-slice-known5 = at-put-tokens .before .before .before .before .before in
+    let at-loop = at-shared-slice-known5 .before .before in
+    at-put-tokens .put-tokens .kept .0 ∙ at-loop .loop .inv .stands .same
 
 each-returns : (t : ℕ) → each-lts.Need-returns (each-calls t) (each-at t) each.Post each-Inv-loop each-μ-loop
-each-returns t c = λ rs ready g sp n h. planned-refused (c .before .before .before .before .before .before .before .before .before .before .before .before .before .before .before .before .before .before .before .before .before .before .before .before .args .c) (c .before .before .before .before .before .before .before .before .before .before .before .before .before .before .before .before .before .before .before .before .before .before .before .before .args .plan) (c .before .before .before .before .before .before .before .before .before .before .before .before .before .before .before .placed .ensures) rs n g (run-refused (c .before .before .before .before .before .before .before .before .before .before .before .before .before .before .loop .inv) (ap placeOf (c .before .before .before .before .before .before .before .before .before .before .before .before .before .before .before .placed .ensures)) (c .before .before .before .before .before .before .before .put-tokens .ensures) rs ready g sp n h (c .before .if2 .taken) (c .refuse .ensures)) (λ z. c .before .if2 .taken (sym (c .refuse .ensures .number) ∙ z))
+each-returns t c =
+    let at-if2 = c .before in
+    let at-out = at-if2 .before .before .before .before .before in
+    let at-put-tokens = at-out .before in
+    let at-shared-slice-known5 = at-put-tokens .before .before .before .before .before in
+    let at-loop = at-shared-slice-known5 .before .before in
+    let at-placed = at-loop .before in
+    let at-shared-slice-known3 = at-placed .before .before .before .before .before in
+    let start = at-shared-slice-known3 .before .before .before .before in
+    λ rs ready g sp n h. planned-refused (start .args .c) (start .args .plan) (at-placed .placed .ensures) rs n g
+    (run-refused (at-loop .loop .inv) (ap placeOf (at-placed .placed .ensures)) (at-put-tokens .put-tokens .ensures) rs ready g sp n h
+    (at-if2 .if2 .taken) (c .refuse .ensures)) (λ z. at-if2 .if2 .taken (sym (c .refuse .ensures .number) ∙ z))
 
 each-loop-less : (t : ℕ) → each-lts.Need-loop-less (each-calls t) (each-at t) each.Post each-Inv-loop each-μ-loop
-each-loop-less t c = omega (arith, run-some (c .before .before .before .before .before .before .before .before .before .before .before .before .before .loop .inv) (ap placeOf (c .before .before .before .before .before .before .before .before .before .before .before .before .before .before .placed .ensures)) (c .before .before .before .before .before .before .put-tokens .ensures) (c .if2 .left), run-high (c .before .before .before .before .before .before .before .before .before .before .before .before .before .loop .inv) (ap placeOf (c .before .before .before .before .before .before .before .before .before .before .before .before .before .before .placed .ensures)) (c .before .before .before .before .before .before .put-tokens .ensures))
+each-loop-less t c =
+    let at-out = c .before .before .before .before .before in
+    let at-put-tokens = at-out .before in
+    let at-shared-slice-known5 = at-put-tokens .before .before .before .before .before in
+    let at-loop = at-shared-slice-known5 .before .before in
+    let at-placed = at-loop .before in
+    omega (
+      arith,
+      run-some (at-loop .loop .inv) (ap placeOf (at-placed .placed .ensures)) (at-put-tokens .put-tokens .ensures)
+          (c .if2 .left),
+      run-high (at-loop .loop .inv) (ap placeOf (at-placed .placed .ensures)) (at-put-tokens .put-tokens .ensures),
+    )
 
 each-loop-again : (t : ℕ) → each-lts.Need-loop-again (each-calls t) (each-at t) each.Post each-Inv-loop each-μ-loop
-each-loop-again t c = run-next (c .before .before .before .before .before .before .before .before .before .before .before .before .before .loop .inv) (ap placeOf (c .before .before .before .before .before .before .before .before .before .before .before .before .before .before .placed .ensures)) (c .before .before .before .before .before .before .put-tokens .ensures) (c .if2 .left) (c .before .before .before .before .before .before .put-tokens .kept .0)
+each-loop-again t c =
+    let at-out = c .before .before .before .before .before in
+    let at-put-tokens = at-out .before in
+    let at-shared-slice-known5 = at-put-tokens .before .before .before .before .before in
+    let at-loop = at-shared-slice-known5 .before .before in
+    let at-placed = at-loop .before in
+    run-next (at-loop .loop .inv) (ap placeOf (at-placed .placed .ensures)) (at-put-tokens .put-tokens .ensures) (c .if2 .left)
+    (at-put-tokens .put-tokens .kept .0)
 
 each-span-at-requires : (t : ℕ) → each-lts.Need-span-at-requires (each-calls t) (each-at t) each.Post each-Inv-loop each-μ-loop
-each-span-at-requires t c κs = child-spans (c .before .before .before .loop .inv) (c .before .before .loop-test .taken)
+each-span-at-requires t c κs =
+    let at-loop = c .before .before in
+    let at-loop = at-loop .before in
+    child-spans (at-loop .loop .inv) (at-loop .loop-test .taken)
 
 each-add-e : (t : ℕ) → each-lts.Need-add-e (each-calls t) (each-at t) each.Post each-Inv-loop each-μ-loop
-each-add-e t c = let x = child (c .before .before .before .before .before .loop .inv) (c .before .before .before .before .loop-test .taken) _ _ (c .before .span-at .ensures .0) (c .before .span-at .ensures .1) in omega (arith, x .end, c .before .before .before .before .before .loop .inv .room .few)
+each-add-e t c =
+    let at-span-at = c .before in
+    let at-loop = at-span-at .before .before .before .before in
+    let x = child-here t (at-span-at) in omega (arith, x .end, at-loop .loop .inv .room .few)
 
 each-add-u : (t : ℕ) → each-lts.Need-add-u (each-calls t) (each-at t) each.Post each-Inv-loop each-μ-loop
-each-add-u t c = let x = child (c .before .before .before .before .before .before .loop .inv) (c .before .before .before .before .before .loop-test .taken) _ _ (c .before .before .span-at .ensures .0) (c .before .before .span-at .ensures .1) in omega (arith, x .stop, c .before .before .before .before .before .before .loop .inv .room .short)
+each-add-u t c =
+    let at-span-at = c .before .before in
+    let at-loop = at-span-at .before .before .before .before in
+    let x = child-here t (at-span-at) in omega (arith, x .stop, at-loop .loop .inv .room .short)
 
 each-sub-act-of : (t : ℕ) → each-lts.Need-sub-act-of (each-calls t) (each-at t) each.Post each-Inv-loop each-μ-loop
 each-sub-act-of t c = omega arith
@@ -117,7 +262,9 @@ each-part-act-of-start : (t : ℕ) → each-lts.Need-part-act-of-start (each-cal
 each-part-act-of-start t c = omega arith
 
 each-part-act-of-end : (t : ℕ) → each-lts.Need-part-act-of-end (each-calls t) (each-at t) each.Post each-Inv-loop each-μ-loop
-each-part-act-of-end t c = let x = child (c .before .before .before .before .before .before .loop .inv) (c .before .before .before .before .before .loop-test .taken) _ _ (c .before .before .span-at .ensures .0) (c .before .before .span-at .ensures .1) in omega (arith, x .end)
+each-part-act-of-end t c =
+    let at-span-at = c .before .before in
+    let x = child-here t (at-span-at) in omega (arith, x .end)
 
 each-sub-act-of-2 : (t : ℕ) → each-lts.Need-sub-act-of-2 (each-calls t) (each-at t) each.Post each-Inv-loop each-μ-loop
 each-sub-act-of-2 t c = omega arith
@@ -126,19 +273,33 @@ each-part-act-of-start-2 : (t : ℕ) → each-lts.Need-part-act-of-start-2 (each
 each-part-act-of-start-2 t c = omega arith
 
 each-part-act-of-end-2 : (t : ℕ) → each-lts.Need-part-act-of-end-2 (each-calls t) (each-at t) each.Post each-Inv-loop each-μ-loop
-each-part-act-of-end-2 t c = let x = child (c .before .before .before .before .before .before .before .loop .inv) (c .before .before .before .before .before .before .loop-test .taken) _ _ (c .before .before .before .span-at .ensures .0) (c .before .before .before .span-at .ensures .1) in omega (arith, x .stop)
+each-part-act-of-end-2 t c =
+    let at-span-at = c .before .before .before in
+    let x = child-here t (at-span-at) in omega (arith, x .stop)
 
 each-sub-act-of-3 : (t : ℕ) → each-lts.Need-sub-act-of-3 (each-calls t) (each-at t) each.Post each-Inv-loop each-μ-loop
-each-sub-act-of-3 t c = let x = child (c .before .before .before .before .before .before .before .before .loop .inv) (c .before .before .before .before .before .before .before .loop-test .taken) _ _ (c .before .before .before .before .span-at .ensures .0) (c .before .before .before .before .span-at .ensures .1) in omega (arith, x .end)
+each-sub-act-of-3 t c =
+    let at-span-at = c .before .before .before .before in
+    let x = child-here t (at-span-at) in omega (arith, x .end)
 
 each-part-act-of-start-3 : (t : ℕ) → each-lts.Need-part-act-of-start-3 (each-calls t) (each-at t) each.Post each-Inv-loop each-μ-loop
-each-part-act-of-start-3 t c = let x = child (c .before .before .before .before .before .before .before .before .loop .inv) (c .before .before .before .before .before .before .before .loop-test .taken) _ _ (c .before .before .before .before .span-at .ensures .0) (c .before .before .before .before .span-at .ensures .1) in omega (arith, x .end)
+each-part-act-of-start-3 t c =
+    let at-span-at = c .before .before .before .before in
+    let x = child-here t (at-span-at) in omega (arith, x .end)
 
 each-part-act-of-end-3 : (t : ℕ) → each-lts.Need-part-act-of-end-3 (each-calls t) (each-at t) each.Post each-Inv-loop each-μ-loop
 each-part-act-of-end-3 t c = omega arith
 
 each-act-of-requires : (t : ℕ) → each-lts.Need-act-of-requires (each-calls t) (each-at t) each.Post each-Inv-loop each-μ-loop
-each-act-of-requires t c κs = (child-given (c .before .before .before .before .before .before .before .before .before .loop .inv) (c .before .before .before .before .before .before .before .before .loop-test .taken) _ _ (c .before .before .before .before .before .span-at .ensures .0) (c .before .before .before .before .before .span-at .ensures .1), child-behind (c .before .before .before .before .before .before .before .before .before .loop .inv) (c .before .before .before .before .before .before .before .before .loop-test .taken) _ _ (c .before .before .before .before .before .span-at .ensures .0) (c .before .before .before .before .before .span-at .ensures .1))
+each-act-of-requires t c κs =
+    let at-span-at = c .before .before .before .before .before in
+    let at-loop = at-span-at .before .before .before in
+    let at-loop = at-loop .before in (
+      child-given (at-loop .loop .inv) (at-loop .loop-test .taken) _ _ (at-span-at .span-at .ensures .0)
+          (at-span-at .span-at .ensures .1),
+      child-behind (at-loop .loop .inv) (at-loop .loop-test .taken) _ _
+          (at-span-at .span-at .ensures .0) (at-span-at .span-at .ensures .1),
+    )
 
 each-sub-put-before : (t : ℕ) → each-lts.Need-sub-put-before (each-calls t) (each-at t) each.Post each-Inv-loop each-μ-loop
 each-sub-put-before t c = omega arith
@@ -147,25 +308,59 @@ each-part-put-before-start : (t : ℕ) → each-lts.Need-part-put-before-start (
 each-part-put-before-start t c = omega arith
 
 each-part-put-before-end : (t : ℕ) → each-lts.Need-part-put-before-end (each-calls t) (each-at t) each.Post each-Inv-loop each-μ-loop
-each-part-put-before-end t c = let x = child (c .before .before .before .before .before .before .before .before .before .before .before .loop .inv) (c .before .before .before .before .before .before .before .before .before .before .loop-test .taken) _ _ (c .before .before .before .before .before .before .before .span-at .ensures .0) (c .before .before .before .before .before .before .before .span-at .ensures .1) in omega (arith, x .stop)
+each-part-put-before-end t c =
+    let at-struct-known5 = c .before .before .before .before .before in
+    let at-span-at = at-struct-known5 .before .before in
+    let x = child-here t (at-span-at) in omega (arith, x .stop)
 
 each-put-before-requires : (t : ℕ) → each-lts.Need-put-before-requires (each-calls t) (each-at t) each.Post each-Inv-loop each-μ-loop
-each-put-before-requires t c κs = (c .before .before .before .before .before .before .before .before .before .before .before .before .loop .inv .stands .place, loop-room (c .before .before .before .before .before .before .before .before .before .before .before .before .loop .inv))
+each-put-before-requires t c κs =
+    let at-act-of-arg = c .before .before .before .before .before in
+    let at-shared-slice-known5 = at-act-of-arg .before .before .before .before .before in
+    let at-loop = at-shared-slice-known5 .before .before in
+    (at-loop .loop .inv .stands .place, loop-room (at-loop .loop .inv))
 
-each-shared-slice-read-next-loop : (t : ℕ) → each-lts.Need-shared-slice-read-next-loop (each-calls t) (each-at t) each.Post each-Inv-loop each-μ-loop
-each-shared-slice-read-next-loop t c = c .before .before .before .before .before .before .before .before .before .before .before .before .before .before .before .loop-test .taken
+each-shared-slice-read-next-loop : (t : ℕ) → each-lts.Need-shared-slice-read-next-loop (each-calls t) (each-at t) each.Post
+    each-Inv-loop each-μ-loop
+each-shared-slice-read-next-loop t c =
+    let at-put-before-arg = c .before .before .before .before .before in
+    let at-struct-known5 = at-put-before-arg .before .before .before .before .before in
+    let at-loop = at-struct-known5 .before .before .before .before .before in
+    at-loop .loop-test .taken
 
 each-next-loop-requires : (t : ℕ) → each-lts.Need-next-loop-requires (each-calls t) (each-at t) each.Post each-Inv-loop each-μ-loop
-each-next-loop-requires t c κs = omega (arith, c .before .before .before .before .before .before .before .before .before .before .before .before .before .before .before .before .loop .inv .counts, c .before .before .before .before .before .before .before .before .before .before .before .before .before .before .before .loop-test .taken, c .before .before .before .before .before .before .before .before .before .before .before .before .before .before .before .before .loop .inv .room .few)
+each-next-loop-requires t c κs =
+    let at-put-before-arg = c .before .before .before .before .before in
+    let at-struct-known5 = at-put-before-arg .before .before .before .before .before in
+    let at-loop = at-struct-known5 .before .before .before .before .before in
+    let at-loop = at-loop .before in
+    omega (arith, at-loop .loop .inv .counts, at-loop .loop-test .taken, at-loop .loop .inv .room .few)
 
 each-converts-requires : (t : ℕ) → each-lts.Need-converts-requires (each-calls t) (each-at t) each.Post each-Inv-loop each-μ-loop
 each-converts-requires t c κs = search needs
 
 each-loop-less-2 : (t : ℕ) → each-lts.Need-loop-less-2 (each-calls t) (each-at t) each.Post each-Inv-loop each-μ-loop
-each-loop-less-2 t c = let x = child (c .before .before .before .before .before .before .before .before .before .before .before .before .before .before .before .before .before .before .before .loop .inv) (c .before .before .before .before .before .before .before .before .before .before .before .before .before .before .before .before .before .before .loop-test .taken) _ _ (c .before .before .before .before .before .before .before .before .before .before .before .before .before .before .before .span-at .ensures .0) (c .before .before .before .before .before .before .before .before .before .before .before .before .before .before .before .span-at .ensures .1) in omega (arith, x .some, x .end)
+each-loop-less-2 t c =
+    let at-out2 = c .before .before .before .before .before in
+    let at-act-of-arg3 = at-out2 .before .before .before .before .before in
+    let at-span-at = at-act-of-arg3 .before .before .before .before .before in
+    let x = child-here t (at-span-at) in omega (arith, x .some, x .end)
 
 each-loop-again-2 : (t : ℕ) → each-lts.Need-loop-again-2 (each-calls t) (each-at t) each.Post each-Inv-loop each-μ-loop
-each-loop-again-2 t c = loop-next (c .before .before .before .before .before .before .before .before .before .before .before .before .before .before .before .before .before .before .before .loop .inv) (c .before .before .before .before .before .before .before .before .before .before .before .before .before .before .before .before .before .before .loop-test .taken) _ _ (c .before .before .before .before .before .before .before .before .before .before .before .before .before .before .before .span-at .ensures .0) (c .before .before .before .before .before .before .before .before .before .before .before .before .before .before .before .span-at .ensures .1) (c .before .before .before .before .before .before .before .before .before .act-of .result) (turned-passed (c .before .before .before .before .before .before .before .before .before .before .before .before .before .before .before .before .before .before .before .loop .d) (c .before .before .before .before .before .before .before .before .before .act-of .result) (loop-room (c .before .before .before .before .before .before .before .before .before .before .before .before .before .before .before .before .before .before .before .loop .inv)) (c .before .before .before .before .before .before .put-before .ensures) (sym (c .before .converts .ensures) ∙ not-true _ (c .if3 .taken)) (c .before .before .before .before .before .before .before .before .before .before .before .before .before .before .before .before .before .before .before .loop .inv .stands .short)) (c .before .before .before .before .before .before .before .before .before .act-of .ensures) refl (c .before .before .before .before .before .before .put-before .kept .0) (c .before .before .next-loop .ensures)
+each-loop-again-2 t c =
+    let at-converts = c .before in
+    let at-next-loop = at-converts .before in
+    let at-put-before = at-next-loop .before .before .before .before in
+    let at-act-of = at-put-before .before .before .before in
+    let at-struct-known4 = at-act-of .before .before .before .before .before in
+    let at-span-at = at-struct-known4 .before in
+    let at-loop = at-span-at .before .before .before in
+    let at-loop = at-loop .before in
+    loop-next (at-loop .loop .inv) (at-loop .loop-test .taken) _ _ (at-span-at .span-at .ensures .0) (at-span-at .span-at .ensures .1)
+    (at-act-of .act-of .result) (turned-passed (at-loop .loop .d) (at-act-of .act-of .result) (loop-room (at-loop .loop .inv))
+    (at-put-before .put-before .ensures) (sym (at-converts .converts .ensures) ∙ not-true _ (c .if3 .taken))
+    (at-loop .loop .inv .stands .short)) (at-act-of .act-of .ensures) refl (at-put-before .put-before .kept .0)
+    (at-next-loop .next-loop .ensures)
 
 each-sub-convert : (t : ℕ) → each-lts.Need-sub-convert (each-calls t) (each-at t) each.Post each-Inv-loop each-μ-loop
 each-sub-convert t c = omega arith
@@ -174,7 +369,12 @@ each-part-convert-start : (t : ℕ) → each-lts.Need-part-convert-start (each-c
 each-part-convert-start t c = omega arith
 
 each-part-convert-end : (t : ℕ) → each-lts.Need-part-convert-end (each-calls t) (each-at t) each.Post each-Inv-loop each-μ-loop
-each-part-convert-end t c = let x = child (c .before .before .before .before .before .before .before .before .before .before .before .before .before .before .before .before .before .before .before .before .loop .inv) (c .before .before .before .before .before .before .before .before .before .before .before .before .before .before .before .before .before .before .before .loop-test .taken) _ _ (c .before .before .before .before .before .before .before .before .before .before .before .before .before .before .before .before .span-at .ensures .0) (c .before .before .before .before .before .before .before .before .before .before .before .before .before .before .before .before .span-at .ensures .1) in omega (arith, x .end)
+each-part-convert-end t c =
+    let at-slice-known3 = c .before .before .before .before .before in
+    let at-act-of = at-slice-known3 .before .before .before .before .before in
+    let at-struct-known4 = at-act-of .before .before .before .before .before in
+    let at-span-at = at-struct-known4 .before in
+    let x = child-here t (at-span-at) in omega (arith, x .end)
 
 each-sub-convert-2 : (t : ℕ) → each-lts.Need-sub-convert-2 (each-calls t) (each-at t) each.Post each-Inv-loop each-μ-loop
 each-sub-convert-2 t c = omega arith
@@ -183,34 +383,140 @@ each-part-convert-start-2 : (t : ℕ) → each-lts.Need-part-convert-start-2 (ea
 each-part-convert-start-2 t c = omega arith
 
 each-part-convert-end-2 : (t : ℕ) → each-lts.Need-part-convert-end-2 (each-calls t) (each-at t) each.Post each-Inv-loop each-μ-loop
-each-part-convert-end-2 t c = let x = child (c .before .before .before .before .before .before .before .before .before .before .before .before .before .before .before .before .before .before .before .before .before .loop .inv) (c .before .before .before .before .before .before .before .before .before .before .before .before .before .before .before .before .before .before .before .before .loop-test .taken) _ _ (c .before .before .before .before .before .before .before .before .before .before .before .before .before .before .before .before .before .span-at .ensures .0) (c .before .before .before .before .before .before .before .before .before .before .before .before .before .before .before .before .before .span-at .ensures .1) in omega (arith, x .stop)
+each-part-convert-end-2 t c =
+    let at-shared-slice-known6 = c .before .before .before .before .before in
+    let at-put-before-arg = at-shared-slice-known6 .before .before .before .before .before in
+    let at-struct-known5 = at-put-before-arg .before .before .before .before .before in
+    let at-span-at = at-struct-known5 .before .before in
+    let x = child-here t (at-span-at) in omega (arith, x .stop)
 
 each-add-convert : (t : ℕ) → each-lts.Need-add-convert (each-calls t) (each-at t) each.Post each-Inv-loop each-μ-loop
-each-add-convert t c = let x = child (c .before .before .before .before .before .before .before .before .before .before .before .before .before .before .before .before .before .before .before .before .before .before .loop .inv) (c .before .before .before .before .before .before .before .before .before .before .before .before .before .before .before .before .before .before .before .before .before .loop-test .taken) _ _ (c .before .before .before .before .before .before .before .before .before .before .before .before .before .before .before .before .before .before .span-at .ensures .0) (c .before .before .before .before .before .before .before .before .before .before .before .before .before .before .before .before .before .before .span-at .ensures .1) in omega (arith, x .end, c .before .before .before .before .before .before .before .before .before .before .before .before .before .before .before .before .before .before .before .before .before .before .loop .inv .room .low)
+each-add-convert t c =
+    let at-next-loop = c .before .before .before .before .before in
+    let at-put-before-arg2 = at-next-loop .before .before .before .before .before in
+    let at-act-of-arg = at-put-before-arg2 .before .before .before .before .before in
+    let at-span-at = at-act-of-arg .before .before .before in
+    let at-loop = at-span-at .before .before .before .before in
+    let x = child-here t (at-span-at) in omega (arith, x .end, at-loop .loop .inv .room .low)
 
 each-convert-requires : (t : ℕ) → each-lts.Need-convert-requires (each-calls t) (each-at t) each.Post each-Inv-loop each-μ-loop
-each-convert-requires t c κs = let x = child (c .before .before .before .before .before .before .before .before .before .before .before .before .before .before .before .before .before .before .before .before .before .before .loop .inv) (c .before .before .before .before .before .before .before .before .before .before .before .before .before .before .before .before .before .before .before .before .before .loop-test .taken) _ _ (c .before .before .before .before .before .before .before .before .before .before .before .before .before .before .before .before .before .before .span-at .ensures .0) (c .before .before .before .before .before .before .before .before .before .before .before .before .before .before .before .before .before .before .span-at .ensures .1) in let p = c .before .before .before .before .before .before .before .before .before .before .before .before .before .before .before .before .before .before .before .before .before .before .before .before .before .before .before .before .before .before .before .before .pre .1 .1 .1 .inside in (omega (arith, x .long, x .end, between-length (c .before .before .before .before .before .before .before .before .before .before .before .before .before .before .before .before .before .before .before .before .before .before .before .before .before .before .before .before .before .before .before .before .args .rows .now) _ _ (p .low) (p .high), p .high, c .before .before .before .before .before .before .before .before .before .before .before .before .before .before .before .before .before .before .before .before .before .before .before .before .before .before .before .before .before .before .before .before .pre .0), (room-on (x .room) (c .before .before .before .before .before .before .before .before .before .before .before .before .before .before .before .before .before .before .before .before .before .before .loop .d) refl (c .before .before .before .before .before .before .before .before .before .before .before .before .before .before .before .before .before .before .before .before .before .before .loop .inv .stands .short) (c .before .before .before .before .before .before .before .before .before .put-before .kept .0) (wrote-low (c .before .before .before .before .before .before .before .before .before .put-before .ensures)), (c .before .before .before .before .before .before .before .before .before .before .before .before .before .before .before .before .before .before .before .before .before .before .loop .inv .some-rules, x .given)))
+each-convert-requires t c κs =
+    let at-next-loop = c .before .before .before .before .before in
+    let at-put-before = at-next-loop .before .before .before .before in
+    let at-act-of-arg2 = at-put-before .before .before .before .before .before in
+    let at-span-at = at-act-of-arg2 .before .before .before .before in
+    let at-loop = at-span-at .before .before .before .before in
+    let at-shared-slice-known4 = at-loop .before .before .before .before .before in
+    let start = at-shared-slice-known4 .before .before .before .before .before in
+    let x = child-here t (at-span-at) in let p = start .pre .1 .1 .1 .inside in (
+      omega (arith, x .long, x .end, between-length (start .args .rows .now) _ _ (p .low) (p .high), p .high, start .pre .0),
+      (
+        room-on (x .room) (at-loop .loop .d) refl (at-loop .loop .inv .stands .short) (at-put-before .put-before .kept .0)
+            (wrote-low (at-put-before .put-before .ensures)),
+        (at-loop .loop .inv .some-rules, x .given),
+      ),
+    )
 
 each-same-length-2 : (t : ℕ) → each-lts.Need-same-length-2 (each-calls t) (each-at t) each.Post each-Inv-loop each-μ-loop
-each-same-length-2 t c = c .before .before .before .before .convert .kept .0 ∙ c .before .before .before .before .before .before .before .before .before .before .before .before .before .before .put-before .kept .0 ∙ c .before .before .before .before .before .before .before .before .before .before .before .before .before .before .before .before .before .before .before .before .before .before .before .before .before .before .before .loop .inv .stands .same
+each-same-length-2 t c =
+    let at-convert = c .before .before .before .before in
+    let at-converts = at-convert .before .before .before .before .before in
+    let at-put-before = at-converts .before .before .before .before .before in
+    let at-act-of-arg2 = at-put-before .before .before .before .before .before in
+    let at-if1 = at-act-of-arg2 .before .before .before .before .before in
+    let at-loop = at-if1 .before .before .before in
+    at-convert .convert .kept .0 ∙ at-put-before .put-before .kept .0 ∙ at-loop .loop .inv .stands .same
 
 each-returns-2 : (t : ℕ) → each-lts.Need-returns-2 (each-calls t) (each-at t) each.Post each-Inv-loop each-μ-loop
-each-returns-2 t c = λ rs ready g sp n h. planned-refused (c .before .before .before .before .before .before .before .before .before .before .before .before .before .before .before .before .before .before .before .before .before .before .before .before .before .before .before .before .before .before .before .before .before .before .before .before .before .args .c) (c .before .before .before .before .before .before .before .before .before .before .before .before .before .before .before .before .before .before .before .before .before .before .before .before .before .before .before .before .before .before .before .before .before .before .before .before .before .args .plan) (c .before .before .before .before .before .before .before .before .before .before .before .before .before .before .before .before .before .before .before .before .before .before .before .before .before .before .before .before .placed .ensures) rs n g (loop-refused (c .before .before .before .before .before .before .before .before .before .before .before .before .before .before .before .before .before .before .before .before .before .before .before .before .before .before .before .loop .inv) (c .before .before .before .before .before .before .before .before .before .before .before .before .before .before .before .before .before .before .before .before .before .before .before .before .before .before .loop-test .taken) _ _ (c .before .before .before .before .before .before .before .before .before .before .before .before .before .before .before .before .before .before .before .before .before .before .before .span-at .ensures .0) (c .before .before .before .before .before .before .before .before .before .before .before .before .before .before .before .before .before .before .before .before .before .before .before .span-at .ensures .1) (c .before .before .before .before .before .before .before .before .before .before .before .before .before .before .before .before .before .act-of .result) (turned-refused (c .before .before .before .before .before .before .before .before .before .before .before .before .before .before .before .before .before .before .before .before .before .before .before .before .before .before .before .loop .d) (c .before .before .before .before .before .before .before .before .before .before .before .before .before .before .before .before .before .act-of .result) (loop-room (c .before .before .before .before .before .before .before .before .before .before .before .before .before .before .before .before .before .before .before .before .before .before .before .before .before .before .before .loop .inv)) (c .before .before .before .before .before .before .before .before .before .before .before .before .before .before .put-before .ensures) (sym (c .before .before .before .before .before .before .before .before .before .converts .ensures) ∙ not-false _ (c .before .before .before .before .before .before .before .before .if3 .left)) (c .before .before .before .before .convert .ensures) (c .if4 .taken)) (c .before .before .before .before .before .before .before .before .before .before .before .before .before .before .before .before .before .act-of .ensures) rs ready g sp n h (c .if4 .taken)) (c .if4 .taken)
+each-returns-2 t c =
+    let at-convert = c .before .before .before .before in
+    let at-if3 = at-convert .before .before .before .before in
+    let at-converts = at-if3 .before in
+    let at-put-before = at-converts .before .before .before .before .before in
+    let at-act-of = at-put-before .before .before .before in
+    let at-struct-known4 = at-act-of .before .before .before .before .before in
+    let at-span-at = at-struct-known4 .before in
+    let at-loop = at-span-at .before .before .before in
+    let at-loop = at-loop .before in
+    let at-placed = at-loop .before in
+    let at-shared-slice-known3 = at-placed .before .before .before .before .before in
+    let start = at-shared-slice-known3 .before .before .before .before in
+    λ rs ready g sp n h. planned-refused (start .args .c) (start .args .plan) (at-placed .placed .ensures) rs n g
+    (loop-refused (at-loop .loop .inv) (at-loop .loop-test .taken) _ _ (at-span-at .span-at .ensures .0)
+    (at-span-at .span-at .ensures .1) (at-act-of .act-of .result) (turned-refused (at-loop .loop .d) (at-act-of .act-of .result)
+    (loop-room (at-loop .loop .inv)) (at-put-before .put-before .ensures)
+    (sym (at-converts .converts .ensures) ∙ not-false _ (at-if3 .if3 .left)) (at-convert .convert .ensures) (c .if4 .taken))
+    (at-act-of .act-of .ensures) rs ready g sp n h (c .if4 .taken)) (c .if4 .taken)
 
 each-put-behind-requires : (t : ℕ) → each-lts.Need-put-behind-requires (each-calls t) (each-at t) each.Post each-Inv-loop each-μ-loop
-each-put-behind-requires t c κs = let x = child (c .before .before .before .before .before .before .before .before .before .before .before .before .before .before .before .before .before .before .before .before .before .before .before .before .before .before .before .before .loop .inv) (c .before .before .before .before .before .before .before .before .before .before .before .before .before .before .before .before .before .before .before .before .before .before .before .before .before .before .before .loop-test .taken) _ _ (c .before .before .before .before .before .before .before .before .before .before .before .before .before .before .before .before .before .before .before .before .before .before .before .before .span-at .ensures .0) (c .before .before .before .before .before .before .before .before .before .before .before .before .before .before .before .before .before .before .before .before .before .before .before .before .span-at .ensures .1) in (converts-good (c .before .before .before .before .before .before .before .before .before .before .before .before .before .before .before .before .before .before .before .before .before .before .before .before .before .before .before .before .loop .d) (c .before .before .before .before .before .before .before .before .before .before .before .before .before .before .before .before .before .before .before .before .before .before .before .before .before .before .before .before .loop .inv .some-rules) (x .given) (c .before .before .before .before .before .convert .ensures) (c .before .if4 .left) .place, omega (arith, c .before .before .before .before .before .convert .kept .0, c .before .before .before .before .before .before .before .before .before .before .before .before .before .before .before .put-before .kept .0, loop-room (c .before .before .before .before .before .before .before .before .before .before .before .before .before .before .before .before .before .before .before .before .before .before .before .before .before .before .before .before .loop .inv)))
+each-put-behind-requires t c κs =
+    let at-if4 = c .before in
+    let at-convert = at-if4 .before .before .before .before in
+    let at-converts = at-convert .before .before .before .before .before in
+    let at-put-before = at-converts .before .before .before .before .before in
+    let at-act-of-arg2 = at-put-before .before .before .before .before .before in
+    let at-span-at = at-act-of-arg2 .before .before .before .before in
+    let at-loop = at-span-at .before .before .before .before in
+    let x = child-here t (at-span-at) in (
+      converts-good (at-loop .loop .d) (at-loop .loop .inv .some-rules) (x .given)
+          (at-convert .convert .ensures) (at-if4 .if4 .left) .place,
+      omega (
+        arith,
+        at-convert .convert .kept .0,
+        at-put-before .put-before .kept .0,
+        loop-room (at-loop .loop .inv),
+      ),
+    )
 
 each-loop-less-3 : (t : ℕ) → each-lts.Need-loop-less-3 (each-calls t) (each-at t) each.Post each-Inv-loop each-μ-loop
-each-loop-less-3 t c = let x = child (c .before .before .before .before .before .before .before .before .before .before .before .before .before .before .before .before .before .before .before .before .before .before .before .before .before .before .before .before .before .before .before .before .loop .inv) (c .before .before .before .before .before .before .before .before .before .before .before .before .before .before .before .before .before .before .before .before .before .before .before .before .before .before .before .before .before .before .before .loop-test .taken) _ _ (c .before .before .before .before .before .before .before .before .before .before .before .before .before .before .before .before .before .before .before .before .before .before .before .before .before .before .before .before .span-at .ensures .0) (c .before .before .before .before .before .before .before .before .before .before .before .before .before .before .before .before .before .before .before .before .before .before .before .before .before .before .before .before .span-at .ensures .1) in omega (arith, x .some, x .end)
+each-loop-less-3 t c =
+    let at-if4 = c .before .before .before .before .before in
+    let at-convert-arg3 = at-if4 .before .before .before .before .before in
+    let at-next-loop = at-convert-arg3 .before .before .before .before .before in
+    let at-put-before-arg2 = at-next-loop .before .before .before .before .before in
+    let at-act-of-arg = at-put-before-arg2 .before .before .before .before .before in
+    let at-span-at = at-act-of-arg .before .before .before in
+    let x = child-here t (at-span-at) in omega (arith, x .some, x .end)
 
 each-loop-again-3 : (t : ℕ) → each-lts.Need-loop-again-3 (each-calls t) (each-at t) each.Post each-Inv-loop each-μ-loop
-each-loop-again-3 t c = loop-next (c .before .before .before .before .before .before .before .before .before .before .before .before .before .before .before .before .before .before .before .before .before .before .before .before .before .before .before .before .before .before .before .before .loop .inv) (c .before .before .before .before .before .before .before .before .before .before .before .before .before .before .before .before .before .before .before .before .before .before .before .before .before .before .before .before .before .before .before .loop-test .taken) _ _ (c .before .before .before .before .before .before .before .before .before .before .before .before .before .before .before .before .before .before .before .before .before .before .before .before .before .before .before .before .span-at .ensures .0) (c .before .before .before .before .before .before .before .before .before .before .before .before .before .before .before .before .before .before .before .before .before .before .before .before .before .before .before .before .span-at .ensures .1) (c .before .before .before .before .before .before .before .before .before .before .before .before .before .before .before .before .before .before .before .before .before .before .act-of .result) (turned (c .before .before .before .before .before .before .before .before .before .before .before .before .before .before .before .before .before .before .before .before .before .before .before .before .before .before .before .before .before .before .before .before .loop .d) (c .before .before .before .before .before .before .before .before .before .before .before .before .before .before .before .before .before .before .before .before .before .before .act-of .result) (loop-room (c .before .before .before .before .before .before .before .before .before .before .before .before .before .before .before .before .before .before .before .before .before .before .before .before .before .before .before .before .before .before .before .before .loop .inv)) (c .before .before .before .before .before .before .before .before .before .before .before .before .before .before .before .before .before .before .before .put-before .ensures) (sym (c .before .before .before .before .before .before .before .before .before .before .before .before .before .before .converts .ensures) ∙ not-false _ (c .before .before .before .before .before .before .before .before .before .before .before .before .before .if3 .left)) (c .before .before .before .before .before .before .before .before .before .convert .ensures) (omega (arith, c .before .before .before .before .before .before .before .before .before .before .before .before .before .before .before .before .before .before .before .put-before .kept .0, loop-room (c .before .before .before .before .before .before .before .before .before .before .before .before .before .before .before .before .before .before .before .before .before .before .before .before .before .before .before .before .before .before .before .before .loop .inv))) (c .before .before .before .before .before .if4 .left) (c .before .before .before .put-behind .ensures)) (c .before .before .before .before .before .before .before .before .before .before .before .before .before .before .before .before .before .before .before .before .before .before .act-of .ensures) refl (c .before .before .before .put-behind .kept .0 ∙ c .before .before .before .before .before .before .before .before .before .convert .kept .0 ∙ c .before .before .before .before .before .before .before .before .before .before .before .before .before .before .before .before .before .before .before .put-before .kept .0) (c .before .before .before .before .before .before .before .before .before .before .before .before .before .before .before .next-loop .ensures)
+each-loop-again-3 t c =
+    let at-put-behind = c .before .before .before in
+    let at-if4 = at-put-behind .before .before in
+    let at-convert = at-if4 .before .before .before .before in
+    let at-if3 = at-convert .before .before .before .before in
+    let at-converts = at-if3 .before in
+    let at-next-loop = at-converts .before in
+    let at-put-before = at-next-loop .before .before .before .before in
+    let at-act-of = at-put-before .before .before .before in
+    let at-struct-known4 = at-act-of .before .before .before .before .before in
+    let at-span-at = at-struct-known4 .before in
+    let at-loop = at-span-at .before .before .before in
+    let at-loop = at-loop .before in
+    loop-next (at-loop .loop .inv) (at-loop .loop-test .taken) _ _ (at-span-at .span-at .ensures .0) (at-span-at .span-at .ensures .1)
+    (at-act-of .act-of .result) (turned (at-loop .loop .d) (at-act-of .act-of .result) (loop-room (at-loop .loop .inv))
+    (at-put-before .put-before .ensures) (sym (at-converts .converts .ensures) ∙ not-false _ (at-if3 .if3 .left))
+    (at-convert .convert .ensures) (omega (arith, at-put-before .put-before .kept .0, loop-room (at-loop .loop .inv)))
+    (at-if4 .if4 .left) (at-put-behind .put-behind .ensures)) (at-act-of .act-of .ensures) refl
+    (at-put-behind .put-behind .kept .0 ∙ at-convert .convert .kept .0 ∙ at-put-before .put-before .kept .0)
+    (at-next-loop .next-loop .ensures)
 
 each-put-loop-end-requires : (t : ℕ) → each-lts.Need-put-loop-end-requires (each-calls t) (each-at t) each.Post each-Inv-loop each-μ-loop
-each-put-loop-end-requires t c κs = (c .before .before .loop .inv .stands .place, loop-room (c .before .before .loop .inv))
+each-put-loop-end-requires t c κs =
+    let at-loop = c .before .before in
+    (at-loop .loop .inv .stands .place, loop-room (at-loop .loop .inv))
 
 each-put-end-requires : (t : ℕ) → each-lts.Need-put-end-requires (each-calls t) (each-at t) each.Post each-Inv-loop each-μ-loop
-each-put-end-requires t c κs = (wrote-low (c .before .before .before .put-loop-end .ensures), omega (arith, c .before .before .before .put-loop-end .kept .0, loop-room (c .before .before .before .before .before .before .loop .inv)))
+each-put-end-requires t c κs =
+    let at-put-loop-end = c .before .before .before in
+    let at-loop = at-put-loop-end .before .before .before in (
+      wrote-low (at-put-loop-end .put-loop-end .ensures),
+      omega (
+        arith,
+        at-put-loop-end .put-loop-end .kept .0,
+        loop-room
+            (at-loop .loop .inv),
+      ),
+    )
 
 each-placed-requires-2 : (t : ℕ) → each-lts.Need-placed-requires-2 (each-calls t) (each-at t) each.Post each-Inv-loop each-μ-loop
 each-placed-requires-2 t c κs = search needs
@@ -219,10 +525,25 @@ each-went-requires : (t : ℕ) → each-lts.Need-went-requires (each-calls t) (e
 each-went-requires t c κs = search needs
 
 each-same-length-3 : (t : ℕ) → each-lts.Need-same-length-3 (each-calls t) (each-at t) each.Post each-Inv-loop each-μ-loop
-each-same-length-3 t c = c .before .before .before .before .put-end .kept .0 ∙ c .before .before .before .before .before .before .before .before .put-loop-end .kept .0 ∙ c .before .before .before .before .before .before .before .before .before .before .before .loop .inv .stands .same
+each-same-length-3 t c =
+    let at-put-end = c .before .before .before .before in
+    let at-put-loop-end = at-put-end .before .before .before .before in
+    let at-loop = at-put-loop-end .before .before .before in
+    at-put-end .put-end .kept .0 ∙ at-put-loop-end .put-loop-end .kept .0 ∙ at-loop .loop .inv .stands .same
 
 each-returns-3 : (t : ℕ) → each-lts.Need-returns-3 (each-calls t) (each-at t) each.Post each-Inv-loop each-μ-loop
-each-returns-3 t c = λ rs ready g sp n h. planned-at (c .before .before .before .before .before .before .before .before .before .before .before .before .before .before .before .before .before .before .before .before .before .args .c) (c .before .before .before .before .before .before .before .before .before .before .before .before .before .before .before .before .before .before .before .before .before .args .plan) (c .before .before .before .before .before .before .before .before .before .before .before .before .placed .ensures) rs n g (loop-ended (c .before .before .before .before .before .before .before .before .before .before .before .loop .inv) (c .before .before .before .before .before .before .before .before .before .before .loop-test .left) (placeOf (c .before .before .before .before .before .before .before .before .before .before .before .before .before .before .before .before .before .before .before .before .before .args .c)) (c .before .before .before .before .before .before .before .before .put-loop-end .ensures) (c .before .before .before .before .put-end .ensures) (c .before .placed2 .ensures) (c .went .ensures) rs ready g sp n h)
+each-returns-3 t c =
+    let at-placed2 = c .before in
+    let at-put-end = at-placed2 .before .before .before in
+    let at-put-loop-end = at-put-end .before .before .before .before in
+    let at-loop = at-put-loop-end .before .before in
+    let at-loop = at-loop .before in
+    let at-placed = at-loop .before in
+    let at-shared-slice-known3 = at-placed .before .before .before .before .before in
+    let start = at-shared-slice-known3 .before .before .before .before in
+    λ rs ready g sp n h. planned-at (start .args .c) (start .args .plan) (at-placed .placed .ensures) rs n g
+    (loop-ended (at-loop .loop .inv) (at-loop .loop-test .left) (placeOf (start .args .c)) (at-put-loop-end .put-loop-end .ensures)
+    (at-put-end .put-end .ensures) (at-placed2 .placed2 .ensures) (c .went .ensures) rs ready g sp n h)
 
 -- its code meets what it promises, if those it calls do where less is left
 pub each-closed : {M : Type 1} (t : ℕ) → each-lts.Closed (each-calls t) (each-at t) each.Post M

@@ -21,7 +21,10 @@ use Rattle.mitex.proofs.+clause_lr+command+command_color+convert+curly_
 use Rattle.mitex.proofs.+clause_lr+command+command_color+convert+curly_group+each+env_body+env_figure+env_table+environment+formula+normal_command+twice.Proof.Setup.{env-table-at, env-table-calls}
 
 env-table-table-argument-requires : (t : ℕ) → env-table-lts.Need-table-argument-requires (env-table-calls t) (env-table-at t) env-table.Post
-env-table-table-argument-requires t c κs = siblings-forest (c .before .before .before .before .before .before .pre .1 .0) (c .before .before .before .before .before .before .pre .1 .1 .1)
+env-table-table-argument-requires t c κs =
+    let at-slice-known = c .before .before .before .before .before in
+    let start = at-slice-known .before in
+    siblings-forest (start .pre .1 .0) (start .pre .1 .1 .1)
 
 env-table-has-ends-requires : (t : ℕ) → env-table-lts.Need-has-ends-requires (env-table-calls t) (env-table-at t) env-table.Post
 env-table-has-ends-requires t c κs = search needs
@@ -30,7 +33,15 @@ env-table-refuse-requires : (t : ℕ) → env-table-lts.Need-refuse-requires (en
 env-table-refuse-requires t c κs = search needs
 
 env-table-returns : (t : ℕ) → env-table-lts.Need-returns (env-table-calls t) (env-table-at t) env-table.Post
-env-table-returns t c = λ rs ready f sp n h. agrees-as (table-bad (firstOf ClauseArgument (beginOf f)) (c .before .before .before .before .before .before .before .before .before .before .args .name .now) _ (meaning n) (contextOf rs (c .before .before .before .before .before .before .before .before .before .before .args .c)) f (carryOf (c .before .before .before .before .before .before .before .before .before .before .args .c)) (c .before .before .before .table-argument .ensures f sp) (sym (c .before .before .has-ends .ensures) ∙ not-true _ (c .before .if1 .taken))) (agrees-here (omega arith) (c .refuse .ensures))
+env-table-returns t c =
+    let at-if1 = c .before in
+    let at-has-ends = at-if1 .before in
+    let at-table-argument = at-has-ends .before in
+    let at-shared-slice-known = at-table-argument .before .before .before .before .before in
+    let start = at-shared-slice-known .before .before in
+    λ rs ready f sp n h. agrees-as (table-bad (firstOf ClauseArgument (beginOf f)) (start .args .name .now) _ (meaning n)
+    (contextOf rs (start .args .c)) f (carryOf (start .args .c)) (at-table-argument .table-argument .ensures f sp)
+    (sym (at-has-ends .has-ends .ensures) ∙ not-true _ (at-if1 .if1 .taken))) (agrees-here (omega arith) (c .refuse .ensures))
 
 env-table-inner-requires : (t : ℕ) → env-table-lts.Need-inner-requires (env-table-calls t) (env-table-at t) env-table.Post
 env-table-inner-requires t c κs = search needs
@@ -45,22 +56,91 @@ env-table-refuse-requires-2 : (t : ℕ) → env-table-lts.Need-refuse-requires-2
 env-table-refuse-requires-2 t c κs = search needs
 
 env-table-returns-2 : (t : ℕ) → env-table-lts.Need-returns-2 (env-table-calls t) (env-table-at t) env-table.Post
-env-table-returns-2 t c = λ rs ready f sp n h. agrees-as (table-letters (firstOf ClauseArgument (beginOf f)) (c .before .before .before .before .before .before .before .before .before .before .before .before .before .before .args .name .now) _ _ (meaning n) (contextOf rs (c .before .before .before .before .before .before .before .before .before .before .before .before .before .before .args .c)) f (carryOf (c .before .before .before .before .before .before .before .before .before .before .before .before .before .before .args .c)) (c .before .before .before .before .before .before .before .table-argument .ensures f sp) (sym (c .before .before .before .before .before .before .has-ends .ensures) ∙ not-false _ (c .before .before .before .before .before .if1 .left)) (c .before .before .before .trim .ensures ∙ ap trim (c .before .before .before .before .inner .ensures)) ∙ letters-bad (c .before .before .before .before .before .before .before .before .before .before .before .before .before .before .args .name .now) _ (meaning n) (contextOf rs (c .before .before .before .before .before .before .before .before .before .before .before .before .before .before .args .c)) f (carryOf (c .before .before .before .before .before .before .before .before .before .before .before .before .before .before .args .c)) (sym (c .before .before .letters-fit .ensures) ∙ not-true _ (c .before .if2 .taken))) (agrees-here (omega arith) (c .refuse2 .ensures))
+env-table-returns-2 t c =
+    let at-if2 = c .before in
+    let at-letters-fit = at-if2 .before in
+    let at-trim = at-letters-fit .before in
+    let at-inner = at-trim .before in
+    let at-if1 = at-inner .before in
+    let at-has-ends = at-if1 .before in
+    let at-table-argument = at-has-ends .before in
+    let at-shared-slice-known = at-table-argument .before .before .before .before .before in
+    let start = at-shared-slice-known .before .before in
+    λ rs ready f sp n h. agrees-as (table-letters (firstOf ClauseArgument (beginOf f)) (start .args .name .now) _ _ (meaning n)
+    (contextOf rs (start .args .c)) f (carryOf (start .args .c)) (at-table-argument .table-argument .ensures f sp)
+    (sym (at-has-ends .has-ends .ensures) ∙ not-false _ (at-if1 .if1 .left))
+    (at-trim .trim .ensures ∙ ap trim (at-inner .inner .ensures)) ∙ letters-bad (start .args .name .now) _ (meaning n)
+    (contextOf rs (start .args .c)) f (carryOf (start .args .c)) (sym (at-letters-fit .letters-fit .ensures) ∙ not-true _
+    (at-if2 .if2 .taken))) (agrees-here (omega arith) (c .refuse2 .ensures))
 
-env-table-put-table-begin-requires : (t : ℕ) → env-table-lts.Need-put-table-begin-requires (env-table-calls t) (env-table-at t) env-table.Post
-env-table-put-table-begin-requires t c κs = (c .before .before .before .before .before .before .before .before .before .before .before .before .before .before .pre .1 .0 .place, c .before .before .before .before .before .before .before .before .before .before .before .before .before .before .pre .1 .0 .room, omega (arith, letters-short (c .before .before .before .before .before .before .before .before .before .before .before .before .before .before .pre .1 .1 .1 .spells) (c .before .before .before .before .before .before .before .table-argument .ensures (c .before .before .before .before .before .before .before .before .before .before .before .before .before .before .pre .1 .1 .1 .forest) (c .before .before .before .before .before .before .before .before .before .before .before .before .before .before .pre .1 .1 .1 .spells)) (c .before .before .before .trim .ensures ∙ ap trim (c .before .before .before .before .inner .ensures)), c .before .before .before .before .before .before .before .before .before .before .before .before .before .before .pre .1 .0 .short))
+env-table-put-table-begin-requires : (t : ℕ) → env-table-lts.Need-put-table-begin-requires (env-table-calls t) (env-table-at t)
+    env-table.Post
+env-table-put-table-begin-requires t c κs =
+    let at-trim = c .before .before .before in
+    let at-inner = at-trim .before in
+    let at-table-argument = at-inner .before .before .before in
+    let at-shared-slice-known = at-table-argument .before .before .before .before .before in
+    let start = at-shared-slice-known .before .before in (
+      start .pre .1 .0 .place,
+      start .pre .1 .0 .room,
+      omega (
+        arith,
+        letters-short (start .pre .1 .1 .1 .spells)
+            (at-table-argument .table-argument .ensures (start .pre .1 .1 .1 .forest) (start .pre .1 .1 .1 .spells))
+            (at-trim .trim .ensures ∙ ap trim (at-inner .inner .ensures)),
+        start .pre .1 .0 .short,
+      ),
+    )
 
 env-table-table-plan-requires : (t : ℕ) → env-table-lts.Need-table-plan-requires (env-table-calls t) (env-table-at t) env-table.Post
 env-table-table-plan-requires t c κs = search needs
 
 env-table-each-requires : (t : ℕ) → env-table-lts.Need-each-requires (env-table-calls t) (env-table-at t) env-table.Post
-env-table-each-requires t c κs = (omega (arith, c .before .before .before .before .before .before .before .before .before .before .before .before .before .before .before .before .before .before .before .pre .0), (room-on (c .before .before .before .before .before .before .before .before .before .before .before .before .before .before .before .before .before .before .before .pre .1 .0) (c .before .before .before .before .before .before .before .before .before .before .before .before .before .before .before .before .before .before .before .args .c) refl (c .before .before .before .before .before .before .before .before .before .before .before .before .before .before .before .before .before .before .before .pre .1 .0 .label) (c .before .before .before .before .put-table-begin .kept .0) (wrote-low (c .before .before .before .before .put-table-begin .ensures)), (c .before .before .before .before .before .before .before .before .before .before .before .before .before .before .before .before .before .before .before .pre .1 .1 .0, given-in (c .before .before .before .before .before .before .before .before .before .before .before .before .before .before .before .before .before .before .before .pre .1 .1 .0) (c .before .before .before .before .before .before .before .before .before .before .before .before .before .before .before .before .before .before .before .pre .1 .1 .1) (λ f sp rs. c .before .table-plan .ensures f sp [] rs))))
+env-table-each-requires t c κs =
+    let at-table-plan = c .before in
+    let at-put-table-begin = at-table-plan .before .before .before in
+    let at-inner = at-put-table-begin .before .before .before .before .before in
+    let at-shared-slice-known4 = at-inner .before .before .before .before .before in
+    let start = at-shared-slice-known4 .before .before .before .before .before in (
+      omega (arith, start .pre .0),
+      (
+        room-on (start .pre .1 .0) (start .args .c) refl (start .pre .1 .0 .label)
+            (at-put-table-begin .put-table-begin .kept .0) (wrote-low (at-put-table-begin .put-table-begin .ensures)),
+        (
+          start .pre .1 .1 .0,
+          given-in (start .pre .1 .1 .0) (start .pre .1 .1 .1)
+              (λ f sp rs. at-table-plan .table-plan .ensures f sp [] rs),
+        ),
+      ),
+    )
 
 env-table-same-length : (t : ℕ) → env-table-lts.Need-same-length (env-table-calls t) (env-table-at t) env-table.Post
-env-table-same-length t c = c .before .before .each .kept .0 ∙ c .before .before .before .before .before .before .before .put-table-begin .kept .0
+env-table-same-length t c =
+    let at-each = c .before .before in
+    let at-put-table-begin = at-each .before .before .before .before .before in
+    at-each .each .kept .0 ∙ at-put-table-begin .put-table-begin .kept .0
 
 env-table-returns-3 : (t : ℕ) → env-table-lts.Need-returns-3 (env-table-calls t) (env-table-at t) env-table.Post
-env-table-returns-3 t c = λ rs ready f sp n h. agrees-as (table-letters (firstOf ClauseArgument (beginOf f)) (c .before .before .before .before .before .before .before .before .before .before .before .before .before .before .before .before .before .before .before .before .before .before .args .name .now) _ _ (meaning n) (contextOf rs (c .before .before .before .before .before .before .before .before .before .before .before .before .before .before .before .before .before .before .before .before .before .before .args .c)) f (carryOf (c .before .before .before .before .before .before .before .before .before .before .before .before .before .before .before .before .before .before .before .before .before .before .args .c)) (c .before .before .before .before .before .before .before .before .before .before .before .before .before .before .before .table-argument .ensures f sp) (sym (c .before .before .before .before .before .before .before .before .before .before .before .before .before .before .has-ends .ensures) ∙ not-false _ (c .before .before .before .before .before .before .before .before .before .before .before .before .before .if1 .left)) (c .before .before .before .before .before .before .before .before .before .before .before .trim .ensures ∙ ap trim (c .before .before .before .before .before .before .before .before .before .before .before .before .inner .ensures)) ∙ letters-good (c .before .before .before .before .before .before .before .before .before .before .before .before .before .before .before .before .before .before .before .before .before .before .args .name .now) _ (meaning n) (contextOf rs (c .before .before .before .before .before .before .before .before .before .before .before .before .before .before .before .before .before .before .before .before .before .before .args .c)) f (carryOf (c .before .before .before .before .before .before .before .before .before .before .before .before .before .before .before .before .before .before .before .before .before .before .args .c)) (sym (c .before .before .before .before .before .before .before .before .before .before .letters-fit .ensures) ∙ not-false _ (c .before .before .before .before .before .before .before .before .before .if2 .left))) (plan-agrees (c .before .before .before .before .before .before .before .before .before .before .before .before .before .before .before .before .before .before .before .before .before .before .args .c) (tableCells _) (c .before .before .before .before .before .before .before .before .before .before .before .before .before .before .before .before .before .before .before .before .before .before .pre .1 .0 .room) (c .before .before .before .before .before .before .before .put-table-begin .ensures) ready n h (c .before .before .before .before .table-plan .ensures f sp _ rs) (c .before .before .each .ensures))
+env-table-returns-3 t c =
+    let at-each = c .before .before in
+    let at-table-plan = at-each .before .before in
+    let at-put-table-begin = at-table-plan .before .before .before in
+    let at-if2 = at-put-table-begin .before .before in
+    let at-letters-fit = at-if2 .before in
+    let at-trim = at-letters-fit .before in
+    let at-inner = at-trim .before in
+    let at-if1 = at-inner .before in
+    let at-has-ends = at-if1 .before in
+    let at-table-argument = at-has-ends .before in
+    let at-shared-slice-known = at-table-argument .before .before .before .before .before in
+    let start = at-shared-slice-known .before .before in
+    λ rs ready f sp n h. agrees-as (table-letters (firstOf ClauseArgument (beginOf f)) (start .args .name .now) _ _ (meaning n)
+    (contextOf rs (start .args .c)) f (carryOf (start .args .c)) (at-table-argument .table-argument .ensures f sp)
+    (sym (at-has-ends .has-ends .ensures) ∙ not-false _ (at-if1 .if1 .left))
+    (at-trim .trim .ensures ∙ ap trim (at-inner .inner .ensures)) ∙ letters-good (start .args .name .now) _ (meaning n)
+    (contextOf rs (start .args .c)) f (carryOf (start .args .c)) (sym (at-letters-fit .letters-fit .ensures) ∙ not-false _
+    (at-if2 .if2 .left))) (plan-agrees (start .args .c) (tableCells _) (start .pre .1 .0 .room)
+    (at-put-table-begin .put-table-begin .ensures) ready n h (at-table-plan .table-plan .ensures f sp _ rs) (at-each .each .ensures))
 
 -- its code meets what it promises, if those it calls do where less is left
 pub env-table-closed : {M : Type 1} (t : ℕ) → env-table-lts.Closed (env-table-calls t) (env-table-at t) env-table.Post M

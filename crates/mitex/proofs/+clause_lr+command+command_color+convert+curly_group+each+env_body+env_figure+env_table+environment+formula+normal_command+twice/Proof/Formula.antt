@@ -17,31 +17,80 @@ use Rattle.mitex.proofs.+clause_lr+command+command_color+convert+curly_
 use Rattle.mitex.proofs.+clause_lr+command+command_color+convert+curly_group+each+env_body+env_figure+env_table+environment+formula+normal_command+twice.Proof.Setup.{formula-at, formula-calls}
 
 formula-is-valid-requires : (t : ℕ) → formula-lts.Need-is-valid-requires (formula-calls t) (formula-at t) formula.Post
-formula-is-valid-requires t c κs = siblings-forest (c .before .before .before .before .before .pre .1 .0) (c .before .before .before .before .before .pre .1 .1 .1)
+formula-is-valid-requires t c κs =
+    let start = c .before .before .before .before .before in
+    siblings-forest (start .pre .1 .0) (start .pre .1 .1 .1)
 
 formula-refuse-requires : (t : ℕ) → formula-lts.Need-refuse-requires (formula-calls t) (formula-at t) formula.Post
 formula-refuse-requires t c κs = search needs
 
 formula-returns : (t : ℕ) → formula-lts.Need-returns (formula-calls t) (formula-at t) formula.Post
-formula-returns t c = λ rs ready f sp n h. agrees-as (formula-bad (meaning n) (contextOf rs (c .before .before .before .before .before .before .before .before .args .c)) f (carryOf (c .before .before .before .before .before .before .before .before .args .c)) (sym (c .before .before .is-valid .ensures f (all-begins sp)) ∙ not-true _ (c .before .if1 .taken))) (agrees-here (omega arith) (c .refuse .ensures))
+formula-returns t c =
+    let at-if1 = c .before in
+    let at-is-valid = at-if1 .before in
+    let at-slice-known = at-is-valid .before .before .before .before .before in
+    let start = at-slice-known .before in
+    λ rs ready f sp n h. agrees-as (formula-bad (meaning n) (contextOf rs (start .args .c)) f (carryOf (start .args .c))
+    (sym (at-is-valid .is-valid .ensures f (all-begins sp)) ∙ not-true _ (at-if1 .if1 .taken)))
+    (agrees-here (omega arith) (c .refuse .ensures))
 
 formula-is-inline-requires : (t : ℕ) → formula-lts.Need-is-inline-requires (formula-calls t) (formula-at t) formula.Post
-formula-is-inline-requires t c κs = siblings-forest (c .before .before .before .before .before .before .before .pre .1 .0) (c .before .before .before .before .before .before .before .pre .1 .1 .1)
+formula-is-inline-requires t c κs =
+    let at-shared-slice-known = c .before .before .before .before .before in
+    let start = at-shared-slice-known .before .before in
+    siblings-forest (start .pre .1 .0) (start .pre .1 .1 .1)
 
 formula-put-formula-begin-requires : (t : ℕ) → formula-lts.Need-put-formula-begin-requires (formula-calls t) (formula-at t) formula.Post
-formula-put-formula-begin-requires t c κs = (c .before .before .before .before .before .before .before .before .before .pre .1 .0 .place, c .before .before .before .before .before .before .before .before .before .pre .1 .0 .room)
+formula-put-formula-begin-requires t c κs =
+    let at-shared-slice-known3 = c .before .before .before .before .before in
+    let start = at-shared-slice-known3 .before .before .before .before in
+    (start .pre .1 .0 .place, start .pre .1 .0 .room)
 
 formula-formula-plan-requires : (t : ℕ) → formula-lts.Need-formula-plan-requires (formula-calls t) (formula-at t) formula.Post
 formula-formula-plan-requires t c κs = search needs
 
 formula-each-requires : (t : ℕ) → formula-lts.Need-each-requires (formula-calls t) (formula-at t) formula.Post
-formula-each-requires t c κs = (omega (arith, c .before .before .before .before .before .before .before .before .before .before .before .before .before .before .pre .0), (room-on (c .before .before .before .before .before .before .before .before .before .before .before .before .before .before .pre .1 .0) (c .before .before .before .before .before .before .before .before .before .before .before .before .before .before .args .c) refl (c .before .before .before .before .before .before .before .before .before .before .before .before .before .before .pre .1 .0 .label) (c .before .before .before .before .put-formula-begin .kept .0) (wrote-low (c .before .before .before .before .put-formula-begin .ensures)), (c .before .before .before .before .before .before .before .before .before .before .before .before .before .before .pre .1 .1 .0, given-in (c .before .before .before .before .before .before .before .before .before .before .before .before .before .before .pre .1 .1 .0) (c .before .before .before .before .before .before .before .before .before .before .before .before .before .before .pre .1 .1 .1) (λ f sp rs. c .before .formula-plan .ensures f sp (sym (c .before .before .before .before .before .before .before .before .is-valid .ensures f (all-begins sp)) ∙ not-false _ (c .before .before .before .before .before .before .before .if1 .left)) (sym (c .before .before .before .before .before .before .is-inline .ensures f (all-begins sp))) rs))))
+formula-each-requires t c κs =
+    let at-formula-plan = c .before in
+    let at-put-formula-begin = at-formula-plan .before .before .before in
+    let at-is-inline = at-put-formula-begin .before .before in
+    let at-if1 = at-is-inline .before in
+    let at-is-valid = at-if1 .before in
+    let at-slice-known = at-is-valid .before .before .before .before .before in
+    let start = at-slice-known .before in (
+      omega (arith, start .pre .0),
+      (
+        room-on (start .pre .1 .0) (start .args .c) refl (start .pre .1 .0 .label)
+            (at-put-formula-begin .put-formula-begin .kept .0) (wrote-low (at-put-formula-begin .put-formula-begin .ensures)),
+        (
+          start .pre .1 .1 .0,
+          given-in (start .pre .1 .1 .0) (start .pre .1 .1 .1)
+              (λ f sp rs. at-formula-plan .formula-plan .ensures f sp (sym (at-is-valid .is-valid .ensures f (all-begins sp)) ∙ not-false _
+              (at-if1 .if1 .left)) (sym (at-is-inline .is-inline .ensures f (all-begins sp))) rs),
+        ),
+      ),
+    )
 
 formula-same-length : (t : ℕ) → formula-lts.Need-same-length (formula-calls t) (formula-at t) formula.Post
-formula-same-length t c = c .before .before .each .kept .0 ∙ c .before .before .before .before .before .before .before .put-formula-begin .kept .0
+formula-same-length t c =
+    let at-each = c .before .before in
+    let at-put-formula-begin = at-each .before .before .before .before .before in
+    at-each .each .kept .0 ∙ at-put-formula-begin .put-formula-begin .kept .0
 
 formula-returns-2 : (t : ℕ) → formula-lts.Need-returns-2 (formula-calls t) (formula-at t) formula.Post
-formula-returns-2 t c = λ rs ready f sp n h. plan-agrees (c .before .before .before .before .before .before .before .before .before .before .before .before .before .before .before .before .before .args .c) formula-arm (c .before .before .before .before .before .before .before .before .before .before .before .before .before .before .before .before .before .pre .1 .0 .room) (c .before .before .before .before .before .before .before .put-formula-begin .ensures) ready n h (c .before .before .before .before .formula-plan .ensures f sp (sym (c .before .before .before .before .before .before .before .before .before .before .before .is-valid .ensures f (all-begins sp)) ∙ not-false _ (c .before .before .before .before .before .before .before .before .before .before .if1 .left)) (sym (c .before .before .before .before .before .before .before .before .before .is-inline .ensures f (all-begins sp))) rs) (c .before .before .each .ensures)
+formula-returns-2 t c =
+    let at-each = c .before .before in
+    let at-formula-plan = at-each .before .before in
+    let at-put-formula-begin = at-formula-plan .before .before .before in
+    let at-is-inline = at-put-formula-begin .before .before in
+    let at-if1 = at-is-inline .before in
+    let at-is-valid = at-if1 .before in
+    let at-slice-known = at-is-valid .before .before .before .before .before in
+    let start = at-slice-known .before in
+    λ rs ready f sp n h. plan-agrees (start .args .c) formula-arm (start .pre .1 .0 .room)
+    (at-put-formula-begin .put-formula-begin .ensures) ready n h (at-formula-plan .formula-plan .ensures f sp
+    (sym (at-is-valid .is-valid .ensures f (all-begins sp)) ∙ not-false _ (at-if1 .if1 .left))
+    (sym (at-is-inline .is-inline .ensures f (all-begins sp))) rs) (at-each .each .ensures)
 
 -- its code meets what it promises, if those it calls do where less is left
 pub formula-closed : {M : Type 1} (t : ℕ) → formula-lts.Closed (formula-calls t) (formula-at t) formula.Post M

@@ -6,10 +6,9 @@ use Rattle.mitex_state.specs.Conversion.{convert as meaning}
 use Rattle.mitex_state.proofs.Agreeing.{agrees-as, agrees-here}
 use Rattle.mitex_plans.specs.Plans.{argumentsIn}
 use Rattle.mitex.proofs.Rooms.{siblings-forest, room-on}
-use Rattle.mitex.proofs.Planning.{plan-agrees, given-in}
+use Rattle.mitex.proofs.Planning.{plan-agrees, given-in, means-after}
 use Rattle.mitex_commands.specs.Leaves.{classOf}
 use Rattle.mitex_state.specs.Outcome.{after}
-use Rattle.mitex.proofs.Planning.{means-after}
 use Rattle.mitex_state.specs.Commands.{argumentsOf, typstName}
 use Rattle.mitex.proofs.Commanding.{normal-absent, normal-found, normal-written, arguments-missing, arguments-taken}
 use native.Mathlib.Omega.{arith}
@@ -19,59 +18,167 @@ use Rattle.mitex.proofs.normal_command.Reads as normal-command
 use Rattle.mitex.proofs.+clause_lr+command+command_color+convert+curly_group+each+env_body+env_figure+env_table+environment+formula+normal_command+twice.Lts-normal_command as normal-command-lts
 use Rattle.mitex.proofs.+clause_lr+command+command_color+convert+curly_group+each+env_body+env_figure+env_table+environment+formula+normal_command+twice.Proof.Setup.{normal-command-at, normal-command-calls}
 
-normal-command-get-cmd-requires : (t : ℕ) → normal-command-lts.Need-get-cmd-requires (normal-command-calls t) (normal-command-at t) normal-command.Post
-normal-command-get-cmd-requires t c κs = c .before .before .before .before .before .before .pre .1 .1 .0
+normal-command-get-cmd-requires : (t : ℕ) → normal-command-lts.Need-get-cmd-requires (normal-command-calls t) (normal-command-at t)
+    normal-command.Post
+normal-command-get-cmd-requires t c κs =
+    let at-slice-known = c .before .before .before .before .before in
+    let start = at-slice-known .before in
+    start .pre .1 .1 .0
 
-normal-command-is-absent-requires : (t : ℕ) → normal-command-lts.Need-is-absent-requires (normal-command-calls t) (normal-command-at t) normal-command.Post
+normal-command-is-absent-requires : (t : ℕ) → normal-command-lts.Need-is-absent-requires (normal-command-calls t) (normal-command-at t)
+    normal-command.Post
 normal-command-is-absent-requires t c κs = search needs
 
-normal-command-refuse-requires : (t : ℕ) → normal-command-lts.Need-refuse-requires (normal-command-calls t) (normal-command-at t) normal-command.Post
+normal-command-refuse-requires : (t : ℕ) → normal-command-lts.Need-refuse-requires (normal-command-calls t) (normal-command-at t)
+    normal-command.Post
 normal-command-refuse-requires t c κs = search needs
 
 normal-command-returns : (t : ℕ) → normal-command-lts.Need-returns (normal-command-calls t) (normal-command-at t) normal-command.Post
-normal-command-returns t c = λ rs ready f sp n h. agrees-as (normal-absent _ (c .before .before .before .before .before .before .before .before .before .before .args .name .now) (meaning n) (contextOf rs (c .before .before .before .before .before .before .before .before .before .before .args .c)) f (carryOf (c .before .before .before .before .before .before .before .before .before .before .args .c)) _ (c .before .before .before .get-cmd .result) ((c .before .before .before .get-cmd .ensures rs (ready .decodes)) .rule) (sym (c .before .before .is-absent .ensures) ∙ c .before .if1 .taken)) (agrees-here (omega arith) (c .refuse .ensures))
+normal-command-returns t c =
+    let at-if1 = c .before in
+    let at-is-absent = at-if1 .before in
+    let at-get-cmd = at-is-absent .before in
+    let at-shared-slice-known = at-get-cmd .before .before .before .before .before in
+    let start = at-shared-slice-known .before .before in
+    λ rs ready f sp n h. agrees-as (normal-absent _ (start .args .name .now) (meaning n) (contextOf rs (start .args .c)) f
+    (carryOf (start .args .c)) _ (at-get-cmd .get-cmd .result) ((at-get-cmd .get-cmd .ensures rs (ready .decodes)) .rule)
+    (sym (at-is-absent .is-absent .ensures) ∙ at-if1 .if1 .taken)) (agrees-here (omega arith) (c .refuse .ensures))
 
-normal-command-written-name-requires : (t : ℕ) → normal-command-lts.Need-written-name-requires (normal-command-calls t) (normal-command-at t) normal-command.Post
-normal-command-written-name-requires t c κs = (c .before .before .get-cmd .ensures (c .before .before .before .before .before .before .before .before .before .pre .1 .1 .0 .rules) (c .before .before .before .before .before .before .before .before .before .pre .1 .1 .0 .ready .decodes)) .inside
+normal-command-written-name-requires : (t : ℕ) → normal-command-lts.Need-written-name-requires (normal-command-calls t)
+    (normal-command-at t) normal-command.Post
+normal-command-written-name-requires t c κs =
+    let at-get-cmd = c .before .before in
+    let at-shared-slice-known = at-get-cmd .before .before .before .before .before in
+    let start = at-shared-slice-known .before .before in
+    (at-get-cmd .get-cmd .ensures (start .pre .1 .1 .0 .rules) (start .pre .1 .1 .0 .ready .decodes)) .inside
 
-normal-command-class-of-requires : (t : ℕ) → normal-command-lts.Need-class-of-requires (normal-command-calls t) (normal-command-at t) normal-command.Post
+normal-command-class-of-requires : (t : ℕ) → normal-command-lts.Need-class-of-requires (normal-command-calls t) (normal-command-at t)
+    normal-command.Post
 normal-command-class-of-requires t c κs = search needs
 
-normal-command-arguments-of-requires : (t : ℕ) → normal-command-lts.Need-arguments-of-requires (normal-command-calls t) (normal-command-at t) normal-command.Post
+normal-command-arguments-of-requires : (t : ℕ) → normal-command-lts.Need-arguments-of-requires (normal-command-calls t)
+    (normal-command-at t) normal-command.Post
 normal-command-arguments-of-requires t c κs = search needs
 
-normal-command-is-stack-requires : (t : ℕ) → normal-command-lts.Need-is-stack-requires (normal-command-calls t) (normal-command-at t) normal-command.Post
+normal-command-is-stack-requires : (t : ℕ) → normal-command-lts.Need-is-stack-requires (normal-command-calls t) (normal-command-at t)
+    normal-command.Post
 normal-command-is-stack-requires t c κs = search needs
 
-normal-command-arguments-plan-requires : (t : ℕ) → normal-command-lts.Need-arguments-plan-requires (normal-command-calls t) (normal-command-at t) normal-command.Post
-normal-command-arguments-plan-requires t c κs = siblings-forest (c .before .before .before .before .before .before .before .before .before .before .before .before .before .pre .1 .0) (c .before .before .before .before .before .before .before .before .before .before .before .before .before .pre .1 .1 .1)
+normal-command-arguments-plan-requires : (t : ℕ) → normal-command-lts.Need-arguments-plan-requires (normal-command-calls t)
+    (normal-command-at t) normal-command.Post
+normal-command-arguments-plan-requires t c κs =
+    let at-is-absent = c .before .before .before .before .before in
+    let at-shared-slice-known2 = at-is-absent .before .before .before .before .before in
+    let start = at-shared-slice-known2 .before .before .before in
+    siblings-forest (start .pre .1 .0) (start .pre .1 .1 .1)
 
 normal-command-enum-told : (t : ℕ) → normal-command-lts.Need-enum-told (normal-command-calls t) (normal-command-at t) normal-command.Post
 normal-command-enum-told t c = search needs
 
-normal-command-refuse-requires-2 : (t : ℕ) → normal-command-lts.Need-refuse-requires-2 (normal-command-calls t) (normal-command-at t) normal-command.Post
+normal-command-refuse-requires-2 : (t : ℕ) → normal-command-lts.Need-refuse-requires-2 (normal-command-calls t) (normal-command-at t)
+    normal-command.Post
 normal-command-refuse-requires-2 t c κs = search needs
 
-normal-command-enum-known-takes : (t : ℕ) → normal-command-lts.Need-enum-known-takes (normal-command-calls t) (normal-command-at t) normal-command.Post
+normal-command-enum-known-takes : (t : ℕ) → normal-command-lts.Need-enum-known-takes (normal-command-calls t) (normal-command-at t)
+    normal-command.Post
 normal-command-enum-known-takes t c = search needs
 
-normal-command-put-command-begin-requires : (t : ℕ) → normal-command-lts.Need-put-command-begin-requires (normal-command-calls t) (normal-command-at t) normal-command.Post
-normal-command-put-command-begin-requires t c κs = (c .before .before .before .before .before .before .before .before .before .before .before .before .before .before .before .before .before .before .pre .1 .0 .place, c .before .before .before .before .before .before .before .before .before .before .before .before .before .before .before .before .before .before .pre .1 .0 .room)
+normal-command-put-command-begin-requires : (t : ℕ) → normal-command-lts.Need-put-command-begin-requires (normal-command-calls t)
+    (normal-command-at t) normal-command.Post
+normal-command-put-command-begin-requires t c κs =
+    let at-is-stack = c .before .before .before .before .before in
+    let at-is-absent = at-is-stack .before .before .before .before .before in
+    let at-shared-slice-known2 = at-is-absent .before .before .before .before .before in
+    let start = at-shared-slice-known2 .before .before .before in
+    (start .pre .1 .0 .place, start .pre .1 .0 .room)
 
-normal-command-each-requires : (t : ℕ) → normal-command-lts.Need-each-requires (normal-command-calls t) (normal-command-at t) normal-command.Post
-normal-command-each-requires t c κs = (omega (arith, c .before .before .before .before .before .before .before .before .before .before .before .before .before .before .before .before .before .before .before .before .before .before .pre .0), (room-on (c .before .before .before .before .before .before .before .before .before .before .before .before .before .before .before .before .before .before .before .before .before .before .pre .1 .0) (c .before .before .before .before .before .before .before .before .before .before .before .before .before .before .before .before .before .before .before .before .before .before .args .c) refl (c .before .before .before .before .before .before .before .before .before .before .before .before .before .before .before .before .before .before .before .before .before .before .pre .1 .0 .label) (c .before .before .before .put-command-begin .kept .0) (wrote-low (c .before .before .before .put-command-begin .ensures)), (c .before .before .before .before .before .before .before .before .before .before .before .before .before .before .before .before .before .before .before .before .before .before .pre .1 .1 .0, given-in (c .before .before .before .before .before .before .before .before .before .before .before .before .before .before .before .before .before .before .before .before .before .before .pre .1 .1 .0) (c .before .before .before .before .before .before .before .before .before .before .before .before .before .before .before .before .before .before .before .before .before .before .pre .1 .1 .1) (λ f sp rs. arguments-taken (c .before .before .before .before .before .before .before .before .arguments-plan .ensures f sp rs) (c .before .before .before .before .before .before .takes .given .1)))))
+normal-command-each-requires : (t : ℕ) → normal-command-lts.Need-each-requires (normal-command-calls t) (normal-command-at t)
+    normal-command.Post
+normal-command-each-requires t c κs =
+    let at-put-command-begin = c .before .before .before in
+    let at-takes = at-put-command-begin .before .before .before in
+    let at-arguments-plan = at-takes .before .before in
+    let at-if1 = at-arguments-plan .before .before .before .before .before in
+    let at-shared-slice-known3 = at-if1 .before .before .before .before .before in
+    let start = at-shared-slice-known3 .before .before .before .before in (
+      omega (arith, start .pre .0),
+      (
+        room-on (start .pre .1 .0) (start .args .c) refl (start .pre .1 .0 .label)
+            (at-put-command-begin .put-command-begin .kept .0) (wrote-low (at-put-command-begin .put-command-begin .ensures)),
+        (
+          start .pre .1 .1 .0,
+          given-in (start .pre .1 .1 .0) (start .pre .1 .1 .1)
+              (λ f sp rs. arguments-taken (at-arguments-plan .arguments-plan .ensures f sp rs) (at-takes .takes .given .1)),
+        ),
+      ),
+    )
 
 normal-command-returns-2 : (t : ℕ) → normal-command-lts.Need-returns-2 (normal-command-calls t) (normal-command-at t) normal-command.Post
-normal-command-returns-2 t c = λ rs ready f sp n h. agrees-as (normal-found _ (c .before .before .before .before .before .before .before .before .before .before .before .before .before .before .before .before .before .args .name .now) (meaning n) (contextOf rs (c .before .before .before .before .before .before .before .before .before .before .before .before .before .before .before .before .before .args .c)) f (carryOf (c .before .before .before .before .before .before .before .before .before .before .before .before .before .before .before .before .before .args .c)) _ (c .before .before .before .before .before .before .before .before .before .before .get-cmd .result) _ ((c .before .before .before .before .before .before .before .before .before .before .get-cmd .ensures rs (ready .decodes)) .rule) (sym (c .before .before .before .before .before .before .before .before .before .is-absent .ensures) ∙ c .before .before .before .before .before .before .before .before .if1 .left) (c .before .before .before .before .before .before .before .written-name .ensures) ∙ normal-written (classOf (c .before .before .before .before .before .before .before .before .before .before .get-cmd .result)) (typstName (c .before .before .before .before .before .before .before .before .before .before .before .before .before .before .before .before .before .args .c .mode) (c .before .before .before .before .before .before .before .before .before .before .before .before .before .before .before .before .before .args .name .now) (c .before .before .before .before .before .before .before .written-name .result .now)) (meaning n) (contextOf rs (c .before .before .before .before .before .before .before .before .before .before .before .before .before .before .before .before .before .args .c)) f (carryOf (c .before .before .before .before .before .before .before .before .before .before .before .before .before .before .before .before .before .args .c)) (c .before .before .before .before .before .arguments-of .result) (c .before .before .before .before .is-stack .result) (c .before .before .before .before .before .arguments-of .ensures ∙ ap (λ y. argumentsOf y (c .before .before .before .before .before .before .before .before .before .before .before .before .before .before .before .before .before .args .c .mode) (typstName (c .before .before .before .before .before .before .before .before .before .before .before .before .before .before .before .before .before .args .c .mode) (c .before .before .before .before .before .before .before .before .before .before .before .before .before .before .before .before .before .args .name .now) (c .before .before .before .before .before .before .before .written-name .result .now))) (c .before .before .before .before .before .before .class-of .ensures)) (c .before .before .before .before .is-stack .ensures) ∙ ap (after (typstName (c .before .before .before .before .before .before .before .before .before .before .before .before .before .before .before .before .before .args .c .mode) (c .before .before .before .before .before .before .before .before .before .before .before .before .before .before .before .before .before .args .name .now) (c .before .before .before .before .before .before .before .written-name .result .now))) (arguments-missing (c .before .before .before .arguments-plan .ensures f sp rs) (c .before .enum-told .given .1) (meaning n) (carryOf (c .before .before .before .before .before .before .before .before .before .before .before .before .before .before .before .before .before .args .c)))) (agrees-here (omega arith) (c .refuse2 .ensures))
+normal-command-returns-2 t c =
+    let at-enum-told = c .before in
+    let at-arguments-plan = at-enum-told .before .before in
+    let at-is-stack = at-arguments-plan .before in
+    let at-arguments-of = at-is-stack .before in
+    let at-class-of = at-arguments-of .before in
+    let at-written-name = at-class-of .before in
+    let at-if1 = at-written-name .before in
+    let at-is-absent = at-if1 .before in
+    let at-get-cmd = at-is-absent .before in
+    let at-shared-slice-known = at-get-cmd .before .before .before .before .before in
+    let start = at-shared-slice-known .before .before in
+    λ rs ready f sp n h. agrees-as (normal-found _ (start .args .name .now) (meaning n) (contextOf rs (start .args .c)) f
+    (carryOf (start .args .c)) _ (at-get-cmd .get-cmd .result) _ ((at-get-cmd .get-cmd .ensures rs (ready .decodes)) .rule)
+    (sym (at-is-absent .is-absent .ensures) ∙ at-if1 .if1 .left) (at-written-name .written-name .ensures) ∙ normal-written
+    (classOf (at-get-cmd .get-cmd .result)) (typstName (start .args .c .mode) (start .args .name .now)
+    (at-written-name .written-name .result .now)) (meaning n) (contextOf rs (start .args .c)) f (carryOf (start .args .c))
+    (at-arguments-of .arguments-of .result) (at-is-stack .is-stack .result)
+    (at-arguments-of .arguments-of .ensures ∙ ap (λ y. argumentsOf y (start .args .c .mode)
+    (typstName (start .args .c .mode) (start .args .name .now) (at-written-name .written-name .result .now)))
+    (at-class-of .class-of .ensures)) (at-is-stack .is-stack .ensures) ∙ ap
+    (after (typstName (start .args .c .mode) (start .args .name .now) (at-written-name .written-name .result .now)))
+    (arguments-missing (at-arguments-plan .arguments-plan .ensures f sp rs) (at-enum-told .enum-told .given .1) (meaning n)
+    (carryOf (start .args .c)))) (agrees-here (omega arith) (c .refuse2 .ensures))
 
-normal-command-same-length : (t : ℕ) → normal-command-lts.Need-same-length (normal-command-calls t) (normal-command-at t) normal-command.Post
-normal-command-same-length t c = c .before .before .each .kept .0 ∙ c .before .before .before .before .before .before .put-command-begin .kept .0
+normal-command-same-length : (t : ℕ) → normal-command-lts.Need-same-length (normal-command-calls t) (normal-command-at t)
+    normal-command.Post
+normal-command-same-length t c =
+    let at-each = c .before .before in
+    let at-put-command-begin = at-each .before .before .before .before in
+    at-each .each .kept .0 ∙ at-put-command-begin .put-command-begin .kept .0
 
 normal-command-returns-3 : (t : ℕ) → normal-command-lts.Need-returns-3 (normal-command-calls t) (normal-command-at t) normal-command.Post
-normal-command-returns-3 t c = λ rs ready f sp n h. agrees-as (normal-found _ (c .before .before .before .before .before .before .before .before .before .before .before .before .before .before .before .before .before .before .before .before .before .before .before .before .before .args .name .now) (meaning n) (contextOf rs (c .before .before .before .before .before .before .before .before .before .before .before .before .before .before .before .before .before .before .before .before .before .before .before .before .before .args .c)) f (carryOf (c .before .before .before .before .before .before .before .before .before .before .before .before .before .before .before .before .before .before .before .before .before .before .before .before .before .args .c)) _ (c .before .before .before .before .before .before .before .before .before .before .before .before .before .before .before .before .before .before .get-cmd .result) _ ((c .before .before .before .before .before .before .before .before .before .before .before .before .before .before .before .before .before .before .get-cmd .ensures rs (ready .decodes)) .rule) (sym (c .before .before .before .before .before .before .before .before .before .before .before .before .before .before .before .before .before .is-absent .ensures) ∙ c .before .before .before .before .before .before .before .before .before .before .before .before .before .before .before .before .if1 .left) (c .before .before .before .before .before .before .before .before .before .before .before .before .before .before .before .written-name .ensures) ∙ normal-written (classOf (c .before .before .before .before .before .before .before .before .before .before .before .before .before .before .before .before .before .before .get-cmd .result)) (typstName (c .before .before .before .before .before .before .before .before .before .before .before .before .before .before .before .before .before .before .before .before .before .before .before .before .before .args .c .mode) (c .before .before .before .before .before .before .before .before .before .before .before .before .before .before .before .before .before .before .before .before .before .before .before .before .before .args .name .now) (c .before .before .before .before .before .before .before .before .before .before .before .before .before .before .before .written-name .result .now)) (meaning n) (contextOf rs (c .before .before .before .before .before .before .before .before .before .before .before .before .before .before .before .before .before .before .before .before .before .before .before .before .before .args .c)) f (carryOf (c .before .before .before .before .before .before .before .before .before .before .before .before .before .before .before .before .before .before .before .before .before .before .before .before .before .args .c)) (c .before .before .before .before .before .before .before .before .before .before .before .before .before .arguments-of .result) (c .before .before .before .before .before .before .before .before .before .before .before .before .is-stack .result) (c .before .before .before .before .before .before .before .before .before .before .before .before .before .arguments-of .ensures ∙ ap (λ y. argumentsOf y (c .before .before .before .before .before .before .before .before .before .before .before .before .before .before .before .before .before .before .before .before .before .before .before .before .before .args .c .mode) (typstName (c .before .before .before .before .before .before .before .before .before .before .before .before .before .before .before .before .before .before .before .before .before .before .before .before .before .args .c .mode) (c .before .before .before .before .before .before .before .before .before .before .before .before .before .before .before .before .before .before .before .before .before .before .before .before .before .args .name .now) (c .before .before .before .before .before .before .before .before .before .before .before .before .before .before .before .written-name .result .now))) (c .before .before .before .before .before .before .before .before .before .before .before .before .before .before .class-of .ensures)) (c .before .before .before .before .before .before .before .before .before .before .before .before .is-stack .ensures)) (plan-agrees (c .before .before .before .before .before .before .before .before .before .before .before .before .before .before .before .before .before .before .before .before .before .before .before .before .before .args .c) (λ conv x g k. after (typstName (c .before .before .before .before .before .before .before .before .before .before .before .before .before .before .before .before .before .before .before .before .before .before .before .before .before .args .c .mode) (c .before .before .before .before .before .before .before .before .before .before .before .before .before .before .before .before .before .before .before .before .before .before .before .before .before .args .name .now) (c .before .before .before .before .before .before .before .before .before .before .before .before .before .before .before .written-name .result .now)) (argumentsIn (c .before .before .before .before .before .before .before .before .before .before .before .before .before .arguments-of .result) (c .before .before .before .before .before .before .before .before .before .before .before .before .is-stack .result) conv x g k)) (c .before .before .before .before .before .before .before .before .before .before .before .before .before .before .before .before .before .before .before .before .before .before .before .before .before .pre .1 .0 .room) (c .before .before .before .before .before .before .put-command-begin .ensures) ready n h (means-after (typstName (c .before .before .before .before .before .before .before .before .before .before .before .before .before .before .before .before .before .before .before .before .before .before .before .before .before .args .c .mode) (c .before .before .before .before .before .before .before .before .before .before .before .before .before .before .before .before .before .before .before .before .before .before .before .before .before .args .name .now) (c .before .before .before .before .before .before .before .before .before .before .before .before .before .before .before .written-name .result .now)) (arguments-taken (c .before .before .before .before .before .before .before .before .before .before .before .arguments-plan .ensures f sp rs) (c .before .before .before .before .before .before .before .before .before .takes .given .1))) (c .before .before .each .ensures))
+normal-command-returns-3 t c =
+    let at-each = c .before .before in
+    let at-put-command-begin = at-each .before .before .before .before in
+    let at-takes = at-put-command-begin .before .before .before in
+    let at-arguments-plan = at-takes .before .before in
+    let at-is-stack = at-arguments-plan .before in
+    let at-arguments-of = at-is-stack .before in
+    let at-class-of = at-arguments-of .before in
+    let at-written-name = at-class-of .before in
+    let at-if1 = at-written-name .before in
+    let at-is-absent = at-if1 .before in
+    let at-get-cmd = at-is-absent .before in
+    let at-shared-slice-known = at-get-cmd .before .before .before .before .before in
+    let start = at-shared-slice-known .before .before in
+    λ rs ready f sp n h. agrees-as (normal-found _ (start .args .name .now) (meaning n) (contextOf rs (start .args .c)) f
+    (carryOf (start .args .c)) _ (at-get-cmd .get-cmd .result) _ ((at-get-cmd .get-cmd .ensures rs (ready .decodes)) .rule)
+    (sym (at-is-absent .is-absent .ensures) ∙ at-if1 .if1 .left) (at-written-name .written-name .ensures) ∙ normal-written
+    (classOf (at-get-cmd .get-cmd .result)) (typstName (start .args .c .mode) (start .args .name .now)
+    (at-written-name .written-name .result .now)) (meaning n) (contextOf rs (start .args .c)) f (carryOf (start .args .c))
+    (at-arguments-of .arguments-of .result) (at-is-stack .is-stack .result)
+    (at-arguments-of .arguments-of .ensures ∙ ap (λ y. argumentsOf y (start .args .c .mode)
+    (typstName (start .args .c .mode) (start .args .name .now) (at-written-name .written-name .result .now)))
+    (at-class-of .class-of .ensures)) (at-is-stack .is-stack .ensures))
+    (plan-agrees (start .args .c) (λ conv x g k. after (typstName (start .args .c .mode) (start .args .name .now)
+    (at-written-name .written-name .result .now)) (argumentsIn (at-arguments-of .arguments-of .result) (at-is-stack .is-stack .result)
+    conv x g k)) (start .pre .1 .0 .room) (at-put-command-begin .put-command-begin .ensures) ready n h
+    (means-after (typstName (start .args .c .mode) (start .args .name .now) (at-written-name .written-name .result .now))
+    (arguments-taken (at-arguments-plan .arguments-plan .ensures f sp rs) (at-takes .takes .given .1))) (at-each .each .ensures))
 
 -- its code meets what it promises, if those it calls do where less is left
-pub normal-command-closed : {M : Type 1} (t : ℕ) → normal-command-lts.Closed (normal-command-calls t) (normal-command-at t) normal-command.Post M
+pub normal-command-closed : {M : Type 1} (t : ℕ) → normal-command-lts.Closed (normal-command-calls t) (normal-command-at t)
+    normal-command.Post M
 normal-command-closed t =
     normal-command-lts.spec (normal-command-calls t)
     (normal-command-at t)
