@@ -3,7 +3,7 @@ use mathlib.Core.Path.{_≡_, refl, sym, ap, subst, _∙_}
 use mathlib.Core.Bool.{Bool, true, false, cond}
 use mathlib.Core.Option.{Option}
 use mathlib.Core.Option.Option.{none as nothing, some}
-use mathlib.Core.List.{List, [], _∷_, _++_, append-assoc}
+use mathlib.Core.List.{List, [], _∷_, _++_}
 use Prim.Native.Nat.{ℕ, _+_, _*_, _-_, _≤_}
 use native.Mathlib.Omega.{arith}
 use types.Run.{OneOf, miss}
@@ -22,27 +22,21 @@ use Rattle.mitex_syntax.specs.Tree.Forest.{none, more}
 use Rattle.mitex_syntax.specs.Spells.{SpellsAll}
 use Rattle.mitex_syntax.specs.Views.{isOf, envName, textIn, inner, firstBy, firstOf, childrenOf, childrenIn, beginOf, goodEnds}
 use Rattle.mitex_syntax.proofs.Trees.{size-more, length-rowss}
-use Rattle.mitex_state.specs.Outcome.{Context, Carry, Outcome, Conv, after, closing, inEnv, stepOf}
+use Rattle.mitex_state.specs.Outcome.{Context, Carry, Conv, after, inEnv}
 use Rattle.mitex_state.specs.Outcome.Outcome.{refused}
 use Rattle.mitex_state.specs.Texts.{leftParen, hash}
-use Rattle.mitex_state.specs.Contract.{Place, Agrees}
-use Rattle.mitex_state.specs.Contract.Agrees.{declines, accepts}
 use Rattle.mitex_state.specs.Children.{each}
 use Rattle.mitex_state.specs.Tables.{lettersFit, tableHead}
 use Rattle.mitex_state.specs.Environments.{Caption, isCaption, captionAt, orLater, lastCaption, captioned, figureEnv, tableBy, tableWith, envOf, envWith, envBy, environment, envBody, plainEnv, mathEnv}
 use Rattle.mitex_state.specs.Environments.Caption.{absent, bare, caption}
-use Rattle.mitex_state.specs.Parts.{CaptionStands, CaptionFound}
+use Rattle.mitex_state.specs.Parts.{CaptionFound}
 use Rattle.mitex_state.specs.Parts.CaptionFound.{no-caption, bare-caption, caption-at}
-use Rattle.mitex_state.proofs.Outcomes.{closing-nil}
 use Rattle.mitex_state.proofs.LaTeXEnv.{the-type as env-type}
 use Rattle.mitex_state.specs.declared.LaTeXEnv.{LaTeXEnv}
 use Rattle.mitex_state.specs.declared.LaTeXEnv.the-variants.{None, Figure, Itemize, Enumerate, Math, Matrix, Cases, SubStack, MathCurlyGroup}
 use Rattle.mitex_state.specs.declared.LaTeXEnv.the-variants.{Table as TableEnv}
 use Rattle.mitex_state.specs.declared.Loop.the-variants.{Table}
-use Rattle.mitex_state.specs.declared.Part.{Part}
 use Rattle.mitex_state.specs.declared.CaptionPart.{CaptionPart}
-use Rattle.mitex_state.specs.declared.CaptionPart.the-variants.{NoCaption, BareCaption, CaptionAt}
-use Rattle.mitex_state.specs.declared.Walked.{Walked}
 use Rattle.mitex_commands.specs.Leaves.{isAbsent, classOf}
 use Rattle.mitex_plans.specs.Plans.{isBare, bareRow}
 
@@ -72,50 +66,6 @@ env-found o name conv x f c file (Aliased class at size) w env e h i j =
     ap (λ (p : Option Rule). envBy p name conv x f c) (sym e)
     ∙ ap (λ (s : List ℕ). envWith (envOf class) s conv x f c) (sym i)
     ∙ ap (λ (y : LaTeXEnv). envWith y w conv x f c) (sym j)
-
-pub step-small : (e : LaTeXEnv) → stepOf e ≤ 2
-step-small None = omega arith
-step-small Figure = omega arith
-step-small TableEnv = omega arith
-step-small Itemize = omega arith
-step-small Enumerate = omega arith
-step-small Math = omega arith
-step-small Matrix = omega arith
-step-small Cases = omega arith
-step-small SubStack = omega arith
-step-small MathCurlyGroup = omega arith
-
--- a refusal is one with a text behind it too
-pub closing-declines :
-    {a : Walked} {x y : Place} {row at : ℕ} {out out′ : List ℕ} {o : Outcome} (w : List ℕ) → Agrees a x row at out out′ o → (a .refusal ≡ 0 → ⊥)
-    → Agrees a y row at out out′ (closing w o)
-closing-declines w (declines g p q) z = declines g p q
-closing-declines w (accepts u ex ec l v) z = absurd (z u)
-
--- ---- captions
-
-module _ {f : Forest} {rows text : List ℕ} where
-  pub caption-none : {r : CaptionPart} → CaptionFound f rows text r → r ≡ NoCaption → lastCaption 1 f ≡ absent
-  caption-none m e = go (subst (CaptionFound f rows text) e m)
-    where
-      go : CaptionFound f rows text NoCaption → lastCaption 1 f ≡ absent
-      go (no-caption h) = h
-
-  pub caption-bare : {r : CaptionPart} {n : ℕ} → CaptionFound f rows text r → r ≡ BareCaption n → lastCaption 1 f ≡ bare (1 + n)
-  caption-bare {r} {n} m e = go (subst (CaptionFound f rows text) e m)
-    where
-      go : CaptionFound f rows text (BareCaption n) → lastCaption 1 f ≡ bare (1 + n)
-      go (bare-caption h) = h
-
-  pub caption-stands : {r : CaptionPart} {p : Part} → CaptionFound f rows text r → r ≡ CaptionAt p → CaptionStands f rows text p
-  caption-stands {r} {p} m e = go (subst (CaptionFound f rows text) e m)
-    where
-      go : CaptionFound f rows text (CaptionAt p) → CaptionStands f rows text p
-      go (caption-at s) = s
-
-pub captioned-as : (k : Caption) (conv : Conv) (x : Context) (f : Forest) (c : Carry) → lastCaption 1 f ≡ k
-    → captioned (lastCaption 1 f) conv x f c ≡ captioned k conv x f c
-captioned-as k conv x f c e = ap (λ (p : Caption). captioned p conv x f c) e
 
 -- ---- tables
 
@@ -188,10 +138,6 @@ pub bare-low : {f : Forest} {rows text : List ℕ} (n : ℕ) → SpellsAll f row
 bare-low {f} {rows} n sp e =
     let h : Low (1 + sizes f) (bare (1 + n)) = subst (Low (1 + sizes f)) e (caption-low 1 f) in
     omega (arith, h, ap length (sp .rows-are), length-rowss f)
-
--- a name between its marks, and the head behind it
-pub head-joined : (w h : List ℕ) → (hash ++ (w ++ leftParen)) ++ h ≡ hash ++ (w ++ (leftParen ++ h))
-head-joined w h = simp append-assoc
 
 -- ---- how long the column letters are
 

@@ -1,29 +1,27 @@
 -- From an element to its children: what the rows of a node spell, and what its arm comes to.
 use mathlib.Core.Path.{_≡_, refl, sym, ap, subst, _∙_}
-use mathlib.Core.Bool.{true, false, cond}
-use mathlib.Core.List.{List, []}
-use Prim.Native.Nat.{ℕ, zero, suc, _+_, _-_, _≤_}
+use mathlib.Core.Bool.{true, false}
+use mathlib.Core.List.{List}
+use Prim.Native.Nat.{ℕ, zero, suc, _-_, _≤_}
 use native.Mathlib.Omega.{arith}
 use lib.ListN.{length, take, drop, getD, length-drop}
 use Rattle.mitex_syntax.specs.Tree.{Tree, Forest, size, sizes}
 use Rattle.mitex_syntax.specs.Tree.Tree.{node}
 use Rattle.mitex_syntax.specs.Spells.{Spells, SpellsAll, SomeTree}
 use Rattle.mitex_syntax.proofs.Trees.{under, size-node, size-some}
-use Rattle.mitex_state.specs.Outcome.{Context, Carry, Outcome, after, closing, flagged}
-use Rattle.mitex_state.specs.Outcome.Outcome.{refused, done}
+use Rattle.mitex_state.specs.Outcome.{Context, Carry, Outcome, flagged}
+use Rattle.mitex_state.specs.Outcome.Outcome.{refused}
 use Rattle.mitex_state.specs.State.{contextOf, carryOf, Carried}
 use Rattle.mitex_state.specs.Contract.{Place, placeOf, Agrees}
 use Rattle.mitex_state.specs.Tokens.{tokenOut}
-use Rattle.mitex_state.specs.Children.{before, converts, behind, turn}
+use Rattle.mitex_state.specs.Children.{before, behind}
 use Rattle.mitex_state.specs.Conversion.{elementOf, armBy, step, convert}
 use Rattle.mitex_state.specs.declared.Element.{Element}
 use Rattle.mitex_state.specs.declared.Element.the-variants.{Unexpected, Token}
-use Rattle.mitex_state.specs.declared.Act.{Act}
 use Rattle.mitex_state.specs.declared.Converter.{Converter}
 use Rattle.mitex_state.specs.declared.Walked.{Walked}
 use Rattle.mitex.specs.Walks.{Room, Siblings, Converts, Walks}
 use Rattle.mitex_state.proofs.Agreeing.{agrees-as}
-use Rattle.mitex_tokens.specs.Puts.{tokenTurn}
 use Rattle.mitex_commands.proofs.Elements.{ofNode, element-node, element-token, element-unexpected}
 use Rattle.mitex.proofs.Rooms.{rest-rows, room-part}
 
@@ -76,14 +74,6 @@ module _ (x : Context) (t : Tree) (c : Carry) {rows text : List ℕ} (sp : Spell
       let l = level d (omega (arith, size-some t)) in
       ap (λ (m : ℕ). convert m x t c) (l .is) ∙ ap (λ (u : Tree). step (convert (l .lower)) x u c) (element-token t sp q)
 
-  -- a token as a child in a loop
-  pub turn-at-token :
-      (d : ℕ) → size t ≤ d → (a : Act) → elementOf (getD rows 0 0) ≡ Token → turn (convert d x) a t c ≡ tokenTurn x a (getD rows 0 0) text c
-  unfolding turn
-  turn-at-token d h a q =
-      ap (λ (s : List ℕ). after (before a s) (closing (behind a) (cond (converts a) (convert d x t c) (done c [])))) (sym (sp .text-is))
-      ∙ ap (λ (o : Outcome). after (before a text) (closing (behind a) (cond (converts a) o (done c [])))) (at-token d h q)
-
   pub at-unexpected : (d : ℕ) → size t ≤ d → elementOf (getD rows 0 0) ≡ Unexpected → convert d x t c ≡ refused 7 0
   unfolding convert
   at-unexpected d h q =
@@ -106,14 +96,6 @@ room-below {row = row} {rows = rows} {d = d} r h m =
     let n = below-length rows in
     let i = m .indent in
     room-part r 8 row d (omega arith) (omega arith) (omega arith) (omega arith) (m .short (r .label)) refl (r .place)
-
-pub room-children :
-    {at row : ℕ} {rows text out : List ℕ} {c d : Converter} {q : Carry} → Room 0 rows text out at row c → 8 ≤ length rows → Carried c q d
-    → Room 0 (below rows) text out at (row + 1) d
-room-children {row = row} {rows = rows} {d = d} r h m =
-    let n = below-length rows in
-    let i = m .indent in
-    room-part r 0 (row + 1) d (omega arith) (omega arith) (omega arith) (omega arith) (m .short (r .label)) refl (r .place)
 
 -- what is promised of a converter with another carry, said of the converter before
 pub carried-as :

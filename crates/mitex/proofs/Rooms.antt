@@ -1,10 +1,10 @@
 -- What one walk is given by another: the plain bounds of a part, of the children of a node, of the same rows at another place.
-use mathlib.Core.Path.{_≡_, refl, ap, _∙_}
+use mathlib.Core.Path.{_≡_, refl}
 use mathlib.Core.List.{List}
 use Prim.Native.Nat.{ℕ, _+_, _-_, _/_, _≤_}
 use native.Mathlib.Omega.{arith}
 use lib.ListN.{length, take, drop, length-drop}
-use lib.Seq.{take-all, length-take-le}
+use lib.Seq.{take-all}
 use Rattle.text.specs.Writing.{cap}
 use Rattle.mitex_syntax.specs.Spells.{SomeForest}
 use Rattle.mitex_syntax.proofs.Trees.{all-begins}
@@ -13,6 +13,7 @@ use Rattle.mitex_state.specs.Outcome.{labelMost}
 use Rattle.mitex_state.specs.Parts.{Inside, between}
 use Rattle.mitex_state.specs.declared.Part.{Part}
 use Rattle.mitex_state.specs.declared.Converter.{Converter}
+use Rattle.mitex_plans.proofs.Parting.{between-length}
 use Rattle.mitex.specs.Walks.{Room, Siblings}
 
 -- the rows behind a place, as the code has them
@@ -55,17 +56,14 @@ room-part r slack′ row′ d hr ht h k l e p =
       label = l;
     }
 
-pub between-length : (l : List ℕ) (a b : ℕ) → a ≤ b → b ≤ length l → length (between a b l) ≡ b - a
-between-length l a b h k = length-take-le (b - a) (drop a l) (simp length-drop (omega arith))
-
 -- a part of a node's children, walked at most two further in: its first element stands behind those before it
 pub room-between :
     {at row : ℕ} {rows text out : List ℕ} {c : Converter} → Room 8 rows text out at row c → (p : Part) → Inside rows text p → (d : Converter)
     → d .indent ≤ c .indent + 2 → d .«label_len» ≤ labelMost
     → Room 0 (between (p .i) (p .e) rows) (between (p .j) (p .u) text) out at (row + 1 + p .i / 8) d
 room-between {row = row} {rows = rows} {text = text} r p s d hd l =
-    let lr = between-length rows (p .i) (p .e) (s .low) (s .high) in
-    let lt = between-length text (p .j) (p .u) (s .begun) (s .stop) in
+    let lr = between-length (p .i) (p .e) rows (s .low) (s .high) in
+    let lt = between-length (p .j) (p .u) text (s .begun) (s .stop) in
     let h = s .low in
     let k = s .high in
     let u = s .stop in

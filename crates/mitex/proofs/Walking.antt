@@ -3,7 +3,7 @@
 use mathlib.Core.Path.{_≡_, refl, sym, ap, subst, _∙_}
 use mathlib.Core.Bool.{Bool, true, false, cond}
 use mathlib.Core.Option.Option.{some}
-use mathlib.Core.List.{List, [], _++_, append-nil}
+use mathlib.Core.List.{List, _++_, append-nil}
 use Prim.Native.Nat.{ℕ, _+_, _-_, _*_, _/_, _≤_, _<_}
 use native.Mathlib.Omega.{arith}
 use lib.Dec.{eqb}
@@ -16,7 +16,6 @@ use Rattle.mitex_spec.specs.RuleFile.{rulesOf}
 use Rattle.mitex_spec.specs.Index.{Ready, SomeRules}
 use Rattle.mitex_syntax.specs.Syntax.{ClauseArgument}
 use Rattle.mitex_syntax.specs.Tree.{Tree, Forest, size, sizes, kindOf, textOf}
-use Rattle.mitex_syntax.specs.Tree.Forest.{none}
 use Rattle.mitex_syntax.specs.Spells.{Spells, SpellsAll, SomeTree}
 use Rattle.mitex_syntax.specs.Rows.{extentOf, tokenSum, Spans}
 use Rattle.mitex_syntax.proofs.Trees.{Element, element, all-begins, spans, kind-at, rows-e, text-n, part, part-spells, part-length, part-short, past-exact, no-left, size-more, length-rowss}
@@ -30,7 +29,7 @@ use Rattle.mitex_state.specs.Conversion.{convert}
 use Rattle.mitex_loops.specs.Given.{numberOf, ChildGiven, OthersGiven, Decides}
 use Rattle.mitex_loops.proofs.Closing.{passes-alone}
 use Rattle.mitex_tokens.specs.Puts.{inside, carrying}
-use Rattle.mitex_tokens.specs.Runs.{TokensGiven, Gone, Runs}
+use Rattle.mitex_tokens.specs.Runs.{TokensGiven, Runs}
 use Rattle.mitex_tokens.specs.declared.Run.{Run}
 use Rattle.mitex_state.specs.declared.LaTeXMode.{LaTeXMode}
 use Rattle.mitex_state.specs.declared.LaTeXEnv.{LaTeXEnv}

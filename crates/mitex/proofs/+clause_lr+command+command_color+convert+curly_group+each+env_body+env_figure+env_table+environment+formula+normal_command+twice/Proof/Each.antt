@@ -6,7 +6,8 @@ use borrow.Author.Tests.{not-true, not-false}
 use Rattle.text.proofs.Writing.{wrote-low}
 use Rattle.mitex_state.specs.Contract.{placeOf}
 use Rattle.mitex_state.specs.Parts.{rowsIn, textIn}
-use Rattle.mitex.proofs.Rooms.{room-on, room-between, between-length}
+use Rattle.mitex_plans.proofs.Parting.{between-length}
+use Rattle.mitex.proofs.Rooms.{room-on, room-between}
 use Rattle.mitex.proofs.Walking.{Looping, Child, looping-start, loop-room, loop-row, child-spans, child, child-given, child-behind, loop-refused, loop-next, turned-passed, turned-refused, turned, tokens-given, run-high, run-stop, run-some, run-refused, run-next, loop-ended, converts-good}
 use Rattle.mitex.proofs.Planning.{planned-at, planned-refused}
 use native.Mathlib.Omega.{arith}
@@ -409,7 +410,7 @@ each-convert-requires t c κs =
     let at-shared-slice-known4 = at-loop .before .before .before .before .before in
     let start = at-shared-slice-known4 .before .before .before .before .before in
     let x = child-here t (at-span-at) in let p = start .pre .1 .1 .1 .inside in (
-      omega (arith, x .long, x .end, between-length (start .args .rows .now) _ _ (p .low) (p .high), p .high, start .pre .0),
+      omega (arith, x .long, x .end, between-length _ _ (start .args .rows .now) (p .low) (p .high), p .high, start .pre .0),
       (
         room-on (x .room) (at-loop .loop .d) refl (at-loop .loop .inv .stands .short) (at-put-before .put-before .kept .0)
             (wrote-low (at-put-before .put-before .ensures)),

@@ -8,7 +8,8 @@ use Rattle.mitex_state.specs.Environments.{plainEnv, mathEnv, envBody}
 use Rattle.mitex_state.proofs.Agreeing.{agrees-as}
 use Rattle.mitex.proofs.Rooms.{siblings-forest, room-on}
 use Rattle.mitex.proofs.Planning.{plan-agrees, both-agree, given-in, both-in}
-use Rattle.mitex.proofs.Environing.{plain-by-tag, math-by-tag, step-small}
+use Rattle.mitex_plans.proofs.Meaning.{step-small}
+use Rattle.mitex.proofs.Environing.{plain-by-tag, math-by-tag}
 use Rattle.mitex_state.specs.declared.LaTeXEnv.{LaTeXEnv}
 use native.Mathlib.Omega.{arith}
 use borrow.Author.Needs.{needs}
