@@ -1,12 +1,11 @@
 -- Laws of the loop over elements side by side. `Stands` has the numbers of the loop, `Left` its meaning: whoever agrees with what is
 -- left agrees with the whole; `Looping` is all that holds at the loop's head.
 use mathlib.Core.Path.{_≡_, refl, sym, ap, subst, _∙_}
-use mathlib.Core.Bool.{Bool, true, false, cond}
+use mathlib.Core.Bool.{Bool, true, false}
 use mathlib.Core.Option.Option.{some}
 use mathlib.Core.List.{List, _++_, append-nil}
 use Prim.Native.Nat.{ℕ, _+_, _-_, _*_, _/_, _≤_, _<_}
 use native.Mathlib.Omega.{arith}
-use lib.Dec.{eqb}
 use lib.ListN.{length, take, drop, getD, length-drop}
 use lib.Seq.{getD-drop, drop-drop}
 use Rattle.text.specs.Writing.{cap, Wrote}
@@ -14,7 +13,6 @@ use Rattle.text.proofs.Writing.{wrote-low}
 use Rattle.mitex_spec.specs.Rules.{Rule}
 use Rattle.mitex_spec.specs.RuleFile.{rulesOf}
 use Rattle.mitex_spec.specs.Index.{Ready, SomeRules}
-use Rattle.mitex_syntax.specs.Syntax.{ClauseArgument}
 use Rattle.mitex_syntax.specs.Tree.{Tree, Forest, size, sizes, kindOf, textOf}
 use Rattle.mitex_syntax.specs.Spells.{Spells, SpellsAll, SomeTree}
 use Rattle.mitex_syntax.specs.Rows.{extentOf, tokenSum, Spans}
@@ -31,10 +29,10 @@ use Rattle.mitex_loops.proofs.Closing.{passes-alone}
 use Rattle.mitex_tokens.specs.Puts.{inside, carrying}
 use Rattle.mitex_tokens.specs.Runs.{TokensGiven, Runs}
 use Rattle.mitex_tokens.specs.declared.Run.{Run}
+use Rattle.mitex_tokens.proofs.Running.{next-number}
 use Rattle.mitex_state.specs.declared.LaTeXMode.{LaTeXMode}
 use Rattle.mitex_state.specs.declared.LaTeXEnv.{LaTeXEnv}
 use Rattle.mitex_state.specs.declared.Loop.{Loop}
-use Rattle.mitex_state.specs.declared.Loop.the-variants.{Plain, Curly, Spaced, Attached, Greedy, Separated, Bracketed, Dollars, Arguments, Named, Inside, Figure, Table}
 use Rattle.mitex_state.specs.declared.Act.{Act}
 use Rattle.mitex_state.specs.declared.Converter.{Converter}
 use Rattle.mitex_state.specs.declared.Walked.{Walked}
@@ -110,26 +108,6 @@ pub record Child (rows text out : List ℕ) (c : Converter) (i j e n at row : �
   pub room : Room 0 (part rows i e) (part text j n) out at (row + i / 8) c
   pub given : SomeTree (part rows i e) (part text j n)
   pub long : length (part rows i e) ≡ e
-
--- the number of the next named argument grows by at most one
-next-number : (l : Loop) (k : ℕ) (a : Act) → numberOf (nextLoop l k a) ≤ numberOf l + 1
-next-number Plain k a = omega arith
-next-number (Curly blank) k a = omega arith
-next-number Spaced k a = omega arith
-next-number (Attached s) k a = omega arith
-next-number Greedy k a = omega arith
-next-number Separated k a = omega arith
-next-number Bracketed k a = omega arith
-next-number Dollars k a = omega arith
-next-number (Arguments dollars) k a = omega arith
-next-number (Named n) k a = counted (eqb k ClauseArgument) n
-  where
-    counted : (b : Bool) (n : ℕ) → numberOf (cond b (Named (n + 1)) (Named n)) ≤ n + 1
-    counted true n = omega arith
-    counted false n = omega arith
-next-number Inside k a = omega arith
-next-number Figure k a = omega arith
-next-number (Table exterior) k a = omega arith
 
 -- what is promised of one child with which the loop does an act
 abbrev pub Turned : List ℕ → List ℕ → List ℕ → List ℕ → ℕ → Converter → ℕ → List ℕ → Walked → List ℕ → Act → Type 0

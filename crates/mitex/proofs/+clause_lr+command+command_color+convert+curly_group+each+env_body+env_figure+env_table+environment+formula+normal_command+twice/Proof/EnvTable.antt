@@ -1,17 +1,21 @@
 -- The needs of `env_table`.
-use mathlib.Core.Path.{refl, sym, ap, _∙_}
-use mathlib.Core.List.{[]}
+use mathlib.Core.Path.{refl, sym, ap, _∙_, _≡_}
+use mathlib.Core.List.{List, []}
 use Rattle.text.proofs.Writing.{wrote-low}
 use Rattle.utf8.specs.Trim.{trim}
 use Rattle.mitex_syntax.specs.Syntax.{ClauseArgument}
 use Rattle.mitex_syntax.specs.Views.{firstOf, beginOf}
 use Rattle.mitex_state.specs.State.{contextOf, carryOf}
 use Rattle.mitex_state.specs.Conversion.{convert as meaning}
+use Rattle.mitex_state.specs.Environments.{tableEnv, tableWith}
 use Rattle.mitex_state.proofs.Agreeing.{agrees-as, agrees-here}
 use borrow.Author.Tests.{not-true, not-false}
 use Rattle.mitex_plans.specs.Plans.{tableCells}
 use Rattle.mitex.proofs.Rooms.{siblings-forest, room-on}
 use Rattle.mitex.proofs.Planning.{plan-agrees, given-in}
+use Rattle.mitex_spec.specs.Rules.{Rule}
+use Rattle.mitex_syntax.specs.Tree.{Forest}
+use Rattle.mitex_syntax.specs.Spells.{SpellsAll}
 use Rattle.mitex.proofs.Environing.{table-bad, table-letters, letters-bad, letters-good, letters-short}
 use native.Mathlib.Omega.{arith}
 use borrow.Author.Needs.{needs}
@@ -19,6 +23,33 @@ use Prim.Native.Nat.{ℕ}
 use Rattle.mitex.proofs.env_table.Reads as env-table
 use Rattle.mitex.proofs.+clause_lr+command+command_color+convert+curly_group+each+env_body+env_figure+env_table+environment+formula+normal_command+twice.Lts-env_table as env-table-lts
 use Rattle.mitex.proofs.+clause_lr+command+command_color+convert+curly_group+each+env_body+env_figure+env_table+environment+formula+normal_command+twice.Proof.Setup.{env-table-at, env-table-calls}
+
+-- a place where the column letters are found, and the function's entry before it
+abbrev Found : ℕ → Type 0
+Found t = env-table-lts.After-trim (env-table-calls t) (env-table-at t) env-table.Post
+
+abbrev entry : (t : ℕ) → Found t → env-table-lts.Start (env-table-calls t) (env-table-at t) env-table.Post
+entry t c =
+    let at-1 = c .before .before .before .before .before in
+    let at-2 = at-1 .before .before .before .before .before in
+    at-2 .before
+
+-- there the table goes by its letters
+lettered :
+    (t : ℕ) (c : Found t) (rs : List Rule) (f : Forest) → SpellsAll f (entry t c .args .rows .now) (entry t c .args .text .now) → (n : ℕ)
+    → tableEnv (entry t c .args .name .now) (meaning n) (contextOf rs (entry t c .args .c)) f (carryOf (entry t c .args .c))
+    ≡ tableWith (entry t c .args .name .now) (c .trim .result .now) (meaning n) (contextOf rs (entry t c .args .c)) f
+    (carryOf (entry t c .args .c))
+lettered t c rs f sp n =
+    let at-inner = c .before in
+    let at-if1 = at-inner .before in
+    let at-has-ends = at-if1 .before in
+    let at-table-argument = at-has-ends .before in
+    let at-shared-slice-known = at-table-argument .before .before .before .before .before in
+    let start = at-shared-slice-known .before .before in
+    table-letters (firstOf ClauseArgument (beginOf f)) (start .args .name .now) _ _ (meaning n) (contextOf rs (start .args .c)) f
+    (carryOf (start .args .c)) (at-table-argument .table-argument .ensures f sp)
+    (sym (at-has-ends .has-ends .ensures) ∙ not-false _ (at-if1 .if1 .left)) (c .trim .ensures ∙ ap trim (at-inner .inner .ensures))
 
 env-table-table-argument-requires : (t : ℕ) → env-table-lts.Need-table-argument-requires (env-table-calls t) (env-table-at t) env-table.Post
 env-table-table-argument-requires t c κs =
@@ -60,16 +91,10 @@ env-table-returns-2 t c =
     let at-if2 = c .before in
     let at-letters-fit = at-if2 .before in
     let at-trim = at-letters-fit .before in
-    let at-inner = at-trim .before in
-    let at-if1 = at-inner .before in
-    let at-has-ends = at-if1 .before in
-    let at-table-argument = at-has-ends .before in
-    let at-shared-slice-known = at-table-argument .before .before .before .before .before in
-    let start = at-shared-slice-known .before .before in
-    λ rs ready f sp n h. agrees-as (table-letters (firstOf ClauseArgument (beginOf f)) (start .args .name .now) _ _ (meaning n)
-    (contextOf rs (start .args .c)) f (carryOf (start .args .c)) (at-table-argument .table-argument .ensures f sp)
-    (sym (at-has-ends .has-ends .ensures) ∙ not-false _ (at-if1 .if1 .left))
-    (at-trim .trim .ensures ∙ ap trim (at-inner .inner .ensures)) ∙ letters-bad (start .args .name .now) _ (meaning n)
+    let at-shared-slice-known5 = at-trim .before .before .before .before .before in
+    let at-slice-known = at-shared-slice-known5 .before .before .before .before .before in
+    let start = at-slice-known .before in
+    λ rs ready f sp n h. agrees-as (lettered t (at-trim) rs f sp n ∙ letters-bad (start .args .name .now) _ (meaning n)
     (contextOf rs (start .args .c)) f (carryOf (start .args .c)) (sym (at-letters-fit .letters-fit .ensures) ∙ not-true _
     (at-if2 .if2 .taken))) (agrees-here (omega arith) (c .refuse2 .ensures))
 
@@ -128,16 +153,10 @@ env-table-returns-3 t c =
     let at-if2 = at-put-table-begin .before .before in
     let at-letters-fit = at-if2 .before in
     let at-trim = at-letters-fit .before in
-    let at-inner = at-trim .before in
-    let at-if1 = at-inner .before in
-    let at-has-ends = at-if1 .before in
-    let at-table-argument = at-has-ends .before in
-    let at-shared-slice-known = at-table-argument .before .before .before .before .before in
-    let start = at-shared-slice-known .before .before in
-    λ rs ready f sp n h. agrees-as (table-letters (firstOf ClauseArgument (beginOf f)) (start .args .name .now) _ _ (meaning n)
-    (contextOf rs (start .args .c)) f (carryOf (start .args .c)) (at-table-argument .table-argument .ensures f sp)
-    (sym (at-has-ends .has-ends .ensures) ∙ not-false _ (at-if1 .if1 .left))
-    (at-trim .trim .ensures ∙ ap trim (at-inner .inner .ensures)) ∙ letters-good (start .args .name .now) _ (meaning n)
+    let at-shared-slice-known5 = at-trim .before .before .before .before .before in
+    let at-slice-known = at-shared-slice-known5 .before .before .before .before .before in
+    let start = at-slice-known .before in
+    λ rs ready f sp n h. agrees-as (lettered t (at-trim) rs f sp n ∙ letters-good (start .args .name .now) _ (meaning n)
     (contextOf rs (start .args .c)) f (carryOf (start .args .c)) (sym (at-letters-fit .letters-fit .ensures) ∙ not-false _
     (at-if2 .if2 .left))) (plan-agrees (start .args .c) (tableCells _) (start .pre .1 .0 .room)
     (at-put-table-begin .put-table-begin .ensures) ready n h (at-table-plan .table-plan .ensures f sp _ rs) (at-each .each .ensures))

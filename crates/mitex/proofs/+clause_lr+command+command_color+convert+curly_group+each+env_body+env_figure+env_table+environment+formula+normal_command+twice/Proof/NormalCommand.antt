@@ -1,5 +1,6 @@
 -- The needs of `normal_command`.
-use mathlib.Core.Path.{refl, sym, ap, _∙_}
+use mathlib.Core.Path.{refl, sym, ap, _∙_, _≡_}
+use mathlib.Core.List.{List}
 use Rattle.text.proofs.Writing.{wrote-low}
 use Rattle.mitex_state.specs.State.{contextOf, carryOf}
 use Rattle.mitex_state.specs.Conversion.{convert as meaning}
@@ -7,9 +8,12 @@ use Rattle.mitex_state.proofs.Agreeing.{agrees-as, agrees-here}
 use Rattle.mitex_plans.specs.Plans.{argumentsIn}
 use Rattle.mitex.proofs.Rooms.{siblings-forest, room-on}
 use Rattle.mitex.proofs.Planning.{plan-agrees, given-in, means-after}
+use Rattle.mitex_spec.specs.Rules.{Rule}
+use Rattle.mitex_spec.specs.Index.{Ready}
+use Rattle.mitex_syntax.specs.Tree.{Forest}
 use Rattle.mitex_commands.specs.Leaves.{classOf}
 use Rattle.mitex_state.specs.Outcome.{after}
-use Rattle.mitex_state.specs.Commands.{argumentsOf, typstName}
+use Rattle.mitex_state.specs.Commands.{argumentsOf, typstName, normalCommand}
 use Rattle.mitex.proofs.Commanding.{normal-absent, normal-found, normal-written, arguments-missing, arguments-taken}
 use native.Mathlib.Omega.{arith}
 use borrow.Author.Needs.{needs}
@@ -17,6 +21,41 @@ use Prim.Native.Nat.{ℕ}
 use Rattle.mitex.proofs.normal_command.Reads as normal-command
 use Rattle.mitex.proofs.+clause_lr+command+command_color+convert+curly_group+each+env_body+env_figure+env_table+environment+formula+normal_command+twice.Lts-normal_command as normal-command-lts
 use Rattle.mitex.proofs.+clause_lr+command+command_color+convert+curly_group+each+env_body+env_figure+env_table+environment+formula+normal_command+twice.Proof.Setup.{normal-command-at, normal-command-calls}
+
+-- a place behind the tests on the command's rule, and the function's entry before it
+abbrev Told : ℕ → Type 0
+Told t = normal-command-lts.After-is-stack (normal-command-calls t) (normal-command-at t) normal-command.Post
+
+abbrev entry : (t : ℕ) → Told t → normal-command-lts.Start (normal-command-calls t) (normal-command-at t) normal-command.Post
+entry t c =
+    let at-is-absent = c .before .before .before .before .before in
+    let at-known = at-is-absent .before .before .before .before in
+    at-known .before .before .before .before
+
+-- there the command is its written name and its arguments
+written-here :
+    (t : ℕ) (c : Told t) (rs : List Rule) → Ready (entry t c .args .rules .now) (entry t c .args .index .now) rs → (f : Forest) (n : ℕ)
+    → normalCommand (entry t c .args .name .now) (meaning n) (contextOf rs (entry t c .args .c)) f (carryOf (entry t c .args .c))
+    ≡ after (typstName (entry t c .args .c .mode) (entry t c .args .name .now) (c .before .before .before .written-name .result .now))
+    (argumentsIn (c .before .arguments-of .result) (c .is-stack .result) (meaning n) (contextOf rs (entry t c .args .c)) f
+    (carryOf (entry t c .args .c)))
+written-here t c rs ready f n =
+    let at-arguments-of = c .before in
+    let at-class-of = at-arguments-of .before in
+    let at-written-name = at-class-of .before in
+    let at-if1 = at-written-name .before in
+    let at-is-absent = at-if1 .before in
+    let at-get-cmd = at-is-absent .before in
+    let at-shared-slice-known = at-get-cmd .before .before .before .before .before in
+    let start = at-shared-slice-known .before .before in
+    normal-found _ (start .args .name .now) (meaning n) (contextOf rs (start .args .c)) f (carryOf (start .args .c)) _
+    (at-get-cmd .get-cmd .result) _ ((at-get-cmd .get-cmd .ensures rs (ready .decodes)) .rule)
+    (sym (at-is-absent .is-absent .ensures) ∙ at-if1 .if1 .left) (at-written-name .written-name .ensures) ∙ normal-written
+    (classOf (at-get-cmd .get-cmd .result)) (typstName (start .args .c .mode) (start .args .name .now)
+    (at-written-name .written-name .result .now)) (meaning n) (contextOf rs (start .args .c)) f (carryOf (start .args .c))
+    (at-arguments-of .arguments-of .result) (c .is-stack .result) (at-arguments-of .arguments-of .ensures ∙ ap
+    (λ y. argumentsOf y (start .args .c .mode) (typstName (start .args .c .mode) (start .args .name .now)
+    (at-written-name .written-name .result .now))) (at-class-of .class-of .ensures)) (c .is-stack .ensures)
 
 normal-command-get-cmd-requires : (t : ℕ) → normal-command-lts.Need-get-cmd-requires (normal-command-calls t) (normal-command-at t)
     normal-command.Post
@@ -118,23 +157,10 @@ normal-command-returns-2 t c =
     let at-enum-told = c .before in
     let at-arguments-plan = at-enum-told .before .before in
     let at-is-stack = at-arguments-plan .before in
-    let at-arguments-of = at-is-stack .before in
-    let at-class-of = at-arguments-of .before in
-    let at-written-name = at-class-of .before in
-    let at-if1 = at-written-name .before in
-    let at-is-absent = at-if1 .before in
-    let at-get-cmd = at-is-absent .before in
-    let at-shared-slice-known = at-get-cmd .before .before .before .before .before in
-    let start = at-shared-slice-known .before .before in
-    λ rs ready f sp n h. agrees-as (normal-found _ (start .args .name .now) (meaning n) (contextOf rs (start .args .c)) f
-    (carryOf (start .args .c)) _ (at-get-cmd .get-cmd .result) _ ((at-get-cmd .get-cmd .ensures rs (ready .decodes)) .rule)
-    (sym (at-is-absent .is-absent .ensures) ∙ at-if1 .if1 .left) (at-written-name .written-name .ensures) ∙ normal-written
-    (classOf (at-get-cmd .get-cmd .result)) (typstName (start .args .c .mode) (start .args .name .now)
-    (at-written-name .written-name .result .now)) (meaning n) (contextOf rs (start .args .c)) f (carryOf (start .args .c))
-    (at-arguments-of .arguments-of .result) (at-is-stack .is-stack .result)
-    (at-arguments-of .arguments-of .ensures ∙ ap (λ y. argumentsOf y (start .args .c .mode)
-    (typstName (start .args .c .mode) (start .args .name .now) (at-written-name .written-name .result .now)))
-    (at-class-of .class-of .ensures)) (at-is-stack .is-stack .ensures) ∙ ap
+    let at-written-name = at-is-stack .before .before .before in
+    let at-shared-slice-known4 = at-written-name .before .before .before .before .before in
+    let start = at-shared-slice-known4 .before .before .before .before .before in
+    λ rs ready f sp n h. agrees-as (written-here t (at-is-stack) rs ready f n ∙ ap
     (after (typstName (start .args .c .mode) (start .args .name .now) (at-written-name .written-name .result .now)))
     (arguments-missing (at-arguments-plan .arguments-plan .ensures f sp rs) (at-enum-told .enum-told .given .1) (meaning n)
     (carryOf (start .args .c)))) (agrees-here (omega arith) (c .refuse2 .ensures))
@@ -154,22 +180,10 @@ normal-command-returns-3 t c =
     let at-arguments-plan = at-takes .before .before in
     let at-is-stack = at-arguments-plan .before in
     let at-arguments-of = at-is-stack .before in
-    let at-class-of = at-arguments-of .before in
-    let at-written-name = at-class-of .before in
-    let at-if1 = at-written-name .before in
-    let at-is-absent = at-if1 .before in
-    let at-get-cmd = at-is-absent .before in
-    let at-shared-slice-known = at-get-cmd .before .before .before .before .before in
-    let start = at-shared-slice-known .before .before in
-    λ rs ready f sp n h. agrees-as (normal-found _ (start .args .name .now) (meaning n) (contextOf rs (start .args .c)) f
-    (carryOf (start .args .c)) _ (at-get-cmd .get-cmd .result) _ ((at-get-cmd .get-cmd .ensures rs (ready .decodes)) .rule)
-    (sym (at-is-absent .is-absent .ensures) ∙ at-if1 .if1 .left) (at-written-name .written-name .ensures) ∙ normal-written
-    (classOf (at-get-cmd .get-cmd .result)) (typstName (start .args .c .mode) (start .args .name .now)
-    (at-written-name .written-name .result .now)) (meaning n) (contextOf rs (start .args .c)) f (carryOf (start .args .c))
-    (at-arguments-of .arguments-of .result) (at-is-stack .is-stack .result)
-    (at-arguments-of .arguments-of .ensures ∙ ap (λ y. argumentsOf y (start .args .c .mode)
-    (typstName (start .args .c .mode) (start .args .name .now) (at-written-name .written-name .result .now)))
-    (at-class-of .class-of .ensures)) (at-is-stack .is-stack .ensures))
+    let at-written-name = at-arguments-of .before .before in
+    let at-shared-slice-known4 = at-written-name .before .before .before .before .before in
+    let start = at-shared-slice-known4 .before .before .before .before .before in
+    λ rs ready f sp n h. agrees-as (written-here t (at-is-stack) rs ready f n)
     (plan-agrees (start .args .c) (λ conv x g k. after (typstName (start .args .c .mode) (start .args .name .now)
     (at-written-name .written-name .result .now)) (argumentsIn (at-arguments-of .arguments-of .result) (at-is-stack .is-stack .result)
     conv x g k)) (start .pre .1 .0 .room) (at-put-command-begin .put-command-begin .ensures) ready n h
