@@ -112,19 +112,19 @@ each-add-if1 t c =
 
 each-shared-slice-read-if1 : (t : ℕ) → each-lts.Need-shared-slice-read-if1 (each-calls t) (each-at t) each.Post each-Inv-loop each-μ-loop
 each-shared-slice-read-if1 t c =
-    let at-loop = c .before in
-    let at-loop = at-loop .before in
-    omega (arith, loop-row (at-loop .loop .inv) (at-loop .loop-test .taken))
+    let in-loop = c .before in
+    let at-loop = in-loop .before in
+    omega (arith, loop-row (at-loop .loop .inv) (in-loop .loop-test .taken))
 
 each-sub-put-tokens : (t : ℕ) → each-lts.Need-sub-put-tokens (each-calls t) (each-at t) each.Post each-Inv-loop each-μ-loop
 each-sub-put-tokens t c =
-    let at-loop = c .before .before .before in
-    omega (arith, at-loop .loop-test .taken)
+    let in-loop = c .before .before .before in
+    omega (arith, in-loop .loop-test .taken)
 
 each-part-put-tokens-start : (t : ℕ) → each-lts.Need-part-put-tokens-start (each-calls t) (each-at t) each.Post each-Inv-loop each-μ-loop
 each-part-put-tokens-start t c =
-    let at-loop = c .before .before .before in
-    omega (arith, at-loop .loop-test .taken)
+    let in-loop = c .before .before .before in
+    omega (arith, in-loop .loop-test .taken)
 
 each-part-put-tokens-end : (t : ℕ) → each-lts.Need-part-put-tokens-end (each-calls t) (each-at t) each.Post each-Inv-loop each-μ-loop
 each-part-put-tokens-end t c = omega arith
@@ -146,10 +146,10 @@ each-part-put-tokens-end-2 t c = omega arith
 each-put-tokens-requires : (t : ℕ) → each-lts.Need-put-tokens-requires (each-calls t) (each-at t) each.Post each-Inv-loop each-μ-loop
 each-put-tokens-requires t c κs =
     let at-if1 = c .before .before .before in
-    let at-loop = at-if1 .before .before in
-    let at-loop = at-loop .before in (
+    let in-loop = at-if1 .before .before in
+    let at-loop = in-loop .before in (
       (at-loop .loop .inv .stands .place, loop-room (at-loop .loop .inv)),
-      (at-loop .loop .inv .some-rules, tokens-given (at-loop .loop .inv) (at-loop .loop-test .taken) (at-if1 .if1 .taken)),
+      (at-loop .loop .inv .some-rules, tokens-given (at-loop .loop .inv) (in-loop .loop-test .taken) (at-if1 .if1 .taken)),
     )
 
 each-add-i : (t : ℕ) → each-lts.Need-add-i (each-calls t) (each-at t) each.Post each-Inv-loop each-μ-loop
@@ -240,9 +240,9 @@ each-loop-again t c =
 
 each-span-at-requires : (t : ℕ) → each-lts.Need-span-at-requires (each-calls t) (each-at t) each.Post each-Inv-loop each-μ-loop
 each-span-at-requires t c κs =
-    let at-loop = c .before .before in
-    let at-loop = at-loop .before in
-    child-spans (at-loop .loop .inv) (at-loop .loop-test .taken)
+    let in-loop = c .before .before in
+    let at-loop = in-loop .before in
+    child-spans (at-loop .loop .inv) (in-loop .loop-test .taken)
 
 each-add-e : (t : ℕ) → each-lts.Need-add-e (each-calls t) (each-at t) each.Post each-Inv-loop each-μ-loop
 each-add-e t c =
@@ -294,11 +294,11 @@ each-part-act-of-end-3 t c = omega arith
 each-act-of-requires : (t : ℕ) → each-lts.Need-act-of-requires (each-calls t) (each-at t) each.Post each-Inv-loop each-μ-loop
 each-act-of-requires t c κs =
     let at-span-at = c .before .before .before .before .before in
-    let at-loop = at-span-at .before .before .before in
-    let at-loop = at-loop .before in (
-      child-given (at-loop .loop .inv) (at-loop .loop-test .taken) _ _ (at-span-at .span-at .ensures .0)
+    let in-loop = at-span-at .before .before .before in
+    let at-loop = in-loop .before in (
+      child-given (at-loop .loop .inv) (in-loop .loop-test .taken) _ _ (at-span-at .span-at .ensures .0)
           (at-span-at .span-at .ensures .1),
-      child-behind (at-loop .loop .inv) (at-loop .loop-test .taken) _ _
+      child-behind (at-loop .loop .inv) (in-loop .loop-test .taken) _ _
           (at-span-at .span-at .ensures .0) (at-span-at .span-at .ensures .1),
     )
 
@@ -326,16 +326,16 @@ each-shared-slice-read-next-loop : (t : ℕ) → each-lts.Need-shared-slice-read
 each-shared-slice-read-next-loop t c =
     let at-put-before-arg = c .before .before .before .before .before in
     let at-struct-known5 = at-put-before-arg .before .before .before .before .before in
-    let at-loop = at-struct-known5 .before .before .before .before .before in
-    at-loop .loop-test .taken
+    let in-loop = at-struct-known5 .before .before .before .before .before in
+    in-loop .loop-test .taken
 
 each-next-loop-requires : (t : ℕ) → each-lts.Need-next-loop-requires (each-calls t) (each-at t) each.Post each-Inv-loop each-μ-loop
 each-next-loop-requires t c κs =
     let at-put-before-arg = c .before .before .before .before .before in
     let at-struct-known5 = at-put-before-arg .before .before .before .before .before in
-    let at-loop = at-struct-known5 .before .before .before .before .before in
-    let at-loop = at-loop .before in
-    omega (arith, at-loop .loop .inv .counts, at-loop .loop-test .taken, at-loop .loop .inv .room .few)
+    let in-loop = at-struct-known5 .before .before .before .before .before in
+    let at-loop = in-loop .before in
+    omega (arith, at-loop .loop .inv .counts, in-loop .loop-test .taken, at-loop .loop .inv .room .few)
 
 each-converts-requires : (t : ℕ) → each-lts.Need-converts-requires (each-calls t) (each-at t) each.Post each-Inv-loop each-μ-loop
 each-converts-requires t c κs = search needs
@@ -355,9 +355,9 @@ each-loop-again-2 t c =
     let at-act-of = at-put-before .before .before .before in
     let at-struct-known4 = at-act-of .before .before .before .before .before in
     let at-span-at = at-struct-known4 .before in
-    let at-loop = at-span-at .before .before .before in
-    let at-loop = at-loop .before in
-    loop-next (at-loop .loop .inv) (at-loop .loop-test .taken) _ _ (at-span-at .span-at .ensures .0) (at-span-at .span-at .ensures .1)
+    let in-loop = at-span-at .before .before .before in
+    let at-loop = in-loop .before in
+    loop-next (at-loop .loop .inv) (in-loop .loop-test .taken) _ _ (at-span-at .span-at .ensures .0) (at-span-at .span-at .ensures .1)
     (at-act-of .act-of .result) (turned-passed (at-loop .loop .d) (at-act-of .act-of .result) (loop-room (at-loop .loop .inv))
     (at-put-before .put-before .ensures) (sym (at-converts .converts .ensures) ∙ not-true _ (c .if3 .taken))
     (at-loop .loop .inv .stands .short)) (at-act-of .act-of .ensures) refl (at-put-before .put-before .kept .0)
@@ -437,13 +437,13 @@ each-returns-2 t c =
     let at-act-of = at-put-before .before .before .before in
     let at-struct-known4 = at-act-of .before .before .before .before .before in
     let at-span-at = at-struct-known4 .before in
-    let at-loop = at-span-at .before .before .before in
-    let at-loop = at-loop .before in
+    let in-loop = at-span-at .before .before .before in
+    let at-loop = in-loop .before in
     let at-placed = at-loop .before in
     let at-shared-slice-known3 = at-placed .before .before .before .before .before in
     let start = at-shared-slice-known3 .before .before .before .before in
     λ rs ready g sp n h. planned-refused (start .args .c) (start .args .plan) (at-placed .placed .ensures) rs n g
-    (loop-refused (at-loop .loop .inv) (at-loop .loop-test .taken) _ _ (at-span-at .span-at .ensures .0)
+    (loop-refused (at-loop .loop .inv) (in-loop .loop-test .taken) _ _ (at-span-at .span-at .ensures .0)
     (at-span-at .span-at .ensures .1) (at-act-of .act-of .result) (turned-refused (at-loop .loop .d) (at-act-of .act-of .result)
     (loop-room (at-loop .loop .inv)) (at-put-before .put-before .ensures)
     (sym (at-converts .converts .ensures) ∙ not-false _ (at-if3 .if3 .left)) (at-convert .convert .ensures) (c .if4 .taken))
@@ -491,9 +491,9 @@ each-loop-again-3 t c =
     let at-act-of = at-put-before .before .before .before in
     let at-struct-known4 = at-act-of .before .before .before .before .before in
     let at-span-at = at-struct-known4 .before in
-    let at-loop = at-span-at .before .before .before in
-    let at-loop = at-loop .before in
-    loop-next (at-loop .loop .inv) (at-loop .loop-test .taken) _ _ (at-span-at .span-at .ensures .0) (at-span-at .span-at .ensures .1)
+    let in-loop = at-span-at .before .before .before in
+    let at-loop = in-loop .before in
+    loop-next (at-loop .loop .inv) (in-loop .loop-test .taken) _ _ (at-span-at .span-at .ensures .0) (at-span-at .span-at .ensures .1)
     (at-act-of .act-of .result) (turned (at-loop .loop .d) (at-act-of .act-of .result) (loop-room (at-loop .loop .inv))
     (at-put-before .put-before .ensures) (sym (at-converts .converts .ensures) ∙ not-false _ (at-if3 .if3 .left))
     (at-convert .convert .ensures) (omega (arith, at-put-before .put-before .kept .0, loop-room (at-loop .loop .inv)))
@@ -537,13 +537,13 @@ each-returns-3 t c =
     let at-placed2 = c .before in
     let at-put-end = at-placed2 .before .before .before in
     let at-put-loop-end = at-put-end .before .before .before .before in
-    let at-loop = at-put-loop-end .before .before in
-    let at-loop = at-loop .before in
+    let past-loop = at-put-loop-end .before .before in
+    let at-loop = past-loop .before in
     let at-placed = at-loop .before in
     let at-shared-slice-known3 = at-placed .before .before .before .before .before in
     let start = at-shared-slice-known3 .before .before .before .before in
     λ rs ready g sp n h. planned-at (start .args .c) (start .args .plan) (at-placed .placed .ensures) rs n g
-    (loop-ended (at-loop .loop .inv) (at-loop .loop-test .left) (placeOf (start .args .c)) (at-put-loop-end .put-loop-end .ensures)
+    (loop-ended (at-loop .loop .inv) (past-loop .loop-test .left) (placeOf (start .args .c)) (at-put-loop-end .put-loop-end .ensures)
     (at-put-end .put-end .ensures) (at-placed2 .placed2 .ensures) (c .went .ensures) rs ready g sp n h)
 
 -- its code meets what it promises, if those it calls do where less is left
