@@ -5,6 +5,10 @@ mod Command
 mod CommandColor
 mod Convert
 mod CurlyGroup
+mod EachLoop
+mod EachTokens
+mod EachPassed
+mod EachConverted
 mod Each
 mod EnvBody
 mod EnvFigure
