@@ -38,7 +38,7 @@ use Rattle.mitex_state.specs.declared.Converter.{Converter}
 use Rattle.mitex_state.specs.declared.Walked.{Walked}
 use Rattle.mitex_state.proofs.Agreeing.{Closed, Good, good, agrees-as, agrees-done, agrees-refused, agrees-after, agrees-close, agrees-shift, then-done, then-refused}
 use Rattle.mitex_state.proofs.Loops.{turn-converts, turn-passes, each-none, each-more}
-use Rattle.mitex.specs.Walks.{Room, Siblings, Converts}
+use Rattle.mitex.specs.Walks.{Room, Siblings, Converts, Turns}
 use Rattle.mitex.proofs.Rooms.{rest-rows}
 
 -- ---- where a loop stands
@@ -93,7 +93,7 @@ looping-start r s g h =
     }
 
 -- a walk that went well, with this converter, at this place
-abbrev pub well : Converter → ℕ → Walked
+abbrev well : Converter → ℕ → Walked
 well c at = record { converter = c; at = at; refusal = 0; row = 0 }
 
 well-went : (c : Converter) (at : ℕ) → Went c at (well c at)
@@ -108,12 +108,6 @@ pub record Child (rows text out : List ℕ) (c : Converter) (i j e n at row : �
   pub room : Room 0 (part rows i e) (part text j n) out at (row + i / 8) c
   pub given : SomeTree (part rows i e) (part text j n)
   pub long : length (part rows i e) ≡ e
-
--- what is promised of one child with which the loop does an act
-abbrev pub Turned : List ℕ → List ℕ → List ℕ → List ℕ → ℕ → Converter → ℕ → List ℕ → Walked → List ℕ → Act → Type 0
-Turned rules index rows text row c at out a out′ act =
-    (rs : List Rule) → Ready rules index rs → (t : Tree) → Spells t rows text → (n : ℕ) → size t ≤ n
-    → Agrees a (placeOf c) row at out out′ (turn (convert n (contextOf rs c)) act t (carryOf c))
 
 module _ {rules index rows text : List ℕ} {row : ℕ} {out₀ : List ℕ} {w₀ : ℕ} {d₀ : Converter} {l₀ : Loop} {out : List ℕ} {w : ℕ}
     {d : Converter} {l : Loop} {i j : ℕ} (k : Looping rules index rows text row out₀ w₀ d₀ l₀ out w d l i j) where
@@ -193,7 +187,7 @@ module _ {rules index rows text : List ℕ} {row : ℕ} {out₀ : List ℕ} {w�
             others = record { forest = x .others; rows-are = q ∙ past-exact x e n is-e is-n (left-spelt .spells) .rows-are };
           }
 
-      module _ (act : Act) {a : Walked} {out′ : List ℕ} (m : Turned rules index (part rows i e) (part text j n) (row + i / 8) d w out a out′ act)
+      module _ (act : Act) {a : Walked} {out′ : List ℕ} (m : Turns rules index (part rows i e) (part text j n) (row + i / 8) d w out a out′ act)
           (de : Decides l (part rows i e) (part text j n) (take (length rows - (i + e)) (drop (i + e) rows)) act) where
         module _ (rs : List Rule) (ready : Ready rules index rs) (f : Forest) (sp : SpellsAll f rows text) (level : ℕ) (fit : sizes f ≤ level) where
           abbrev conv : Tree → Carry → Outcome
@@ -296,24 +290,25 @@ pub refused-closing :
 refused-closing w (declines g p q) z = declines g p q
 refused-closing w (accepts u ex ec l v) z = absurd (z u)
 
--- a walk that went well is closed to a place, with a text behind it
-closed-well :
-    {a : Walked} {q : ℕ} {out out′ w : List ℕ} (x : Place) → placeOf (a .converter) ≡ x → a .refusal ≡ 0 → Wrote (a .at) out w q out′
-    → Closed a x w out (well (a .converter) q) out′
-closed-well {a} x e z wr =
+-- a walk that went well is closed where it is, with a text behind it
+closed-went :
+    {a r : Walked} {q : ℕ} {out out′ w : List ℕ} (x : Place) → placeOf (a .converter) ≡ x → a .refusal ≡ 0 → Wrote (a .at) out w q out′
+    → Went (a .converter) q r → Closed a x w out r out′
+closed-went {a} {r} {q} {out} {out′} {w} x e z wr went =
     record {
       refused-on = λ n. absurd (n z);
-      accepted = λ u. refl;
-      converter = λ u. (λ i. record {
-        mode = e i .mode;
-        env = e i .env;
-        indent = e i .indent;
-        label = a .converter .label;
-        «label_len» = a .converter .«label_len»;
-        «label_held» = a .converter .«label_held»;
-        «skip_next_space» = a .converter .«skip_next_space»;
-      });
-      written = λ u. wr;
+      accepted = λ u. went .well;
+      converter = λ u. went .gives
+          ∙ (λ i. record {
+            mode = e i .mode;
+            env = e i .env;
+            indent = e i .indent;
+            label = a .converter .label;
+            «label_len» = a .converter .«label_len»;
+            «label_held» = a .converter .«label_held»;
+            «skip_next_space» = a .converter .«skip_next_space»;
+          });
+      written = λ u. subst (λ (v : ℕ). Wrote (a .at) out w v out′) (sym (went .next)) wr;
     }
 
 -- ---- one child, as the code does it: a text before, the child itself, a text behind
@@ -321,14 +316,15 @@ closed-well {a} x e z wr =
 module _ {rules index rows text : List ℕ} {row : ℕ} (d : Converter) {w p : ℕ} {out out₁ : List ℕ} (act : Act) (room : length out ≤ cap)
     (begun : Wrote w out (before act text) p out₁) where
   -- it is passed over
-  pub turned-passed : converts act ≡ false → d .«label_len» ≤ labelMost → Turned rules index rows text row d w out (well d p) out₁ act
-  turned-passed e short rs ready t sp n h =
+  pub turned-passed :
+      converts act ≡ false → d .«label_len» ≤ labelMost → {a : Walked} → Went d p a → Turns rules index rows text row d w out a out₁ act
+  turned-passed e short went rs ready t sp n h =
       agrees-as
       (turn-passes (convert n (contextOf rs d)) act t (carryOf d) e
       ∙ ap (λ (v : List ℕ). done (carryOf d) (before act (textOf t) ++ v)) (passes-alone act e)
       ∙ ap (done (carryOf d)) (append-nil (before act (textOf t)))
       ∙ ap (λ (s : List ℕ). done (carryOf d) (before act s)) (sym (sp .text-is)))
-      (agrees-done d (well-went d p) refl refl short begun)
+      (agrees-done d went refl refl short begun)
 
   module _ {a : Walked} {out₂ : List ℕ} (e : converts act ≡ true) (m : Converts rules index rows text row d p out₁ a out₂) where
     around :
@@ -340,19 +336,19 @@ module _ {rules index rows text : List ℕ} {row : ℕ} (d : Converter) {w p : �
         ∙ ap (λ (s : List ℕ). after (before act s) (closing (behind act) (convert n (contextOf rs d) t (carryOf d)))) (sym (sp .text-is))
 
     -- it is refused
-    pub turned-refused : (a .refusal ≡ 0 → ⊥) → Turned rules index rows text row d w out a out₂ act
+    pub turned-refused : (a .refusal ≡ 0 → ⊥) → Turns rules index rows text row d w out a out₂ act
     turned-refused z rs ready t sp n h =
         agrees-as (around rs n t sp) (agrees-after room begun (refused-closing (behind act) (m rs ready t sp n h) z))
 
     -- it is converted
     pub turned :
-        {q : ℕ} {out₃ : List ℕ} → length out₁ ≤ cap → a .refusal ≡ 0 → Wrote (a .at) out₂ (behind act) q out₃
-        → Turned rules index rows text row d w out (well (a .converter) q) out₃ act
-    turned {q} {out₃} room₁ z ended rs ready t sp n h =
+        {q : ℕ} {out₃ : List ℕ} {r : Walked} → length out₁ ≤ cap → a .refusal ≡ 0 → Wrote (a .at) out₂ (behind act) q out₃
+        → Went (a .converter) q r → Turns rules index rows text row d w out r out₃ act
+    turned room₁ z ended went rs ready t sp n h =
         agrees-as (around rs n t sp)
         (agrees-after room begun
         (agrees-close room₁ (m rs ready t sp n h)
-        (closed-well (placeOf d) (good (m rs ready t sp n h) z .placed-so) z ended)))
+        (closed-went (placeOf d) (good (m rs ready t sp n h) z .placed-so) z ended went)))
 
 -- what an element that was converted gives
 pub converts-good :

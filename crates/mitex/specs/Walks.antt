@@ -10,6 +10,7 @@ use Rattle.mitex_syntax.specs.Spells.{Spells, SpellsAll}
 use Rattle.mitex_state.specs.Outcome.{Arm, andThen, labelMost}
 use Rattle.mitex_state.specs.State.{contextOf, carryOf}
 use Rattle.mitex_state.specs.Contract.{placeOf, Agrees}
+use Rattle.mitex_state.specs.Children.{turn}
 use Rattle.mitex_state.specs.Colors.{Model, withModel, colorAlias}
 use Rattle.mitex_state.specs.Conversion.{convert}
 use Rattle.mitex_state.specs.Parts.{rowsIn, textIn, ModelFound}
@@ -18,6 +19,7 @@ use Rattle.mitex_plans.specs.declared.Plan.{Plan}
 use Rattle.mitex_plans.specs.declared.Plans.{Plans}
 use Rattle.mitex_state.specs.declared.ModelPart.{ModelPart}
 use Rattle.mitex_state.specs.declared.Loop.{Loop}
+use Rattle.mitex_state.specs.declared.Act.{Act}
 use Rattle.mitex_state.specs.declared.Converter.{Converter}
 use Rattle.mitex_state.specs.declared.Walked.{Walked}
 
@@ -53,6 +55,12 @@ module _ (rules index rows text : List ℕ) (row : ℕ) (c : Converter) (at : �
   Walks arm =
       (rs : List Rule) → Ready rules index rs → (f : Forest) → SpellsAll f rows text → (d : ℕ) → sizes f ≤ d
       → Agrees a (placeOf c) row at out out′ (arm (convert d) (contextOf rs c) f (carryOf c))
+
+  -- of one child in a loop, by what the loop does with it
+  abbrev pub Turns : Act → Type 0
+  Turns act =
+      (rs : List Rule) → Ready rules index rs → (t : Tree) → Spells t rows text → (d : ℕ) → size t ≤ d
+      → Agrees a (placeOf c) row at out out′ (turn (convert d (contextOf rs c)) act t (carryOf c))
 
   -- of a part of the children, by its plan
   abbrev pub Planned : Plan → Type 0

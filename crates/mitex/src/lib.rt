@@ -8,7 +8,7 @@ ghost use Rattle.mitex_state.specs.Groups.{formula, curlyGroup, clauseLr};
 ghost use Rattle.mitex_state.specs.Commands.{command, normalCommand};
 ghost use Rattle.mitex_state.specs.Environments.{environment, envBody, figureEnv, tableEnv};
 ghost use Rattle.mitex_plans.specs.Plans.{Given, ColorGiven};
-ghost use Rattle.mitex.specs.Walks.{Room, Siblings, Converts, Walks, Planned, Both, Colors};
+ghost use Rattle.mitex.specs.Walks.{Room, Siblings, Converts, Walks, Turns, Planned, Both, Colors};
 use mitex_colors::argument_model;
 use mitex_colors::color_model;
 use mitex_colors::put_color_head;
@@ -61,6 +61,7 @@ use mitex_plans::put_figure_begin;
 use mitex_plans::put_math_begin;
 use mitex_plans::put_table_begin;
 use mitex_plans::table_plan;
+use mitex_state::Act;
 use mitex_state::Command;
 use mitex_state::Converter;
 use mitex_state::Element;
@@ -117,6 +118,36 @@ pub fn convert<'a>(
         }
         Element::Token => convert_token(out, at, kind, text, row, rules, index, c),
     }
+}
+
+// One child in a loop: what is written before it, the child itself if it is converted, and what is written behind.
+fn turn<'a>(
+    out: &mut [u8],
+    at: usize,
+    rows: &[u8],
+    text: &'a [u8],
+    row: usize,
+    rules: &'a [u8],
+    index: &[u32],
+    c: Converter,
+    act: Act,
+) -> Walked
+    requires { ⌜ Room 0 (now rows) (now text) (now out) at row c ⌝ }
+    requires { ⌜ SomeRules (now rules) (now index) ⌝ }
+    requires { ⌜ SomeTree (now rows) (now text) ⌝ }
+    ensures { λ r. ⌜ Turns (now (rules .entry)) (now (index .entry)) (now (rows .entry)) (now (text .entry)) row c at (now (out .entry)) r (now (out .exit)) act ⌝ }
+{
+    let p = put_before(out, at, act, text);
+    if !converts(act) {
+        return went(c, p);
+    }
+    let a = convert(out, p, rows, text, row, rules, index, c);
+    if a.refusal != 0 {
+        return a;
+    }
+    let q = put_behind(out, a.at, act);
+    let d = a.converter;
+    went(d, q)
 }
 
 // A part of the children, by its plan.
@@ -180,29 +211,15 @@ pub fn each<'a>(
         let s = mitex_syntax::span_at(elements, i);
         let e = i + s.rows;
         let u = j + s.text;
-        let act = act_of(l, &elements[i..e], &words[j..u], &elements[e..]);
-        let p = put_before(out, w, act, &words[j..u]);
-        l = next_loop(l, elements[i], act);
-        if !converts(act) {
-            w = p;
-            i = e;
-            j = u;
-            continue;
-        }
-        let r = convert(
-            out,
-            p,
-            &elements[i..e],
-            &words[j..u],
-            first + i / 8,
-            rules,
-            index,
-            d,
-        );
+        let child = &elements[i..e];
+        let said = &words[j..u];
+        let act = act_of(l, child, said, &elements[e..]);
+        let r = turn(out, w, child, said, first + i / 8, rules, index, d, act);
         if r.refusal != 0 {
             return r;
         }
-        w = put_behind(out, r.at, act);
+        l = next_loop(l, elements[i], act);
+        w = r.at;
         let next = r.converter;
         d = next;
         i = e;

@@ -7,8 +7,8 @@ use Rattle.mitex.proofs.Planning.{plan-agrees, given-in}
 use native.Mathlib.Omega.{arith}
 use Prim.Native.Nat.{ℕ}
 use Rattle.mitex.proofs.clause_lr.Reads as clause-lr
-use Rattle.mitex.proofs.+clause_lr+command+command_color+convert+curly_group+each+env_body+env_figure+env_table+environment+formula+normal_command+twice.Lts-clause_lr as clause-lr-lts
-use Rattle.mitex.proofs.+clause_lr+command+command_color+convert+curly_group+each+env_body+env_figure+env_table+environment+formula+normal_command+twice.Proof.Setup.{clause-lr-at, clause-lr-calls}
+use Rattle.mitex.proofs.+clause_lr+command+command_color+convert+curly_group+each+env_body+env_figure+env_table+environment+formula+normal_command+turn+twice.Lts-clause_lr as clause-lr-lts
+use Rattle.mitex.proofs.+clause_lr+command+command_color+convert+curly_group+each+env_body+env_figure+env_table+environment+formula+normal_command+turn+twice.Proof.Setup.{clause-lr-at, clause-lr-calls}
 
 clause-lr-lr-name-requires : (t : ℕ) → clause-lr-lts.Need-lr-name-requires (clause-lr-calls t) (clause-lr-at t) clause-lr.Post
 clause-lr-lr-name-requires t c κs =

@@ -6,43 +6,46 @@ use borrow.Fn.Kinds.{In}
 use borrow.Fn.PlainCycle.{Measures, is, falls, and}
 use Rattle.mitex.proofs.clause_lr.Reads as clause-lr
 use Rattle.mitex.proofs.clause_lr.Kinds as clause-lr-kinds
-use Rattle.mitex.proofs.+clause_lr+command+command_color+convert+curly_group+each+env_body+env_figure+env_table+environment+formula+normal_command+twice.Lts-clause_lr as clause-lr-lts
+use Rattle.mitex.proofs.+clause_lr+command+command_color+convert+curly_group+each+env_body+env_figure+env_table+environment+formula+normal_command+turn+twice.Lts-clause_lr as clause-lr-lts
 use Rattle.mitex.proofs.command.Reads as command
 use Rattle.mitex.proofs.command.Kinds as command-kinds
-use Rattle.mitex.proofs.+clause_lr+command+command_color+convert+curly_group+each+env_body+env_figure+env_table+environment+formula+normal_command+twice.Lts-command as command-lts
+use Rattle.mitex.proofs.+clause_lr+command+command_color+convert+curly_group+each+env_body+env_figure+env_table+environment+formula+normal_command+turn+twice.Lts-command as command-lts
 use Rattle.mitex.proofs.command_color.Reads as command-color
 use Rattle.mitex.proofs.command_color.Kinds as command-color-kinds
-use Rattle.mitex.proofs.+clause_lr+command+command_color+convert+curly_group+each+env_body+env_figure+env_table+environment+formula+normal_command+twice.Lts-command_color as command-color-lts
+use Rattle.mitex.proofs.+clause_lr+command+command_color+convert+curly_group+each+env_body+env_figure+env_table+environment+formula+normal_command+turn+twice.Lts-command_color as command-color-lts
 use Rattle.mitex.proofs.convert.Reads as convert
 use Rattle.mitex.proofs.convert.Kinds as convert-kinds
-use Rattle.mitex.proofs.+clause_lr+command+command_color+convert+curly_group+each+env_body+env_figure+env_table+environment+formula+normal_command+twice.Lts-convert as convert-lts
+use Rattle.mitex.proofs.+clause_lr+command+command_color+convert+curly_group+each+env_body+env_figure+env_table+environment+formula+normal_command+turn+twice.Lts-convert as convert-lts
 use Rattle.mitex.proofs.curly_group.Reads as curly-group
 use Rattle.mitex.proofs.curly_group.Kinds as curly-group-kinds
-use Rattle.mitex.proofs.+clause_lr+command+command_color+convert+curly_group+each+env_body+env_figure+env_table+environment+formula+normal_command+twice.Lts-curly_group as curly-group-lts
+use Rattle.mitex.proofs.+clause_lr+command+command_color+convert+curly_group+each+env_body+env_figure+env_table+environment+formula+normal_command+turn+twice.Lts-curly_group as curly-group-lts
 use Rattle.mitex.proofs.each.Reads as each
 use Rattle.mitex.proofs.each.Kinds as each-kinds
-use Rattle.mitex.proofs.+clause_lr+command+command_color+convert+curly_group+each+env_body+env_figure+env_table+environment+formula+normal_command+twice.Lts-each as each-lts
+use Rattle.mitex.proofs.+clause_lr+command+command_color+convert+curly_group+each+env_body+env_figure+env_table+environment+formula+normal_command+turn+twice.Lts-each as each-lts
 use Rattle.mitex.proofs.env_body.Reads as env-body
 use Rattle.mitex.proofs.env_body.Kinds as env-body-kinds
-use Rattle.mitex.proofs.+clause_lr+command+command_color+convert+curly_group+each+env_body+env_figure+env_table+environment+formula+normal_command+twice.Lts-env_body as env-body-lts
+use Rattle.mitex.proofs.+clause_lr+command+command_color+convert+curly_group+each+env_body+env_figure+env_table+environment+formula+normal_command+turn+twice.Lts-env_body as env-body-lts
 use Rattle.mitex.proofs.env_figure.Reads as env-figure
 use Rattle.mitex.proofs.env_figure.Kinds as env-figure-kinds
-use Rattle.mitex.proofs.+clause_lr+command+command_color+convert+curly_group+each+env_body+env_figure+env_table+environment+formula+normal_command+twice.Lts-env_figure as env-figure-lts
+use Rattle.mitex.proofs.+clause_lr+command+command_color+convert+curly_group+each+env_body+env_figure+env_table+environment+formula+normal_command+turn+twice.Lts-env_figure as env-figure-lts
 use Rattle.mitex.proofs.env_table.Reads as env-table
 use Rattle.mitex.proofs.env_table.Kinds as env-table-kinds
-use Rattle.mitex.proofs.+clause_lr+command+command_color+convert+curly_group+each+env_body+env_figure+env_table+environment+formula+normal_command+twice.Lts-env_table as env-table-lts
+use Rattle.mitex.proofs.+clause_lr+command+command_color+convert+curly_group+each+env_body+env_figure+env_table+environment+formula+normal_command+turn+twice.Lts-env_table as env-table-lts
 use Rattle.mitex.proofs.environment.Reads as environment
 use Rattle.mitex.proofs.environment.Kinds as environment-kinds
-use Rattle.mitex.proofs.+clause_lr+command+command_color+convert+curly_group+each+env_body+env_figure+env_table+environment+formula+normal_command+twice.Lts-environment as environment-lts
+use Rattle.mitex.proofs.+clause_lr+command+command_color+convert+curly_group+each+env_body+env_figure+env_table+environment+formula+normal_command+turn+twice.Lts-environment as environment-lts
 use Rattle.mitex.proofs.formula.Reads as formula
 use Rattle.mitex.proofs.formula.Kinds as formula-kinds
-use Rattle.mitex.proofs.+clause_lr+command+command_color+convert+curly_group+each+env_body+env_figure+env_table+environment+formula+normal_command+twice.Lts-formula as formula-lts
+use Rattle.mitex.proofs.+clause_lr+command+command_color+convert+curly_group+each+env_body+env_figure+env_table+environment+formula+normal_command+turn+twice.Lts-formula as formula-lts
 use Rattle.mitex.proofs.normal_command.Reads as normal-command
 use Rattle.mitex.proofs.normal_command.Kinds as normal-command-kinds
-use Rattle.mitex.proofs.+clause_lr+command+command_color+convert+curly_group+each+env_body+env_figure+env_table+environment+formula+normal_command+twice.Lts-normal_command as normal-command-lts
+use Rattle.mitex.proofs.+clause_lr+command+command_color+convert+curly_group+each+env_body+env_figure+env_table+environment+formula+normal_command+turn+twice.Lts-normal_command as normal-command-lts
+use Rattle.mitex.proofs.turn.Reads as turn
+use Rattle.mitex.proofs.turn.Kinds as turn-kinds
+use Rattle.mitex.proofs.+clause_lr+command+command_color+convert+curly_group+each+env_body+env_figure+env_table+environment+formula+normal_command+turn+twice.Lts-turn as turn-lts
 use Rattle.mitex.proofs.twice.Reads as twice
 use Rattle.mitex.proofs.twice.Kinds as twice-kinds
-use Rattle.mitex.proofs.+clause_lr+command+command_color+convert+curly_group+each+env_body+env_figure+env_table+environment+formula+normal_command+twice.Lts-twice as twice-lts
+use Rattle.mitex.proofs.+clause_lr+command+command_color+convert+curly_group+each+env_body+env_figure+env_table+environment+formula+normal_command+turn+twice.Lts-twice as twice-lts
 use Rattle.mitex_colors.proofs.argument_model.Reads as argument-model-reads
 use Rattle.mitex_colors.proofs.color_model.Reads as color-model-reads
 use Rattle.mitex_colors.proofs.put_color_head.Reads as put-color-head-reads
@@ -76,12 +79,12 @@ use Rattle.mitex_plans.proofs.arguments_plan.Reads as arguments-plan-reads
 use Rattle.mitex_plans.proofs.attach_plan.Reads as attach-plan-reads
 use Rattle.mitex_plans.proofs.bare_row.Reads as bare-row-reads
 use Rattle.mitex_plans.proofs.children_plan.Reads as children-plan-reads
-use Rattle.mitex_plans.proofs.is_bare.Reads as is-bare-reads
 use Rattle.mitex_plans.proofs.color_plans.Reads as color-plans-reads
 use Rattle.mitex_plans.proofs.curly_plan.Reads as curly-plan-reads
 use Rattle.mitex_plans.proofs.env_plan.Reads as env-plan-reads
 use Rattle.mitex_plans.proofs.figure_plans.Reads as figure-plans-reads
 use Rattle.mitex_plans.proofs.formula_plan.Reads as formula-plan-reads
+use Rattle.mitex_plans.proofs.is_bare.Reads as is-bare-reads
 use Rattle.mitex_plans.proofs.lr_name.Reads as lr-name-reads
 use Rattle.mitex_plans.proofs.lr_plan.Reads as lr-plan-reads
 use Rattle.mitex_plans.proofs.math_plans.Reads as math-plans-reads
@@ -112,43 +115,46 @@ use Rattle.text.proofs.put.Reads as put-reads
 use Rattle.utf8.proofs.trim.Reads as trim-reads
 
 abbrev pub μ-clause-lr : Measures 4 clause-lr-kinds.ps ℕ
-μ-clause-lr κs a = length (a .1 .1 .0 .now) + 2
+μ-clause-lr κs a = length (a .1 .1 .0 .now) + 3
 
 abbrev pub μ-command : Measures 4 command-kinds.ps ℕ
-μ-command κs a = length (a .1 .1 .0 .now) + 4
+μ-command κs a = length (a .1 .1 .0 .now) + 5
 
 abbrev pub μ-command-color : Measures 4 command-color-kinds.ps ℕ
-μ-command-color κs a = length (a .1 .1 .0 .now) + 3
+μ-command-color κs a = length (a .1 .1 .0 .now) + 4
 
 abbrev pub μ-convert : Measures 4 convert-kinds.ps ℕ
 μ-convert κs a = length (a .1 .1 .0 .now) + 0
 
 abbrev pub μ-curly-group : Measures 4 curly-group-kinds.ps ℕ
-μ-curly-group κs a = length (a .1 .1 .0 .now) + 2
+μ-curly-group κs a = length (a .1 .1 .0 .now) + 3
 
 abbrev pub μ-each : Measures 4 each-kinds.ps ℕ
-μ-each κs a = length (a .1 .1 .0 .now) + 1
+μ-each κs a = length (a .1 .1 .0 .now) + 2
 
 abbrev pub μ-env-body : Measures 4 env-body-kinds.ps ℕ
-μ-env-body κs a = length (a .1 .1 .0 .now) + 4
+μ-env-body κs a = length (a .1 .1 .0 .now) + 5
 
 abbrev pub μ-env-figure : Measures 4 env-figure-kinds.ps ℕ
-μ-env-figure κs a = length (a .1 .1 .0 .now) + 3
+μ-env-figure κs a = length (a .1 .1 .0 .now) + 4
 
 abbrev pub μ-env-table : Measures 4 env-table-kinds.ps ℕ
-μ-env-table κs a = length (a .1 .1 .0 .now) + 2
+μ-env-table κs a = length (a .1 .1 .0 .now) + 3
 
 abbrev pub μ-environment : Measures 4 environment-kinds.ps ℕ
-μ-environment κs a = length (a .1 .1 .0 .now) + 5
+μ-environment κs a = length (a .1 .1 .0 .now) + 6
 
 abbrev pub μ-formula : Measures 4 formula-kinds.ps ℕ
-μ-formula κs a = length (a .1 .1 .0 .now) + 2
+μ-formula κs a = length (a .1 .1 .0 .now) + 3
 
 abbrev pub μ-normal-command : Measures 4 normal-command-kinds.ps ℕ
-μ-normal-command κs a = length (a .1 .1 .0 .now) + 2
+μ-normal-command κs a = length (a .1 .1 .0 .now) + 3
+
+abbrev pub μ-turn : Measures 4 turn-kinds.ps ℕ
+μ-turn κs a = length (a .1 .1 .0 .now) + 1
 
 abbrev pub μ-twice : Measures 4 twice-kinds.ps ℕ
-μ-twice κs a = length (a .1 .1 .0 .now) + 2
+μ-twice κs a = length (a .1 .1 .0 .now) + 3
 
 abbrev pub clause-lr-at : ℕ → In 4 clause-lr-kinds.ps
 clause-lr-at t = and 4 clause-lr-kinds.ps (is 4 clause-lr-kinds.ps μ-clause-lr t) clause-lr.Pre
@@ -222,6 +228,12 @@ normal-command-at t = and 4 normal-command-kinds.ps (is 4 normal-command-kinds.p
 abbrev pub normal-command-below : ℕ → In 4 normal-command-kinds.ps
 normal-command-below t = and 4 normal-command-kinds.ps (falls 4 normal-command-kinds.ps _<_ μ-normal-command t) normal-command.Pre
 
+abbrev pub turn-at : ℕ → In 4 turn-kinds.ps
+turn-at t = and 4 turn-kinds.ps (is 4 turn-kinds.ps μ-turn t) turn.Pre
+
+abbrev pub turn-below : ℕ → In 4 turn-kinds.ps
+turn-below t = and 4 turn-kinds.ps (falls 4 turn-kinds.ps _<_ μ-turn t) turn.Pre
+
 abbrev pub twice-at : ℕ → In 4 twice-kinds.ps
 twice-at t = and 4 twice-kinds.ps (is 4 twice-kinds.ps μ-twice t) twice.Pre
 
@@ -244,7 +256,7 @@ abbrev pub curly-group-calls : ℕ → curly-group-lts.Claims
 curly-group-calls t = (curly-plan-reads.Asked, curly-plan-reads.Learnt, each-below t, each.Post)
 
 abbrev pub each-calls : ℕ → each-lts.Claims
-each-calls t = (placed-reads.Asked, placed-reads.Learnt, put-tokens-reads.Asked, put-tokens-reads.Learnt, refuse-reads.Asked, refuse-reads.Learnt, span-at-reads.Asked, span-at-reads.Learnt, act-of-reads.Asked, act-of-reads.Learnt, put-before-reads.Asked, put-before-reads.Learnt, next-loop-reads.Asked, next-loop-reads.Learnt, converts-reads.Asked, converts-reads.Learnt, convert-below t, convert.Post, put-behind-reads.Asked, put-behind-reads.Learnt, put-loop-end-reads.Asked, put-loop-end-reads.Learnt, put-end-reads.Asked, put-end-reads.Learnt, went-reads.Asked, went-reads.Learnt)
+each-calls t = (placed-reads.Asked, placed-reads.Learnt, put-tokens-reads.Asked, put-tokens-reads.Learnt, refuse-reads.Asked, refuse-reads.Learnt, span-at-reads.Asked, span-at-reads.Learnt, act-of-reads.Asked, act-of-reads.Learnt, turn-below t, turn.Post, next-loop-reads.Asked, next-loop-reads.Learnt, put-loop-end-reads.Asked, put-loop-end-reads.Learnt, put-end-reads.Asked, put-end-reads.Learnt, went-reads.Asked, went-reads.Learnt)
 
 abbrev pub env-body-calls : ℕ → env-body-lts.Claims
 env-body-calls t = (put-env-begin-reads.Asked, put-env-begin-reads.Learnt, env-plan-reads.Asked, env-plan-reads.Learnt, each-below t, each.Post, env-figure-below t, env-figure.Post, env-table-below t, env-table.Post, put-math-begin-reads.Asked, put-math-begin-reads.Learnt, math-plans-reads.Asked, math-plans-reads.Learnt, twice-below t, twice.Post)
@@ -263,6 +275,9 @@ formula-calls t = (is-valid-reads.Asked, is-valid-reads.Learnt, refuse-reads.Ask
 
 abbrev pub normal-command-calls : ℕ → normal-command-lts.Claims
 normal-command-calls t = (get-cmd-reads.Asked, get-cmd-reads.Learnt, is-absent-reads.Asked, is-absent-reads.Learnt, refuse-reads.Asked, refuse-reads.Learnt, written-name-reads.Asked, written-name-reads.Learnt, class-of-reads.Asked, class-of-reads.Learnt, arguments-of-reads.Asked, arguments-of-reads.Learnt, is-stack-reads.Asked, is-stack-reads.Learnt, arguments-plan-reads.Asked, arguments-plan-reads.Learnt, put-command-begin-reads.Asked, put-command-begin-reads.Learnt, each-below t, each.Post)
+
+abbrev pub turn-calls : ℕ → turn-lts.Claims
+turn-calls t = (put-before-reads.Asked, put-before-reads.Learnt, converts-reads.Asked, converts-reads.Learnt, went-reads.Asked, went-reads.Learnt, convert-below t, convert.Post, put-behind-reads.Asked, put-behind-reads.Learnt)
 
 abbrev pub twice-calls : ℕ → twice-lts.Claims
 twice-calls t = (each-below t, each.Post)

@@ -13,8 +13,8 @@ use native.Mathlib.Omega.{arith}
 use borrow.Author.Needs.{needs}
 use Prim.Native.Nat.{ℕ}
 use Rattle.mitex.proofs.formula.Reads as formula
-use Rattle.mitex.proofs.+clause_lr+command+command_color+convert+curly_group+each+env_body+env_figure+env_table+environment+formula+normal_command+twice.Lts-formula as formula-lts
-use Rattle.mitex.proofs.+clause_lr+command+command_color+convert+curly_group+each+env_body+env_figure+env_table+environment+formula+normal_command+twice.Proof.Setup.{formula-at, formula-calls}
+use Rattle.mitex.proofs.+clause_lr+command+command_color+convert+curly_group+each+env_body+env_figure+env_table+environment+formula+normal_command+turn+twice.Lts-formula as formula-lts
+use Rattle.mitex.proofs.+clause_lr+command+command_color+convert+curly_group+each+env_body+env_figure+env_table+environment+formula+normal_command+turn+twice.Proof.Setup.{formula-at, formula-calls}
 
 formula-is-valid-requires : (t : ℕ) → formula-lts.Need-is-valid-requires (formula-calls t) (formula-at t) formula.Post
 formula-is-valid-requires t c κs =

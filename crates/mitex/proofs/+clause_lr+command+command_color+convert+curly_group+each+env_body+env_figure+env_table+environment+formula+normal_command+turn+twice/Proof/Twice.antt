@@ -8,8 +8,8 @@ use Rattle.mitex.proofs.Planning.{planned-good, agrees-in}
 use native.Mathlib.Omega.{arith}
 use Prim.Native.Nat.{ℕ}
 use Rattle.mitex.proofs.twice.Reads as twice
-use Rattle.mitex.proofs.+clause_lr+command+command_color+convert+curly_group+each+env_body+env_figure+env_table+environment+formula+normal_command+twice.Lts-twice as twice-lts
-use Rattle.mitex.proofs.+clause_lr+command+command_color+convert+curly_group+each+env_body+env_figure+env_table+environment+formula+normal_command+twice.Proof.Setup.{twice-at, twice-calls}
+use Rattle.mitex.proofs.+clause_lr+command+command_color+convert+curly_group+each+env_body+env_figure+env_table+environment+formula+normal_command+turn+twice.Lts-twice as twice-lts
+use Rattle.mitex.proofs.+clause_lr+command+command_color+convert+curly_group+each+env_body+env_figure+env_table+environment+formula+normal_command+turn+twice.Proof.Setup.{twice-at, twice-calls}
 
 twice-each-requires : (t : ℕ) → twice-lts.Need-each-requires (twice-calls t) (twice-at t) twice.Post
 twice-each-requires t c κs =
