@@ -43,7 +43,7 @@ use Rattle.mitex_tokens.proofs.Putting.{passed, refused-so, uniform-tur
 -- ---- the first token of a forest, by its row and the text
 
 abbrev pub headOf : List ℕ → List ℕ → Tree
-headOf R t = token (getD R 0 0) (take (numOf R) t)
+headOf rows text = token (getD rows 0 0) (take (numOf rows) text)
 
 pub record Head (f : Forest) (rows text : List ℕ) : Type 0 where
   pub others : Forest
