@@ -16,7 +16,7 @@ use Rattle.mitex_parser.proofs.first_fits.Statement.{statement}
 use Rattle.mitex_parser.proofs.first_fits.Tie as tie
 
 abbrev entry : (c : tie.After-extent) → tie.Start
-entry c = c .before .before .before .before .before .before .before
+entry c = let known = c .before .before .before .before in known .before .before .before
 
 -- the rows under a node that has rules
 under : (c : tie.After-extent) (t : Tree) (f : Forest) → SpellsAll (more t f) (entry c .args .rows .now) (entry c .args .text .now)
@@ -58,7 +58,8 @@ part-node-fits-end c = let x = given-head (entry c .pre) in omega (arith, x .fir
 node-fits-requires : tie.Need-node-fits-requires
 node-fits-requires c κs =
     let at = c .before in
-    let p = c .before .before .before .before .before .before .before .before .pre in
+    let known = c .before .before .before .before in
+    let p = known .before .before .before .before .pre in
     let few = p .few in
     let short = p .short in
     let x = given-head p in

@@ -24,7 +24,8 @@ first-fits-requires c κs = search needs
 
 returns-2 : tie.Need-returns-2
 returns-2 c =
-    let p = c .before .before .before .before .before .before .before .pre .0 in
+    let known = c .before .before .before .before in
+    let p = known .before .before .before .pre .0 in
     let fits = c .before .first-fits in
     λ f sp.
     let x = head f sp (p .some) (p .few) (p .short) in

@@ -17,7 +17,10 @@ slice-aggregate-token-fits : tie.Need-slice-aggregate-token-fits
 slice-aggregate-token-fits c = sym (length-take-le _ _ (c .before .before .if1 .taken))
 
 token-fits-requires : tie.Need-token-fits-requires
-token-fits-requires c κs = λ e. one-take (c .before .before .before .read-u32 .result) (c .before .before .before .before .before .before .args .text .now) (c .before .before .before .before .before .before .pre .1 e)
+token-fits-requires c κs =
+    let read = c .before .before .before in
+    let start = read .before .before .before in
+    λ e. one-take (read .read-u32 .result) (start .args .text .now) (start .pre .1 e)
 
 returns : tie.Need-returns
 returns c = rw (sym (c .before .before .before .before .before .read-u32 .ensures .0), le-leb _ _ (c .before .before .before .before .if1 .taken), sym (c .before .token-fits .ensures) ∙ c .if2 .taken)

@@ -27,7 +27,8 @@ returns c =
 
 split-first-requires : tie.Need-split-first-requires
 split-first-requires c κs =
-    let start = c .before .before .before .before .before .before in
+    let known = c .before .before .before in
+    let start = known .before .before .before in
     color-asks (start .pre .0) (start .pre .1) (start .pre .2)
 
 plan-here-requires-3 : tie.Need-plan-here-requires-3

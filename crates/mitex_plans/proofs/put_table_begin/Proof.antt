@@ -17,7 +17,8 @@ same-length c = search needs
 
 returns : tie.Need-returns
 returns c =
-    let call = c .before .before .before .before .before .before in
+    let known = c .before .before .before in
+    let call = known .before .before .before in
     let start = call .before .before .before .before .before in
     let a = start .args in
     wrote-as (head-joined (a .name .now) (tableHead (a .letters .now)))

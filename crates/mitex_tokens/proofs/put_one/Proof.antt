@@ -104,7 +104,8 @@ same-length-2 c = search needs
 
 returns-2 : tie.Need-returns-2
 returns-2 c =
-    let c₁ = c .before .before .before .before .before .before in
+    let known = c .before .before .before in
+    let c₁ = known .before .before .before in
     let c₂ = c₁ .before .before in
     let s = start (counted c₂) in
     let g = s .pre .1 .1 in

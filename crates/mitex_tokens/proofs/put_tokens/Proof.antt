@@ -9,7 +9,8 @@ is-steady-requires c κs = search needs
 
 put-run-requires : tie.Need-put-run-requires
 put-run-requires c κs =
-    let p = c .before .before .before .before .before .before .before .before .pre in
+    let known = c .before .before .before .before in
+    let p = known .before .before .before .before .pre in
     (p .0, (p .1 .0, (p .1 .1, sym (c .before .before .is-steady .ensures) ∙ c .before .if1 .taken)))
 
 same-length : tie.Need-same-length

@@ -45,8 +45,10 @@ loop-less c = search needs
 loop-again : tie.Need-loop-again Inv-loop μ-loop
 loop-again c =
     let turn = c .before .before in
-    let at = turn .before .loop in
-    (omega arith, rw (c .step .ensures, ← run-cons (at .u) (turn .before .before .before .before .before .before .args .s .now) (at .i) (turn .loop-test .taken)) (at .inv .1))
+    let head = turn .before in
+    let start = head .before .before .before .before .before in
+    let at = head .loop in
+    (omega arith, rw (c .step .ensures, ← run-cons (at .u) (start .args .s .now) (at .i) (turn .loop-test .taken)) (at .inv .1))
 
 returns-2 : tie.Need-returns-2 Inv-loop μ-loop
 unfolding valid
