@@ -15,18 +15,20 @@ use Rattle.mitex_state.specs.Outcome.Outcome.{refused}
 use Rattle.mitex_syntax.specs.Views.{isValid}
 use Rattle.mitex_state.specs.State.{contextOf, carryOf, placed}
 use Rattle.mitex_state.specs.Groups.{formula}
-use Rattle.mitex_state.specs.Contract.{Place, placeOf, Agrees, Takes, Declined}
+use Rattle.mitex_state.specs.Contract.{Place, placeOf, Agrees, Went, Takes, Declined}
 use Rattle.mitex_state.specs.Conversion.{convert}
-use Rattle.mitex_state.proofs.Agreeing.{Good, good, agrees-as, agrees-after, agrees-shift, agrees-takes}
+use Rattle.mitex_state.proofs.Agreeing.{Good, good, agrees-as, agrees-after, agrees-shift, agrees-close, agrees-takes}
 use Rattle.mitex_state.proofs.Outcomes.{after-after}
 use Rattle.mitex_state.specs.Environments.{takeLabel}
 use Rattle.mitex_state.specs.declared.LaTeXMode.{LaTeXMode}
 use Rattle.mitex_state.specs.declared.Converter.{Converter}
+use Rattle.mitex_state.specs.Parts.{rowsIn, textIn}
+use Rattle.mitex_state.specs.declared.Loop.{Loop}
 use Rattle.mitex_state.specs.declared.Walked.{Walked}
 use Rattle.mitex_plans.specs.Plans.{endText, planned, Given, Means, MeansBoth}
 use Rattle.mitex_plans.specs.declared.Plan.{Plan}
 use Rattle.mitex_plans.specs.declared.Plans.{Plans}
-use Rattle.mitex.specs.Walks.{Siblings, Walks, Planned, Both}
+use Rattle.mitex.specs.Walks.{Siblings, Walks, Loops, Planned, Both}
 use Rattle.mitex.proofs.Walking.{wholly, refused-closing}
 
 module _ {rules index rows text : List ℕ} {row : ℕ} (c : Converter) {at at₁ : ℕ} {out out₁ out₂ : List ℕ} {a : Walked} (arm : Arm) {w : List ℕ}
@@ -48,6 +50,13 @@ module _ {rules index rows text : List ℕ} {row : ℕ} (c : Converter) {at at�
       (agrees-after room begun
       (walked rs ready (m .first .forest) (m .second .forest) (m .first .spells) (m .second .spells) d (omega (arith, m .fits-first))
       (omega (arith, m .fits-second))))
+
+-- a loop that went well leaves the converter in its place
+pub loops-good :
+    {rules index rows text : List ℕ} {row : ℕ} (c : Converter) {at : ℕ} {out : List ℕ} {a : Walked} {out′ : List ℕ} (l : Loop) → SomeRules rules index
+    → {indent : ℕ} {p : Plan} → Given rows text indent p
+    → Loops rules index (rowsIn (p .part) rows) (textIn (p .part) text) row c at out a out′ l → a .refusal ≡ 0 → Good a (placeOf c)
+loops-good c l s g m z = good (m (s .rules) (s .ready) (g .forest) (g .spells) (sizes (g .forest)) (omega arith)) z
 
 -- a plan that was walked well leaves the converter in its place
 pub planned-good :
@@ -109,11 +118,11 @@ declined-row {n} {row} {row′} {a} e d = subst (λ (z : ℕ). Declined n z a) e
 
 module _ (c : Converter) (p : Plan) {d : Converter} (e : d ≡ placed (p .mode) (p .env) (p .indent) c) (rs : List Rule) (n : ℕ) (g : Forest)
     {a : Walked} {row at : ℕ} {out out′ : List ℕ} where
-  -- it is done, with the plan's end behind it
-  pub planned-at :
+  -- with the plan's end behind it
+  planned-ended :
       {x : Place} → Agrees a x (row + 1 + p .part .i / 8) at out out′ (closing (endText (p .end)) (wholly rs n d (p .how) g))
       → Agrees a x row at out out′ (planned (convert n) rs p g (carryOf c))
-  planned-at {x} m =
+  planned-ended {x} m =
       let first : row + 1 + p .part .i / 8 ≡ row + (1 + p .part .i / 8) = omega arith in
       agrees-shift (1 + p .part .i / 8)
       (agrees-as (sym (ap (λ (q : Converter). closing (endText (p .end)) (wholly rs n q (p .how) g)) e))
@@ -123,4 +132,21 @@ module _ (c : Converter) (p : Plan) {d : Converter} (e : d ≡ placed (p .mode) 
   pub planned-refused :
       Agrees a (placeOf d) (row + 1 + p .part .i / 8) at out out′ (wholly rs n d (p .how) g) → (a .refusal ≡ 0 → ⊥)
       → Agrees a (placeOf c) row at out out′ (planned (convert n) rs p g (carryOf c))
-  planned-refused m z = planned-at (refused-closing (endText (p .end)) m z)
+  planned-refused m z = planned-ended (refused-closing (endText (p .end)) m z)
+
+-- it is done: the plan's end is written, and the converter comes back
+pub planned-done :
+    (c : Converter) (p : Plan) {d : Converter} → d ≡ placed (p .mode) (p .env) (p .indent) c → (rs : List Rule) (n : ℕ) (g : Forest) {a r : Walked}
+    {row at q : ℕ} {out out₁ out₂ : List ℕ} {b : Converter} → length out ≤ cap
+    → Agrees a (placeOf d) (row + 1 + p .part .i / 8) at out out₁ (wholly rs n d (p .how) g) → a .refusal ≡ 0
+    → Wrote (a .at) out₁ (endText (p .end)) q out₂ → b ≡ placed (c .mode) (c .env) (c .indent) (a .converter) → Went b q r
+    → Agrees r (placeOf c) row at out out₂ (planned (convert n) rs p g (carryOf c))
+planned-done c p e rs n g {a} {r} {row} {at} {q} {out} {out₁} {out₂} room m z ended back went =
+    planned-ended c p e rs n g
+    (agrees-close room m
+    (record {
+      refused-on = λ u. absurd (u z);
+      accepted = λ u. went .well;
+      converter = λ u. went .gives ∙ back;
+      written = λ u. subst (λ (v : ℕ). Wrote (a .at) out₁ (endText (p .end)) v out₂) (sym (went .next)) ended;
+    }))

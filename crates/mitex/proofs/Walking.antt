@@ -19,7 +19,7 @@ use Rattle.mitex_syntax.specs.Rows.{extentOf, tokenSum, Spans}
 use Rattle.mitex_syntax.proofs.Trees.{Element, element, all-begins, spans, kind-at, rows-e, text-n, part, part-spells, part-length, part-short, past-exact, no-left, size-more, length-rowss}
 use Rattle.mitex_state.specs.Outcome.{Context, Label, Carry, Outcome, after, andThen, closing, shift, labelMost}
 use Rattle.mitex_state.specs.Outcome.Outcome.{refused, done}
-use Rattle.mitex_state.specs.State.{contextOf, carryOf, labelOf, placed}
+use Rattle.mitex_state.specs.State.{contextOf, carryOf, labelOf}
 use Rattle.mitex_state.specs.Contract.{Place, placeOf, Agrees, Went, Declined}
 use Rattle.mitex_state.specs.Contract.Agrees.{declines, accepts}
 use Rattle.mitex_state.specs.Children.{actOf, before, converts, behind, nextLoop, loopEnd, turn, each}
@@ -91,13 +91,6 @@ looping-start r s g h =
       counts = omega arith;
       left = λ rs ready f sp n k. record { forest = f; spells = sp; fits = k; onward = λ a o m. m };
     }
-
--- a walk that went well, with this converter, at this place
-abbrev well : Converter → ℕ → Walked
-well c at = record { converter = c; at = at; refusal = 0; row = 0 }
-
-well-went : (c : Converter) (at : ℕ) → Went c at (well c at)
-well-went c at = record { gives = refl; next = refl; well = refl }
 
 -- ---- the child at i, as the code has it: e bytes of rows, n bytes of text
 
@@ -494,22 +487,14 @@ module _ {rules index rows text : List ℕ} {row : ℕ} {out₀ : List ℕ} {w�
 
 module _ {rules index rows text : List ℕ} {row : ℕ} {out₀ : List ℕ} {w₀ : ℕ} {d₀ : Converter} {l₀ : Loop} {out : List ℕ} {w : ℕ}
     {d : Converter} {l : Loop} {i j : ℕ} (k : Looping rules index rows text row out₀ w₀ d₀ l₀ out w d l i j) (h : length rows ≤ i) where
-  -- the loop's own end is written, then a text, and the converter comes back to a place
-  pub loop-ended :
-      {p q : ℕ} {out₁ out₂ e : List ℕ} {b : Converter} {a : Walked} (x : Place) → Wrote w out (loopEnd l) p out₁ → Wrote p out₁ e q out₂
-      → b ≡ placed (x .mode) (x .env) (x .indent) d → Went b q a → (rs : List Rule) → Ready rules index rs → (f : Forest)
-      → SpellsAll f rows text → (n : ℕ) → sizes f ≤ n → Agrees a x row w₀ out₀ out₂ (closing e (wholly rs n d₀ l₀ f))
-  loop-ended {p} {q} {out₁} {out₂} {e} {b} {a} x ended behind-it back went rs ready f sp n fit =
+  -- the loop's own end is written
+  pub loop-done :
+      {p : ℕ} {out₁ : List ℕ} {a : Walked} → Wrote w out (loopEnd l) p out₁ → Went d p a → (rs : List Rule) → Ready rules index rs → (f : Forest)
+      → SpellsAll f rows text → (n : ℕ) → sizes f ≤ n → Agrees a (placeOf d₀) row w₀ out₀ out₁ (wholly rs n d₀ l₀ f)
+  loop-done {p} {out₁} {a} ended went rs ready f sp n fit =
       let z = k .left rs ready f sp n fit in
-      agrees-close (k .room .room)
-      (z .onward (well d p) out₁
+      z .onward a out₁
       (agrees-as
       (ap (remains rs n d₀ i l d) (no-left (z .forest) (z .spells .rows-are) (simp length-drop (omega arith)))
       ∙ each-none (convert n (contextOf rs d₀)) (i / 8) l (carryOf d))
-      (agrees-done d (well-went d p) (k .stands .placed-so) refl (k .stands .short) ended)))
-      (record {
-        refused-on = λ u. absurd (u refl);
-        accepted = λ u. went .well;
-        converter = λ u. went .gives ∙ back;
-        written = λ u. subst (λ (v : ℕ). Wrote p out₁ e v out₂) (sym (went .next)) behind-it;
-      })
+      (agrees-done d went (k .stands .placed-so) refl (k .stands .short) ended))

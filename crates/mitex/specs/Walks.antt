@@ -10,7 +10,7 @@ use Rattle.mitex_syntax.specs.Spells.{Spells, SpellsAll}
 use Rattle.mitex_state.specs.Outcome.{Arm, andThen, labelMost}
 use Rattle.mitex_state.specs.State.{contextOf, carryOf}
 use Rattle.mitex_state.specs.Contract.{placeOf, Agrees}
-use Rattle.mitex_state.specs.Children.{turn}
+use Rattle.mitex_state.specs.Children.{turn, each}
 use Rattle.mitex_state.specs.Colors.{Model, withModel, colorAlias}
 use Rattle.mitex_state.specs.Conversion.{convert}
 use Rattle.mitex_state.specs.Parts.{rowsIn, textIn, ModelFound}
@@ -61,6 +61,12 @@ module _ (rules index rows text : List ℕ) (row : ℕ) (c : Converter) (at : �
   Turns act =
       (rs : List Rule) → Ready rules index rs → (t : Tree) → Spells t rows text → (d : ℕ) → size t ≤ d
       → Agrees a (placeOf c) row at out out′ (turn (convert d (contextOf rs c)) act t (carryOf c))
+
+  -- of elements side by side, the first of them at the row
+  abbrev pub Loops : Loop → Type 0
+  Loops l =
+      (rs : List Rule) → Ready rules index rs → (f : Forest) → SpellsAll f rows text → (d : ℕ) → sizes f ≤ d
+      → Agrees a (placeOf c) row at out out′ (each (convert d (contextOf rs c)) 0 l f (carryOf c))
 
   -- of a part of the children, by its plan
   abbrev pub Planned : Plan → Type 0

@@ -1,14 +1,16 @@
 // The walk: `convert` and its helpers, which call each other as in the Rust. An element's rows and its text come down as parts of the
 // tree file, the converter goes by value, and the text is written to a lent buffer as far as it falls inside. A helper is given the rows
 // and the text of a node's children, and the row of the node itself; its name is the Rust's without `convert_`. What a helper walks over,
-// and how, is a plan; `each` walks over it.
+// and how, is a plan; `walk` walks over it.
+ghost use mathlib.Core.Path.{_≡_};
 ghost use Rattle.mitex_spec.specs.Index.{SomeRules};
 ghost use Rattle.mitex_syntax.specs.Spells.{SomeTree};
 ghost use Rattle.mitex_state.specs.Groups.{formula, curlyGroup, clauseLr};
 ghost use Rattle.mitex_state.specs.Commands.{command, normalCommand};
 ghost use Rattle.mitex_state.specs.Environments.{environment, envBody, figureEnv, tableEnv};
+ghost use Rattle.mitex_loops.specs.Given.{numberOf};
 ghost use Rattle.mitex_plans.specs.Plans.{Given, ColorGiven};
-ghost use Rattle.mitex.specs.Walks.{Room, Siblings, Converts, Walks, Turns, Planned, Both, Colors};
+ghost use Rattle.mitex.specs.Walks.{Room, Siblings, Converts, Walks, Turns, Loops, Planned, Both, Colors};
 use mitex_colors::argument_model;
 use mitex_colors::color_model;
 use mitex_colors::put_color_head;
@@ -100,14 +102,14 @@ pub fn convert<'a>(
         Element::Unexpected => refuse(c, 7, row),
         Element::Children => {
             let plan = children_plan(below, text, d);
-            each(out, at, below, text, row, rules, index, d, plan)
+            walk(out, at, below, text, row, rules, index, d, plan)
         }
         Element::Formula => formula(out, at, below, text, row, rules, index, d),
         Element::CurlyGroup => curly_group(out, at, below, text, row, rules, index, d),
         Element::ClauseLr => clause_lr(out, at, below, text, row, rules, index, d),
         Element::AttachComponent => {
             let plan = attach_plan(below, text, d);
-            each(out, at, below, text, row, rules, index, d, plan)
+            walk(out, at, below, text, row, rules, index, d, plan)
         }
         Element::Silent => went(d, at),
         Element::Command => command(out, at, below, text, row, rules, index, d),
@@ -150,8 +152,81 @@ fn turn<'a>(
     went(d, q)
 }
 
-// A part of the children, by its plan.
-pub fn each<'a>(
+// Elements side by side, by a loop: the first of them stands at `row`. Tokens go in runs.
+fn each<'a>(
+    out: &mut [u8],
+    at: usize,
+    rows: &[u8],
+    text: &'a [u8],
+    row: usize,
+    rules: &'a [u8],
+    index: &[u32],
+    c: Converter,
+    how: Loop,
+) -> Walked
+    requires { ⌜ Room 0 (now rows) (now text) (now out) at row c ⌝ }
+    requires { ⌜ SomeRules (now rules) (now index) ⌝ }
+    requires { ⌜ Siblings (now rows) (now text) ⌝ }
+    requires { ⌜ numberOf how ≡ 0 ⌝ }
+    ensures { λ r. ⌜ Loops (now (rules .entry)) (now (index .entry)) (now (rows .entry)) (now (text .entry)) row c at (now (out .entry)) r (now (out .exit)) how ⌝ }
+{
+    let mode = c.mode;
+    let env = c.env;
+    let indent = c.indent;
+    let mut w = at;
+    let mut d = c;
+    let mut l = how;
+    let mut i = 0;
+    let mut j = 0;
+    while i < rows.len() {
+        if rows[i + 1] == 1 {
+            let flag = d.skip_next_space;
+            let t = put_tokens(
+                out,
+                w,
+                &rows[i..],
+                &text[j..],
+                rules,
+                index,
+                mode,
+                env,
+                indent,
+                flag,
+                l,
+            );
+            i += t.rows;
+            j += t.text;
+            if t.refusal != 0 {
+                return refuse(d, t.refusal, row + i / 8);
+            }
+            d.skip_next_space = t.flag;
+            w = t.at;
+            l = t.how;
+            continue;
+        }
+        let s = mitex_syntax::span_at(rows, i);
+        let e = i + s.rows;
+        let u = j + s.text;
+        let child = &rows[i..e];
+        let said = &text[j..u];
+        let act = act_of(l, child, said, &rows[e..]);
+        let r = turn(out, w, child, said, row + i / 8, rules, index, d, act);
+        if r.refusal != 0 {
+            return r;
+        }
+        l = next_loop(l, rows[i], act);
+        w = r.at;
+        let next = r.converter;
+        d = next;
+        i = e;
+        j = u;
+    }
+    let p = put_loop_end(out, w, l);
+    went(d, p)
+}
+
+// A part of the children, by its plan; the converter comes back to where it was.
+fn walk<'a>(
     out: &mut [u8],
     at: usize,
     rows: &[u8],
@@ -168,69 +243,34 @@ pub fn each<'a>(
     ensures { λ r. ⌜ Planned (now (rules .entry)) (now (index .entry)) (now (rows .entry)) (now (text .entry)) row c at (now (out .entry)) r (now (out .exit)) plan ⌝ }
 {
     let part = plan.part;
-    let a = part.i;
-    let b = part.e;
-    let x = part.j;
-    let y = part.u;
+    let i = part.i;
+    let e = part.e;
+    let j = part.j;
+    let u = part.u;
     let mode = plan.mode;
     let env = plan.env;
-    let indent = plan.indent;
-    let elements = &rows[a..b];
-    let words = &text[x..y];
-    let first = row + 1 + a / 8;
-    let mut w = at;
-    let mut d = placed(c, mode, env, indent);
-    let mut l = plan.how;
-    let mut i = 0;
-    let mut j = 0;
-    while i < elements.len() {
-        if elements[i + 1] == 1 {
-            let t = put_tokens(
-                out,
-                w,
-                &elements[i..],
-                &words[j..],
-                rules,
-                index,
-                mode,
-                env,
-                indent,
-                d.skip_next_space,
-                l,
-            );
-            i += t.rows;
-            j += t.text;
-            if t.refusal != 0 {
-                return refuse(d, t.refusal, first + i / 8);
-            }
-            d.skip_next_space = t.flag;
-            w = t.at;
-            l = t.how;
-            continue;
-        }
-        let s = mitex_syntax::span_at(elements, i);
-        let e = i + s.rows;
-        let u = j + s.text;
-        let child = &elements[i..e];
-        let said = &words[j..u];
-        let act = act_of(l, child, said, &elements[e..]);
-        let r = turn(out, w, child, said, first + i / 8, rules, index, d, act);
-        if r.refusal != 0 {
-            return r;
-        }
-        l = next_loop(l, elements[i], act);
-        w = r.at;
-        let next = r.converter;
-        d = next;
-        i = e;
-        j = u;
+    let how = plan.how;
+    let d = placed(c, mode, env, plan.indent);
+    let a = each(
+        out,
+        at,
+        &rows[i..e],
+        &text[j..u],
+        row + 1 + i / 8,
+        rules,
+        index,
+        d,
+        how,
+    );
+    if a.refusal != 0 {
+        return a;
     }
-    let p = put_loop_end(out, w, l);
     let end = plan.end;
-    let q = put_end(out, p, end);
+    let q = put_end(out, a.at, end);
+    let next = a.converter;
     let before = c.mode;
     let around = c.env;
-    went(placed(d, before, around, c.indent), q)
+    went(placed(next, before, around, c.indent), q)
 }
 
 // Two parts of the children, one after the other.
@@ -253,13 +293,13 @@ fn twice<'a>(
 {
     let first = plans.first;
     let second = plans.second;
-    let a = each(out, at, rows, text, row, rules, index, c, first);
+    let a = walk(out, at, rows, text, row, rules, index, c, first);
     if a.refusal != 0 {
         return a;
     }
     let d = a.converter;
     let w = a.at;
-    each(out, w, rows, text, row, rules, index, d, second)
+    walk(out, w, rows, text, row, rules, index, d, second)
 }
 
 // A formula like `$x$` or `$$x$$` (`convert_formula` in the Rust).
@@ -285,7 +325,7 @@ fn formula<'a>(
     let mode = c.mode;
     let p = put_formula_begin(out, at, mode, inline);
     let plan = formula_plan(rows, text, c, inline);
-    each(out, p, rows, text, row, rules, index, c, plan)
+    walk(out, p, rows, text, row, rules, index, c, plan)
 }
 
 // A curly group like `{abc}` (`convert_curly_group` in the Rust).
@@ -305,7 +345,7 @@ fn curly_group<'a>(
     ensures { λ r. ⌜ Walks (now (rules .entry)) (now (index .entry)) (now (rows .entry)) (now (text .entry)) row c at (now (out .entry)) r (now (out .exit)) curlyGroup ⌝ }
 {
     let plan = curly_plan(rows, text, c);
-    each(out, at, rows, text, row, rules, index, c, plan)
+    walk(out, at, rows, text, row, rules, index, c, plan)
 }
 
 // `\left` and `\right`: the first child is the name (`convert_clause_lr` in the Rust).
@@ -327,7 +367,7 @@ fn clause_lr<'a>(
     let name = lr_name(rows, text);
     let p = put_lr_begin(out, at, name);
     let plan = lr_plan(rows, text, c, name);
-    each(out, p, rows, text, row, rules, index, c, plan)
+    walk(out, p, rows, text, row, rules, index, c, plan)
 }
 
 // A command, by its name.
@@ -448,7 +488,7 @@ fn normal_command<'a>(
         ArgumentsPlan::Missing => refuse(c, 12, row),
         ArgumentsPlan::Takes { opens, plan } => {
             let p = put_command_begin(out, at, mode, name, written, opens);
-            each(out, p, rows, text, row, rules, index, c, plan)
+            walk(out, p, rows, text, row, rules, index, c, plan)
         }
     }
 }
@@ -503,7 +543,7 @@ fn env_body<'a>(
         LaTeXEnv::None | LaTeXEnv::Itemize | LaTeXEnv::Enumerate => {
             let p = put_env_begin(out, at, env, name);
             let plan = env_plan(rows, text, c, env);
-            each(out, p, rows, text, row, rules, index, c, plan)
+            walk(out, p, rows, text, row, rules, index, c, plan)
         }
         LaTeXEnv::Figure => env_figure(out, at, rows, text, row, rules, index, c, name),
         LaTeXEnv::Table => env_table(out, at, rows, text, row, rules, index, c, name),
@@ -573,5 +613,5 @@ fn env_table<'a>(
     }
     let p = put_table_begin(out, at, name, letters);
     let plan = table_plan(rows, text, c);
-    each(out, p, rows, text, row, rules, index, c, plan)
+    walk(out, p, rows, text, row, rules, index, c, plan)
 }

@@ -12,8 +12,8 @@ use native.Mathlib.Omega.{arith}
 use borrow.Author.Needs.{needs}
 use Prim.Native.Nat.{ℕ}
 use Rattle.mitex.proofs.convert.Reads as convert
-use Rattle.mitex.proofs.+clause_lr+command+command_color+convert+curly_group+each+env_body+env_figure+env_table+environment+formula+normal_command+turn+twice.Lts-convert as convert-lts
-use Rattle.mitex.proofs.+clause_lr+command+command_color+convert+curly_group+each+env_body+env_figure+env_table+environment+formula+normal_command+turn+twice.Proof.Setup.{convert-at, convert-calls}
+use Rattle.mitex.proofs.+clause_lr+command+command_color+convert+curly_group+each+env_body+env_figure+env_table+environment+formula+normal_command+turn+twice+walk.Lts-convert as convert-lts
+use Rattle.mitex.proofs.+clause_lr+command+command_color+convert+curly_group+each+env_body+env_figure+env_table+environment+formula+normal_command+turn+twice+walk.Proof.Setup.{convert-at, convert-calls}
 
 convert-shared-slice-read-kind : (t : ℕ) → convert-lts.Need-shared-slice-read-kind (convert-calls t) (convert-at t) convert.Post
 convert-shared-slice-read-kind t c =
@@ -57,8 +57,8 @@ convert-enum-told-2 t c = search needs
 convert-children-plan-requires : (t : ℕ) → convert-lts.Need-children-plan-requires (convert-calls t) (convert-at t) convert.Post
 convert-children-plan-requires t c κs = search needs
 
-convert-each-requires : (t : ℕ) → convert-lts.Need-each-requires (convert-calls t) (convert-at t) convert.Post
-convert-each-requires t c κs =
+convert-walk-requires : (t : ℕ) → convert-lts.Need-walk-requires (convert-calls t) (convert-at t) convert.Post
+convert-walk-requires t c κs =
     let at-children-plan = c .before in
     let at-enum-told2 = at-children-plan .before in
     let at-with-flag = at-enum-told2 .before .before in
@@ -145,8 +145,8 @@ convert-enum-told-6 t c = search needs
 convert-attach-plan-requires : (t : ℕ) → convert-lts.Need-attach-plan-requires (convert-calls t) (convert-at t) convert.Post
 convert-attach-plan-requires t c κs = search needs
 
-convert-each-requires-2 : (t : ℕ) → convert-lts.Need-each-requires-2 (convert-calls t) (convert-at t) convert.Post
-convert-each-requires-2 t c κs =
+convert-walk-requires-2 : (t : ℕ) → convert-lts.Need-walk-requires-2 (convert-calls t) (convert-at t) convert.Post
+convert-walk-requires-2 t c κs =
     let at-attach-plan = c .before in
     let at-enum-told6 = at-attach-plan .before in
     let at-with-flag = at-enum-told6 .before .before in
@@ -246,13 +246,13 @@ convert-returns t c =
 
 convert-same-length : (t : ℕ) → convert-lts.Need-same-length (convert-calls t) (convert-at t) convert.Post
 convert-same-length t c =
-    let at-each = c .before .before in
-    at-each .each .kept .0
+    let at-walk = c .before .before in
+    at-walk .walk .kept .0
 
 convert-returns-2 : (t : ℕ) → convert-lts.Need-returns-2 (convert-calls t) (convert-at t) convert.Post
 convert-returns-2 t c =
-    let at-each = c .before .before in
-    let at-children-plan = at-each .before .before in
+    let at-walk = c .before .before in
+    let at-children-plan = at-walk .before .before in
     let at-enum-told2 = at-children-plan .before in
     let at-with-flag = at-enum-told2 .before .before in
     let at-element-of = at-with-flag .before .before in
@@ -261,7 +261,7 @@ convert-returns-2 t c =
     converts-arm Children (at-with-flag .with-flag .ensures) (sym (at-element-of .element-of .ensures) ∙
     at-enum-told2 .enum-told2 .given .1) refl (λ rs ready f sp n h. plan-agrees (at-with-flag .with-flag .result) children
     (start .pre .1 .0 .room) (wrote-nil _ _ (start .pre .1 .0 .place)) ready n h (at-children-plan .children-plan .ensures f sp rs)
-    (at-each .each .ensures))
+    (at-walk .walk .ensures))
 
 convert-same-length-2 : (t : ℕ) → convert-lts.Need-same-length-2 (convert-calls t) (convert-at t) convert.Post
 convert-same-length-2 t c =
@@ -307,13 +307,13 @@ convert-returns-5 t c =
 
 convert-same-length-5 : (t : ℕ) → convert-lts.Need-same-length-5 (convert-calls t) (convert-at t) convert.Post
 convert-same-length-5 t c =
-    let at-each2 = c .before .before in
-    at-each2 .each2 .kept .0
+    let at-walk2 = c .before .before in
+    at-walk2 .walk2 .kept .0
 
 convert-returns-6 : (t : ℕ) → convert-lts.Need-returns-6 (convert-calls t) (convert-at t) convert.Post
 convert-returns-6 t c =
-    let at-each2 = c .before .before in
-    let at-attach-plan = at-each2 .before .before in
+    let at-walk2 = c .before .before in
+    let at-attach-plan = at-walk2 .before .before in
     let at-enum-told6 = at-attach-plan .before in
     let at-with-flag = at-enum-told6 .before .before in
     let at-element-of = at-with-flag .before .before in
@@ -322,7 +322,7 @@ convert-returns-6 t c =
     converts-arm AttachComponent (at-with-flag .with-flag .ensures) (sym (at-element-of .element-of .ensures) ∙
     at-enum-told6 .enum-told6 .given .1) refl (λ rs ready f sp n h. plan-agrees (at-with-flag .with-flag .result) attachComponent
     (start .pre .1 .0 .room) (wrote-nil _ _ (start .pre .1 .0 .place)) ready n h (at-attach-plan .attach-plan .ensures f sp rs)
-    (at-each2 .each2 .ensures))
+    (at-walk2 .walk2 .ensures))
 
 convert-returns-7 : (t : ℕ) → convert-lts.Need-returns-7 (convert-calls t) (convert-at t) convert.Post
 convert-returns-7 t c =
@@ -414,7 +414,7 @@ convert-closed t =
     (convert-refuse-requires t)
     (convert-enum-told-2 t)
     (convert-children-plan-requires t)
-    (convert-each-requires t)
+    (convert-walk-requires t)
     (convert-enum-told-3 t)
     (convert-formula-requires t)
     (convert-enum-told-4 t)
@@ -423,7 +423,7 @@ convert-closed t =
     (convert-clause-lr-requires t)
     (convert-enum-told-6 t)
     (convert-attach-plan-requires t)
-    (convert-each-requires-2 t)
+    (convert-walk-requires-2 t)
     (convert-enum-told-7 t)
     (convert-went-requires t)
     (convert-enum-told-8 t)

@@ -13,8 +13,8 @@ use native.Mathlib.Omega.{arith}
 use borrow.Author.Needs.{needs}
 use Prim.Native.Nat.{ℕ}
 use Rattle.mitex.proofs.formula.Reads as formula
-use Rattle.mitex.proofs.+clause_lr+command+command_color+convert+curly_group+each+env_body+env_figure+env_table+environment+formula+normal_command+turn+twice.Lts-formula as formula-lts
-use Rattle.mitex.proofs.+clause_lr+command+command_color+convert+curly_group+each+env_body+env_figure+env_table+environment+formula+normal_command+turn+twice.Proof.Setup.{formula-at, formula-calls}
+use Rattle.mitex.proofs.+clause_lr+command+command_color+convert+curly_group+each+env_body+env_figure+env_table+environment+formula+normal_command+turn+twice+walk.Lts-formula as formula-lts
+use Rattle.mitex.proofs.+clause_lr+command+command_color+convert+curly_group+each+env_body+env_figure+env_table+environment+formula+normal_command+turn+twice+walk.Proof.Setup.{formula-at, formula-calls}
 
 formula-is-valid-requires : (t : ℕ) → formula-lts.Need-is-valid-requires (formula-calls t) (formula-at t) formula.Post
 formula-is-valid-requires t c κs =
@@ -49,8 +49,8 @@ formula-put-formula-begin-requires t c κs =
 formula-formula-plan-requires : (t : ℕ) → formula-lts.Need-formula-plan-requires (formula-calls t) (formula-at t) formula.Post
 formula-formula-plan-requires t c κs = search needs
 
-formula-each-requires : (t : ℕ) → formula-lts.Need-each-requires (formula-calls t) (formula-at t) formula.Post
-formula-each-requires t c κs =
+formula-walk-requires : (t : ℕ) → formula-lts.Need-walk-requires (formula-calls t) (formula-at t) formula.Post
+formula-walk-requires t c κs =
     let at-formula-plan = c .before in
     let at-put-formula-begin = at-formula-plan .before .before .before in
     let at-is-inline = at-put-formula-begin .before .before in
@@ -73,14 +73,14 @@ formula-each-requires t c κs =
 
 formula-same-length : (t : ℕ) → formula-lts.Need-same-length (formula-calls t) (formula-at t) formula.Post
 formula-same-length t c =
-    let at-each = c .before .before in
-    let at-put-formula-begin = at-each .before .before .before .before .before in
-    at-each .each .kept .0 ∙ at-put-formula-begin .put-formula-begin .kept .0
+    let at-walk = c .before .before in
+    let at-put-formula-begin = at-walk .before .before .before .before .before in
+    at-walk .walk .kept .0 ∙ at-put-formula-begin .put-formula-begin .kept .0
 
 formula-returns-2 : (t : ℕ) → formula-lts.Need-returns-2 (formula-calls t) (formula-at t) formula.Post
 formula-returns-2 t c =
-    let at-each = c .before .before in
-    let at-formula-plan = at-each .before .before in
+    let at-walk = c .before .before in
+    let at-formula-plan = at-walk .before .before in
     let at-put-formula-begin = at-formula-plan .before .before .before in
     let at-is-inline = at-put-formula-begin .before .before in
     let at-if1 = at-is-inline .before in
@@ -90,7 +90,7 @@ formula-returns-2 t c =
     λ rs ready f sp n h. plan-agrees (start .args .c) formula-arm (start .pre .1 .0 .room)
     (at-put-formula-begin .put-formula-begin .ensures) ready n h (at-formula-plan .formula-plan .ensures f sp
     (sym (at-is-valid .is-valid .ensures f (all-begins sp)) ∙ not-false _ (at-if1 .if1 .left))
-    (sym (at-is-inline .is-inline .ensures f (all-begins sp))) rs) (at-each .each .ensures)
+    (sym (at-is-inline .is-inline .ensures f (all-begins sp))) rs) (at-walk .walk .ensures)
 
 -- its code meets what it promises, if those it calls do where less is left
 pub formula-closed : {M : Type 1} (t : ℕ) → formula-lts.Closed (formula-calls t) (formula-at t) formula.Post M
@@ -104,6 +104,6 @@ formula-closed t =
     (formula-is-inline-requires t)
     (formula-put-formula-begin-requires t)
     (formula-formula-plan-requires t)
-    (formula-each-requires t)
+    (formula-walk-requires t)
     (formula-same-length t)
     (formula-returns-2 t)

@@ -8,15 +8,15 @@ use Rattle.mitex_state.specs.Environments.{plainEnv, mathEnv, envBody}
 use Rattle.mitex_state.proofs.Agreeing.{agrees-as}
 use Rattle.mitex.proofs.Rooms.{siblings-forest, room-on}
 use Rattle.mitex.proofs.Planning.{plan-agrees, both-agree, given-in, both-in}
-use Rattle.mitex_plans.proofs.Meaning.{step-small}
 use Rattle.mitex.proofs.Environing.{plain-by-tag, math-by-tag}
 use Rattle.mitex_state.specs.declared.LaTeXEnv.{LaTeXEnv}
 use native.Mathlib.Omega.{arith}
 use borrow.Author.Needs.{needs}
 use Prim.Native.Nat.{ℕ}
+use Rattle.mitex_plans.proofs.Meaning.{step-small}
 use Rattle.mitex.proofs.env_body.Reads as env-body
-use Rattle.mitex.proofs.+clause_lr+command+command_color+convert+curly_group+each+env_body+env_figure+env_table+environment+formula+normal_command+turn+twice.Lts-env_body as env-body-lts
-use Rattle.mitex.proofs.+clause_lr+command+command_color+convert+curly_group+each+env_body+env_figure+env_table+environment+formula+normal_command+turn+twice.Proof.Setup.{env-body-at, env-body-calls}
+use Rattle.mitex.proofs.+clause_lr+command+command_color+convert+curly_group+each+env_body+env_figure+env_table+environment+formula+normal_command+turn+twice+walk.Lts-env_body as env-body-lts
+use Rattle.mitex.proofs.+clause_lr+command+command_color+convert+curly_group+each+env_body+env_figure+env_table+environment+formula+normal_command+turn+twice+walk.Proof.Setup.{env-body-at, env-body-calls}
 
 env-body-put-env-begin-requires : (t : ℕ) → env-body-lts.Need-put-env-begin-requires (env-body-calls t) (env-body-at t) env-body.Post
 env-body-put-env-begin-requires t c κs =
@@ -31,8 +31,8 @@ env-body-env-plan-requires t c κs =
     let start = at-slice-known .before in
     omega (arith, start .pre .1 .0 .deep, step-small (start .args .env))
 
-env-body-each-requires : (t : ℕ) → env-body-lts.Need-each-requires (env-body-calls t) (env-body-at t) env-body.Post
-env-body-each-requires t c κs =
+env-body-walk-requires : (t : ℕ) → env-body-lts.Need-walk-requires (env-body-calls t) (env-body-at t) env-body.Post
+env-body-walk-requires t c κs =
     let at-env-plan = c .before in
     let at-put-env-begin = at-env-plan .before .before .before in
     let at-shared-slice-known3 = at-put-env-begin .before .before .before .before .before in
@@ -96,14 +96,14 @@ env-body-twice-requires t c κs =
 
 env-body-same-length : (t : ℕ) → env-body-lts.Need-same-length (env-body-calls t) (env-body-at t) env-body.Post
 env-body-same-length t c =
-    let at-each = c .before .before in
-    let at-put-env-begin = at-each .before .before .before .before .before in
-    at-each .each .kept .0 ∙ at-put-env-begin .put-env-begin .kept .0
+    let at-walk = c .before .before in
+    let at-put-env-begin = at-walk .before .before .before .before .before in
+    at-walk .walk .kept .0 ∙ at-put-env-begin .put-env-begin .kept .0
 
 env-body-returns : (t : ℕ) → env-body-lts.Need-returns (env-body-calls t) (env-body-at t) env-body.Post
 env-body-returns t c =
-    let at-each = c .before .before in
-    let at-env-plan = at-each .before .before in
+    let at-walk = c .before .before in
+    let at-env-plan = at-walk .before .before in
     let at-put-env-begin = at-env-plan .before .before .before in
     let at-match-keys1 = at-put-env-begin .before .before in
     let at-shared-slice-known = at-match-keys1 .before .before .before .before .before in
@@ -111,7 +111,7 @@ env-body-returns t c =
     λ rs ready f sp n h. agrees-as (plain-by-tag (start .args .env) (start .args .name .now) (meaning n) (contextOf rs (start .args .c))
     f (carryOf (start .args .c)) (at-match-keys1 .match .keys1)) (plan-agrees (start .args .c)
     (plainEnv (start .args .env) (start .args .name .now)) (start .pre .1 .0 .room) (at-put-env-begin .put-env-begin .ensures) ready n h
-    (at-env-plan .env-plan .ensures f sp (start .args .name .now) rs) (at-each .each .ensures))
+    (at-env-plan .env-plan .ensures f sp (start .args .name .now) rs) (at-walk .walk .ensures))
 
 env-body-same-length-2 : (t : ℕ) → env-body-lts.Need-same-length-2 (env-body-calls t) (env-body-at t) env-body.Post
 env-body-same-length-2 t c =
@@ -168,7 +168,7 @@ env-body-closed t =
     env-body.Post
     (env-body-put-env-begin-requires t)
     (env-body-env-plan-requires t)
-    (env-body-each-requires t)
+    (env-body-walk-requires t)
     (env-body-enum-told t)
     (env-body-env-figure-requires t)
     (env-body-enum-told-2 t)

@@ -7,8 +7,8 @@ use Rattle.mitex.proofs.Planning.{plan-agrees, given-in}
 use native.Mathlib.Omega.{arith}
 use Prim.Native.Nat.{ℕ}
 use Rattle.mitex.proofs.clause_lr.Reads as clause-lr
-use Rattle.mitex.proofs.+clause_lr+command+command_color+convert+curly_group+each+env_body+env_figure+env_table+environment+formula+normal_command+turn+twice.Lts-clause_lr as clause-lr-lts
-use Rattle.mitex.proofs.+clause_lr+command+command_color+convert+curly_group+each+env_body+env_figure+env_table+environment+formula+normal_command+turn+twice.Proof.Setup.{clause-lr-at, clause-lr-calls}
+use Rattle.mitex.proofs.+clause_lr+command+command_color+convert+curly_group+each+env_body+env_figure+env_table+environment+formula+normal_command+turn+twice+walk.Lts-clause_lr as clause-lr-lts
+use Rattle.mitex.proofs.+clause_lr+command+command_color+convert+curly_group+each+env_body+env_figure+env_table+environment+formula+normal_command+turn+twice+walk.Proof.Setup.{clause-lr-at, clause-lr-calls}
 
 clause-lr-lr-name-requires : (t : ℕ) → clause-lr-lts.Need-lr-name-requires (clause-lr-calls t) (clause-lr-at t) clause-lr.Post
 clause-lr-lr-name-requires t c κs =
@@ -27,8 +27,8 @@ clause-lr-lr-plan-requires t c κs =
     let start = at-shared-slice-known4 .before .before .before .before .before in
     siblings-forest (start .pre .1 .0) (start .pre .1 .1 .1)
 
-clause-lr-each-requires : (t : ℕ) → clause-lr-lts.Need-each-requires (clause-lr-calls t) (clause-lr-at t) clause-lr.Post
-clause-lr-each-requires t c κs =
+clause-lr-walk-requires : (t : ℕ) → clause-lr-lts.Need-walk-requires (clause-lr-calls t) (clause-lr-at t) clause-lr.Post
+clause-lr-walk-requires t c κs =
     let at-lr-plan = c .before in
     let at-put-lr-begin = at-lr-plan .before .before .before in
     let at-lr-name = at-put-lr-begin .before .before in
@@ -48,20 +48,20 @@ clause-lr-each-requires t c κs =
 
 clause-lr-same-length : (t : ℕ) → clause-lr-lts.Need-same-length (clause-lr-calls t) (clause-lr-at t) clause-lr.Post
 clause-lr-same-length t c =
-    let at-each = c .before .before in
-    let at-put-lr-begin = at-each .before .before .before .before .before in
-    at-each .each .kept .0 ∙ at-put-lr-begin .put-lr-begin .kept .0
+    let at-walk = c .before .before in
+    let at-put-lr-begin = at-walk .before .before .before .before .before in
+    at-walk .walk .kept .0 ∙ at-put-lr-begin .put-lr-begin .kept .0
 
 clause-lr-returns : (t : ℕ) → clause-lr-lts.Need-returns (clause-lr-calls t) (clause-lr-at t) clause-lr.Post
 clause-lr-returns t c =
-    let at-each = c .before .before in
-    let at-lr-plan = at-each .before .before in
+    let at-walk = c .before .before in
+    let at-lr-plan = at-walk .before .before in
     let at-put-lr-begin = at-lr-plan .before .before .before in
     let at-lr-name = at-put-lr-begin .before .before in
     let at-slice-known = at-lr-name .before .before .before .before .before in
     let start = at-slice-known .before in
     λ rs ready f sp n h. plan-agrees (start .args .c) clauseLr (start .pre .1 .0 .room) (at-put-lr-begin .put-lr-begin .ensures) ready n
-    h (at-lr-plan .lr-plan .ensures f sp (at-lr-name .lr-name .ensures f sp) rs) (at-each .each .ensures)
+    h (at-lr-plan .lr-plan .ensures f sp (at-lr-name .lr-name .ensures f sp) rs) (at-walk .walk .ensures)
 
 -- its code meets what it promises, if those it calls do where less is left
 pub clause-lr-closed : {M : Type 1} (t : ℕ) → clause-lr-lts.Closed (clause-lr-calls t) (clause-lr-at t) clause-lr.Post M
@@ -72,6 +72,6 @@ clause-lr-closed t =
     (clause-lr-lr-name-requires t)
     (clause-lr-put-lr-begin-requires t)
     (clause-lr-lr-plan-requires t)
-    (clause-lr-each-requires t)
+    (clause-lr-walk-requires t)
     (clause-lr-same-length t)
     (clause-lr-returns t)

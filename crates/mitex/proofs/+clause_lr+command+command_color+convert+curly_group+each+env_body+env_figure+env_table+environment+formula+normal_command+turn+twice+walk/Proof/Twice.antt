@@ -8,40 +8,40 @@ use Rattle.mitex.proofs.Planning.{planned-good, agrees-in}
 use native.Mathlib.Omega.{arith}
 use Prim.Native.Nat.{ℕ}
 use Rattle.mitex.proofs.twice.Reads as twice
-use Rattle.mitex.proofs.+clause_lr+command+command_color+convert+curly_group+each+env_body+env_figure+env_table+environment+formula+normal_command+turn+twice.Lts-twice as twice-lts
-use Rattle.mitex.proofs.+clause_lr+command+command_color+convert+curly_group+each+env_body+env_figure+env_table+environment+formula+normal_command+turn+twice.Proof.Setup.{twice-at, twice-calls}
+use Rattle.mitex.proofs.+clause_lr+command+command_color+convert+curly_group+each+env_body+env_figure+env_table+environment+formula+normal_command+turn+twice+walk.Lts-twice as twice-lts
+use Rattle.mitex.proofs.+clause_lr+command+command_color+convert+curly_group+each+env_body+env_figure+env_table+environment+formula+normal_command+turn+twice+walk.Proof.Setup.{twice-at, twice-calls}
 
-twice-each-requires : (t : ℕ) → twice-lts.Need-each-requires (twice-calls t) (twice-at t) twice.Post
-twice-each-requires t c κs =
+twice-walk-requires : (t : ℕ) → twice-lts.Need-walk-requires (twice-calls t) (twice-at t) twice.Post
+twice-walk-requires t c κs =
     let at-shared-slice-known2 = c .before .before .before .before .before in
     let start = at-shared-slice-known2 .before .before .before in
     (omega (arith, start .pre .0), (start .pre .1 .0, (start .pre .1 .1 .0, start .pre .1 .1 .1 .0)))
 
 twice-same-length : (t : ℕ) → twice-lts.Need-same-length (twice-calls t) (twice-at t) twice.Post
 twice-same-length t c =
-    let at-each = c .before .before .before .before in
-    at-each .each .kept .0
+    let at-walk = c .before .before .before .before in
+    at-walk .walk .kept .0
 
 twice-returns : (t : ℕ) → twice-lts.Need-returns (twice-calls t) (twice-at t) twice.Post
 twice-returns t c =
-    let at-each = c .before .before .before .before in
-    let at-shared-slice-known3 = at-each .before .before .before .before .before in
+    let at-walk = c .before .before .before .before in
+    let at-shared-slice-known3 = at-walk .before .before .before .before .before in
     let start = at-shared-slice-known3 .before .before .before .before in
     λ rs ready g h sg sh n kg kh. then-refused (planned (meaning n) rs (start .args .plans .second) h)
-    (at-each .each .ensures rs ready g sg n kg) (c .if1 .taken)
+    (at-walk .walk .ensures rs ready g sg n kg) (c .if1 .taken)
 
-twice-each-requires-2 : (t : ℕ) → twice-lts.Need-each-requires-2 (twice-calls t) (twice-at t) twice.Post
-twice-each-requires-2 t c κs =
+twice-walk-requires-2 : (t : ℕ) → twice-lts.Need-walk-requires-2 (twice-calls t) (twice-at t) twice.Post
+twice-walk-requires-2 t c κs =
     let at-if1 = c .before .before in
-    let at-each = at-if1 .before .before .before .before in
-    let at-shared-slice-known3 = at-each .before .before .before .before .before in
+    let at-walk = at-if1 .before .before .before .before in
+    let at-shared-slice-known3 = at-walk .before .before .before .before .before in
     let start = at-shared-slice-known3 .before .before .before .before in
     let r = start .pre .1 .0 in let x = planned-good (start .args .c) (start .args .plans .first) (start .pre .1 .1 .0)
-    (start .pre .1 .1 .1 .0) (at-each .each .ensures) (at-if1 .if1 .left) in (
+    (start .pre .1 .1 .1 .0) (at-walk .walk .ensures) (at-if1 .if1 .left) in (
       omega (arith, start .pre .0),
       (
-        room-on r (at-each .each .result .converter) (ap (λ y. y .indent) (x .placed-so)) (x .short)
-            (at-each .each .kept .0) (x .place),
+        room-on r (at-walk .walk .result .converter) (ap (λ y. y .indent) (x .placed-so)) (x .short)
+            (at-walk .walk .kept .0) (x .place),
         (
           start .pre .1 .1 .0,
           subst (λ (m : ℕ). Given (start .args .rows .now) (start .args .text .now)
@@ -52,22 +52,22 @@ twice-each-requires-2 t c κs =
 
 twice-same-length-2 : (t : ℕ) → twice-lts.Need-same-length-2 (twice-calls t) (twice-at t) twice.Post
 twice-same-length-2 t c =
-    let at-each2 = c .before .before in
-    let at-slice-known2 = at-each2 .before .before .before .before .before in
-    let at-each = at-slice-known2 .before .before in
-    at-each2 .each2 .kept .0 ∙ at-each .each .kept .0
+    let at-walk2 = c .before .before in
+    let at-slice-known2 = at-walk2 .before .before .before .before .before in
+    let at-walk = at-slice-known2 .before .before in
+    at-walk2 .walk2 .kept .0 ∙ at-walk .walk .kept .0
 
 twice-returns-2 : (t : ℕ) → twice-lts.Need-returns-2 (twice-calls t) (twice-at t) twice.Post
 twice-returns-2 t c =
-    let at-each2 = c .before .before in
-    let at-if1 = at-each2 .before .before .before in
-    let at-each = at-if1 .before .before .before .before in
-    let at-shared-slice-known3 = at-each .before .before .before .before .before in
+    let at-walk2 = c .before .before in
+    let at-if1 = at-walk2 .before .before .before in
+    let at-walk = at-if1 .before .before .before .before in
+    let at-shared-slice-known3 = at-walk .before .before .before .before .before in
     let start = at-shared-slice-known3 .before .before .before .before in
     λ rs ready g h sg sh n kg kh. then-done (planned (meaning n) rs (start .args .plans .second) h) (start .pre .1 .0 .room)
-    (at-each .each .ensures rs ready g sg n kg) (at-if1 .if1 .left) (agrees-in
-    (planned-good (start .args .c) (start .args .plans .first) (start .pre .1 .1 .0) (start .pre .1 .1 .1 .0) (at-each .each .ensures)
-    (at-if1 .if1 .left) .placed-so) (at-each2 .each2 .ensures rs ready h sh n kh))
+    (at-walk .walk .ensures rs ready g sg n kg) (at-if1 .if1 .left) (agrees-in
+    (planned-good (start .args .c) (start .args .plans .first) (start .pre .1 .1 .0) (start .pre .1 .1 .1 .0) (at-walk .walk .ensures)
+    (at-if1 .if1 .left) .placed-so) (at-walk2 .walk2 .ensures rs ready h sh n kh))
 
 -- its code meets what it promises, if those it calls do where less is left
 pub twice-closed : {M : Type 1} (t : ℕ) → twice-lts.Closed (twice-calls t) (twice-at t) twice.Post M
@@ -75,9 +75,9 @@ twice-closed t =
     twice-lts.spec (twice-calls t)
     (twice-at t)
     twice.Post
-    (twice-each-requires t)
+    (twice-walk-requires t)
     (twice-same-length t)
     (twice-returns t)
-    (twice-each-requires-2 t)
+    (twice-walk-requires-2 t)
     (twice-same-length-2 t)
     (twice-returns-2 t)

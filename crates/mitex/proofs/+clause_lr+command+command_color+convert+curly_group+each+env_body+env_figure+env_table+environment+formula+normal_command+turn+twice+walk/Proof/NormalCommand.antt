@@ -19,8 +19,8 @@ use native.Mathlib.Omega.{arith}
 use borrow.Author.Needs.{needs}
 use Prim.Native.Nat.{ℕ}
 use Rattle.mitex.proofs.normal_command.Reads as normal-command
-use Rattle.mitex.proofs.+clause_lr+command+command_color+convert+curly_group+each+env_body+env_figure+env_table+environment+formula+normal_command+turn+twice.Lts-normal_command as normal-command-lts
-use Rattle.mitex.proofs.+clause_lr+command+command_color+convert+curly_group+each+env_body+env_figure+env_table+environment+formula+normal_command+turn+twice.Proof.Setup.{normal-command-at, normal-command-calls}
+use Rattle.mitex.proofs.+clause_lr+command+command_color+convert+curly_group+each+env_body+env_figure+env_table+environment+formula+normal_command+turn+twice+walk.Lts-normal_command as normal-command-lts
+use Rattle.mitex.proofs.+clause_lr+command+command_color+convert+curly_group+each+env_body+env_figure+env_table+environment+formula+normal_command+turn+twice+walk.Proof.Setup.{normal-command-at, normal-command-calls}
 
 -- a place behind the tests on the command's rule, and the function's entry before it
 abbrev Told : ℕ → Type 0
@@ -131,9 +131,9 @@ normal-command-put-command-begin-requires t c κs =
     let start = at-shared-slice-known2 .before .before .before in
     (start .pre .1 .0 .place, start .pre .1 .0 .room)
 
-normal-command-each-requires : (t : ℕ) → normal-command-lts.Need-each-requires (normal-command-calls t) (normal-command-at t)
+normal-command-walk-requires : (t : ℕ) → normal-command-lts.Need-walk-requires (normal-command-calls t) (normal-command-at t)
     normal-command.Post
-normal-command-each-requires t c κs =
+normal-command-walk-requires t c κs =
     let at-put-command-begin = c .before .before .before in
     let at-takes = at-put-command-begin .before .before .before in
     let at-arguments-plan = at-takes .before .before in
@@ -168,14 +168,14 @@ normal-command-returns-2 t c =
 normal-command-same-length : (t : ℕ) → normal-command-lts.Need-same-length (normal-command-calls t) (normal-command-at t)
     normal-command.Post
 normal-command-same-length t c =
-    let at-each = c .before .before in
-    let at-put-command-begin = at-each .before .before .before .before in
-    at-each .each .kept .0 ∙ at-put-command-begin .put-command-begin .kept .0
+    let at-walk = c .before .before in
+    let at-put-command-begin = at-walk .before .before .before .before in
+    at-walk .walk .kept .0 ∙ at-put-command-begin .put-command-begin .kept .0
 
 normal-command-returns-3 : (t : ℕ) → normal-command-lts.Need-returns-3 (normal-command-calls t) (normal-command-at t) normal-command.Post
 normal-command-returns-3 t c =
-    let at-each = c .before .before in
-    let at-put-command-begin = at-each .before .before .before .before in
+    let at-walk = c .before .before in
+    let at-put-command-begin = at-walk .before .before .before .before in
     let at-takes = at-put-command-begin .before .before .before in
     let at-arguments-plan = at-takes .before .before in
     let at-is-stack = at-arguments-plan .before in
@@ -188,7 +188,7 @@ normal-command-returns-3 t c =
     (at-written-name .written-name .result .now)) (argumentsIn (at-arguments-of .arguments-of .result) (at-is-stack .is-stack .result)
     conv x g k)) (start .pre .1 .0 .room) (at-put-command-begin .put-command-begin .ensures) ready n h
     (means-after (typstName (start .args .c .mode) (start .args .name .now) (at-written-name .written-name .result .now))
-    (arguments-taken (at-arguments-plan .arguments-plan .ensures f sp rs) (at-takes .takes .given .1))) (at-each .each .ensures))
+    (arguments-taken (at-arguments-plan .arguments-plan .ensures f sp rs) (at-takes .takes .given .1))) (at-walk .walk .ensures))
 
 -- its code meets what it promises, if those it calls do where less is left
 pub normal-command-closed : {M : Type 1} (t : ℕ) → normal-command-lts.Closed (normal-command-calls t) (normal-command-at t)
@@ -210,7 +210,7 @@ normal-command-closed t =
     (normal-command-refuse-requires-2 t)
     (normal-command-enum-known-takes t)
     (normal-command-put-command-begin-requires t)
-    (normal-command-each-requires t)
+    (normal-command-walk-requires t)
     (normal-command-returns-2 t)
     (normal-command-same-length t)
     (normal-command-returns-3 t)

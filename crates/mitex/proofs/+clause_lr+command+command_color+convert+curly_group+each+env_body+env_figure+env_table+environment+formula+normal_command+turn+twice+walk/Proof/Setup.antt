@@ -6,46 +6,49 @@ use borrow.Fn.Kinds.{In}
 use borrow.Fn.PlainCycle.{Measures, is, falls, and}
 use Rattle.mitex.proofs.clause_lr.Reads as clause-lr
 use Rattle.mitex.proofs.clause_lr.Kinds as clause-lr-kinds
-use Rattle.mitex.proofs.+clause_lr+command+command_color+convert+curly_group+each+env_body+env_figure+env_table+environment+formula+normal_command+turn+twice.Lts-clause_lr as clause-lr-lts
+use Rattle.mitex.proofs.+clause_lr+command+command_color+convert+curly_group+each+env_body+env_figure+env_table+environment+formula+normal_command+turn+twice+walk.Lts-clause_lr as clause-lr-lts
 use Rattle.mitex.proofs.command.Reads as command
 use Rattle.mitex.proofs.command.Kinds as command-kinds
-use Rattle.mitex.proofs.+clause_lr+command+command_color+convert+curly_group+each+env_body+env_figure+env_table+environment+formula+normal_command+turn+twice.Lts-command as command-lts
+use Rattle.mitex.proofs.+clause_lr+command+command_color+convert+curly_group+each+env_body+env_figure+env_table+environment+formula+normal_command+turn+twice+walk.Lts-command as command-lts
 use Rattle.mitex.proofs.command_color.Reads as command-color
 use Rattle.mitex.proofs.command_color.Kinds as command-color-kinds
-use Rattle.mitex.proofs.+clause_lr+command+command_color+convert+curly_group+each+env_body+env_figure+env_table+environment+formula+normal_command+turn+twice.Lts-command_color as command-color-lts
+use Rattle.mitex.proofs.+clause_lr+command+command_color+convert+curly_group+each+env_body+env_figure+env_table+environment+formula+normal_command+turn+twice+walk.Lts-command_color as command-color-lts
 use Rattle.mitex.proofs.convert.Reads as convert
 use Rattle.mitex.proofs.convert.Kinds as convert-kinds
-use Rattle.mitex.proofs.+clause_lr+command+command_color+convert+curly_group+each+env_body+env_figure+env_table+environment+formula+normal_command+turn+twice.Lts-convert as convert-lts
+use Rattle.mitex.proofs.+clause_lr+command+command_color+convert+curly_group+each+env_body+env_figure+env_table+environment+formula+normal_command+turn+twice+walk.Lts-convert as convert-lts
 use Rattle.mitex.proofs.curly_group.Reads as curly-group
 use Rattle.mitex.proofs.curly_group.Kinds as curly-group-kinds
-use Rattle.mitex.proofs.+clause_lr+command+command_color+convert+curly_group+each+env_body+env_figure+env_table+environment+formula+normal_command+turn+twice.Lts-curly_group as curly-group-lts
+use Rattle.mitex.proofs.+clause_lr+command+command_color+convert+curly_group+each+env_body+env_figure+env_table+environment+formula+normal_command+turn+twice+walk.Lts-curly_group as curly-group-lts
 use Rattle.mitex.proofs.each.Reads as each
 use Rattle.mitex.proofs.each.Kinds as each-kinds
-use Rattle.mitex.proofs.+clause_lr+command+command_color+convert+curly_group+each+env_body+env_figure+env_table+environment+formula+normal_command+turn+twice.Lts-each as each-lts
+use Rattle.mitex.proofs.+clause_lr+command+command_color+convert+curly_group+each+env_body+env_figure+env_table+environment+formula+normal_command+turn+twice+walk.Lts-each as each-lts
 use Rattle.mitex.proofs.env_body.Reads as env-body
 use Rattle.mitex.proofs.env_body.Kinds as env-body-kinds
-use Rattle.mitex.proofs.+clause_lr+command+command_color+convert+curly_group+each+env_body+env_figure+env_table+environment+formula+normal_command+turn+twice.Lts-env_body as env-body-lts
+use Rattle.mitex.proofs.+clause_lr+command+command_color+convert+curly_group+each+env_body+env_figure+env_table+environment+formula+normal_command+turn+twice+walk.Lts-env_body as env-body-lts
 use Rattle.mitex.proofs.env_figure.Reads as env-figure
 use Rattle.mitex.proofs.env_figure.Kinds as env-figure-kinds
-use Rattle.mitex.proofs.+clause_lr+command+command_color+convert+curly_group+each+env_body+env_figure+env_table+environment+formula+normal_command+turn+twice.Lts-env_figure as env-figure-lts
+use Rattle.mitex.proofs.+clause_lr+command+command_color+convert+curly_group+each+env_body+env_figure+env_table+environment+formula+normal_command+turn+twice+walk.Lts-env_figure as env-figure-lts
 use Rattle.mitex.proofs.env_table.Reads as env-table
 use Rattle.mitex.proofs.env_table.Kinds as env-table-kinds
-use Rattle.mitex.proofs.+clause_lr+command+command_color+convert+curly_group+each+env_body+env_figure+env_table+environment+formula+normal_command+turn+twice.Lts-env_table as env-table-lts
+use Rattle.mitex.proofs.+clause_lr+command+command_color+convert+curly_group+each+env_body+env_figure+env_table+environment+formula+normal_command+turn+twice+walk.Lts-env_table as env-table-lts
 use Rattle.mitex.proofs.environment.Reads as environment
 use Rattle.mitex.proofs.environment.Kinds as environment-kinds
-use Rattle.mitex.proofs.+clause_lr+command+command_color+convert+curly_group+each+env_body+env_figure+env_table+environment+formula+normal_command+turn+twice.Lts-environment as environment-lts
+use Rattle.mitex.proofs.+clause_lr+command+command_color+convert+curly_group+each+env_body+env_figure+env_table+environment+formula+normal_command+turn+twice+walk.Lts-environment as environment-lts
 use Rattle.mitex.proofs.formula.Reads as formula
 use Rattle.mitex.proofs.formula.Kinds as formula-kinds
-use Rattle.mitex.proofs.+clause_lr+command+command_color+convert+curly_group+each+env_body+env_figure+env_table+environment+formula+normal_command+turn+twice.Lts-formula as formula-lts
+use Rattle.mitex.proofs.+clause_lr+command+command_color+convert+curly_group+each+env_body+env_figure+env_table+environment+formula+normal_command+turn+twice+walk.Lts-formula as formula-lts
 use Rattle.mitex.proofs.normal_command.Reads as normal-command
 use Rattle.mitex.proofs.normal_command.Kinds as normal-command-kinds
-use Rattle.mitex.proofs.+clause_lr+command+command_color+convert+curly_group+each+env_body+env_figure+env_table+environment+formula+normal_command+turn+twice.Lts-normal_command as normal-command-lts
+use Rattle.mitex.proofs.+clause_lr+command+command_color+convert+curly_group+each+env_body+env_figure+env_table+environment+formula+normal_command+turn+twice+walk.Lts-normal_command as normal-command-lts
 use Rattle.mitex.proofs.turn.Reads as turn
 use Rattle.mitex.proofs.turn.Kinds as turn-kinds
-use Rattle.mitex.proofs.+clause_lr+command+command_color+convert+curly_group+each+env_body+env_figure+env_table+environment+formula+normal_command+turn+twice.Lts-turn as turn-lts
+use Rattle.mitex.proofs.+clause_lr+command+command_color+convert+curly_group+each+env_body+env_figure+env_table+environment+formula+normal_command+turn+twice+walk.Lts-turn as turn-lts
 use Rattle.mitex.proofs.twice.Reads as twice
 use Rattle.mitex.proofs.twice.Kinds as twice-kinds
-use Rattle.mitex.proofs.+clause_lr+command+command_color+convert+curly_group+each+env_body+env_figure+env_table+environment+formula+normal_command+turn+twice.Lts-twice as twice-lts
+use Rattle.mitex.proofs.+clause_lr+command+command_color+convert+curly_group+each+env_body+env_figure+env_table+environment+formula+normal_command+turn+twice+walk.Lts-twice as twice-lts
+use Rattle.mitex.proofs.walk.Reads as walk
+use Rattle.mitex.proofs.walk.Kinds as walk-kinds
+use Rattle.mitex.proofs.+clause_lr+command+command_color+convert+curly_group+each+env_body+env_figure+env_table+environment+formula+normal_command+turn+twice+walk.Lts-walk as walk-lts
 use Rattle.mitex_colors.proofs.argument_model.Reads as argument-model-reads
 use Rattle.mitex_colors.proofs.color_model.Reads as color-model-reads
 use Rattle.mitex_colors.proofs.put_color_head.Reads as put-color-head-reads
@@ -115,46 +118,49 @@ use Rattle.text.proofs.put.Reads as put-reads
 use Rattle.utf8.proofs.trim.Reads as trim-reads
 
 abbrev pub μ-clause-lr : Measures 4 clause-lr-kinds.ps ℕ
-μ-clause-lr κs a = length (a .1 .1 .0 .now) + 3
+μ-clause-lr κs a = length (a .1 .1 .0 .now) + 4
 
 abbrev pub μ-command : Measures 4 command-kinds.ps ℕ
-μ-command κs a = length (a .1 .1 .0 .now) + 5
+μ-command κs a = length (a .1 .1 .0 .now) + 6
 
 abbrev pub μ-command-color : Measures 4 command-color-kinds.ps ℕ
-μ-command-color κs a = length (a .1 .1 .0 .now) + 4
+μ-command-color κs a = length (a .1 .1 .0 .now) + 5
 
 abbrev pub μ-convert : Measures 4 convert-kinds.ps ℕ
 μ-convert κs a = length (a .1 .1 .0 .now) + 0
 
 abbrev pub μ-curly-group : Measures 4 curly-group-kinds.ps ℕ
-μ-curly-group κs a = length (a .1 .1 .0 .now) + 3
+μ-curly-group κs a = length (a .1 .1 .0 .now) + 4
 
 abbrev pub μ-each : Measures 4 each-kinds.ps ℕ
 μ-each κs a = length (a .1 .1 .0 .now) + 2
 
 abbrev pub μ-env-body : Measures 4 env-body-kinds.ps ℕ
-μ-env-body κs a = length (a .1 .1 .0 .now) + 5
+μ-env-body κs a = length (a .1 .1 .0 .now) + 6
 
 abbrev pub μ-env-figure : Measures 4 env-figure-kinds.ps ℕ
-μ-env-figure κs a = length (a .1 .1 .0 .now) + 4
+μ-env-figure κs a = length (a .1 .1 .0 .now) + 5
 
 abbrev pub μ-env-table : Measures 4 env-table-kinds.ps ℕ
-μ-env-table κs a = length (a .1 .1 .0 .now) + 3
+μ-env-table κs a = length (a .1 .1 .0 .now) + 4
 
 abbrev pub μ-environment : Measures 4 environment-kinds.ps ℕ
-μ-environment κs a = length (a .1 .1 .0 .now) + 6
+μ-environment κs a = length (a .1 .1 .0 .now) + 7
 
 abbrev pub μ-formula : Measures 4 formula-kinds.ps ℕ
-μ-formula κs a = length (a .1 .1 .0 .now) + 3
+μ-formula κs a = length (a .1 .1 .0 .now) + 4
 
 abbrev pub μ-normal-command : Measures 4 normal-command-kinds.ps ℕ
-μ-normal-command κs a = length (a .1 .1 .0 .now) + 3
+μ-normal-command κs a = length (a .1 .1 .0 .now) + 4
 
 abbrev pub μ-turn : Measures 4 turn-kinds.ps ℕ
 μ-turn κs a = length (a .1 .1 .0 .now) + 1
 
 abbrev pub μ-twice : Measures 4 twice-kinds.ps ℕ
-μ-twice κs a = length (a .1 .1 .0 .now) + 3
+μ-twice κs a = length (a .1 .1 .0 .now) + 4
+
+abbrev pub μ-walk : Measures 4 walk-kinds.ps ℕ
+μ-walk κs a = length (a .1 .1 .0 .now) + 3
 
 abbrev pub clause-lr-at : ℕ → In 4 clause-lr-kinds.ps
 clause-lr-at t = and 4 clause-lr-kinds.ps (is 4 clause-lr-kinds.ps μ-clause-lr t) clause-lr.Pre
@@ -240,8 +246,14 @@ twice-at t = and 4 twice-kinds.ps (is 4 twice-kinds.ps μ-twice t) twice.Pre
 abbrev pub twice-below : ℕ → In 4 twice-kinds.ps
 twice-below t = and 4 twice-kinds.ps (falls 4 twice-kinds.ps _<_ μ-twice t) twice.Pre
 
+abbrev pub walk-at : ℕ → In 4 walk-kinds.ps
+walk-at t = and 4 walk-kinds.ps (is 4 walk-kinds.ps μ-walk t) walk.Pre
+
+abbrev pub walk-below : ℕ → In 4 walk-kinds.ps
+walk-below t = and 4 walk-kinds.ps (falls 4 walk-kinds.ps _<_ μ-walk t) walk.Pre
+
 abbrev pub clause-lr-calls : ℕ → clause-lr-lts.Claims
-clause-lr-calls t = (lr-name-reads.Asked, lr-name-reads.Learnt, put-lr-begin-reads.Asked, put-lr-begin-reads.Learnt, lr-plan-reads.Asked, lr-plan-reads.Learnt, each-below t, each.Post)
+clause-lr-calls t = (lr-name-reads.Asked, lr-name-reads.Learnt, put-lr-begin-reads.Asked, put-lr-begin-reads.Learnt, lr-plan-reads.Asked, lr-plan-reads.Learnt, walk-below t, walk.Post)
 
 abbrev pub command-calls : ℕ → command-lts.Claims
 command-calls t = (name-tok-reads.Asked, name-tok-reads.Learnt, past-first-reads.Asked, past-first-reads.Learnt, command-of-reads.Asked, command-of-reads.Learnt, convert-command-item-reads.Asked, convert-command-item-reads.Learnt, convert-command-label-reads.Asked, convert-command-label-reads.Learnt, convert-command-includegraphics-reads.Asked, convert-command-includegraphics-reads.Learnt, went-reads.Asked, went-reads.Learnt, color-model-reads.Asked, color-model-reads.Learnt, body-loop-reads.Asked, body-loop-reads.Learnt, command-color-below t, command-color.Post, argument-model-reads.Asked, argument-model-reads.Learnt, arguments-loop-reads.Asked, arguments-loop-reads.Learnt, normal-command-below t, normal-command.Post)
@@ -250,34 +262,37 @@ abbrev pub command-color-calls : ℕ → command-color-lts.Claims
 command-color-calls t = (get-cmd-reads.Asked, get-cmd-reads.Learnt, put-color-head-reads.Asked, put-color-head-reads.Learnt, color-plans-reads.Asked, color-plans-reads.Learnt, twice-below t, twice.Post)
 
 abbrev pub convert-calls : ℕ → convert-lts.Claims
-convert-calls t = (element-of-reads.Asked, element-of-reads.Learnt, with-flag-reads.Asked, with-flag-reads.Learnt, refuse-reads.Asked, refuse-reads.Learnt, children-plan-reads.Asked, children-plan-reads.Learnt, each-below t, each.Post, formula-below t, formula.Post, curly-group-below t, curly-group.Post, clause-lr-below t, clause-lr.Post, attach-plan-reads.Asked, attach-plan-reads.Learnt, went-reads.Asked, went-reads.Learnt, command-below t, command.Post, environment-below t, environment.Post, put-reads.Asked, put-reads.Learnt, convert-token-reads.Asked, convert-token-reads.Learnt)
+convert-calls t = (element-of-reads.Asked, element-of-reads.Learnt, with-flag-reads.Asked, with-flag-reads.Learnt, refuse-reads.Asked, refuse-reads.Learnt, children-plan-reads.Asked, children-plan-reads.Learnt, walk-below t, walk.Post, formula-below t, formula.Post, curly-group-below t, curly-group.Post, clause-lr-below t, clause-lr.Post, attach-plan-reads.Asked, attach-plan-reads.Learnt, went-reads.Asked, went-reads.Learnt, command-below t, command.Post, environment-below t, environment.Post, put-reads.Asked, put-reads.Learnt, convert-token-reads.Asked, convert-token-reads.Learnt)
 
 abbrev pub curly-group-calls : ℕ → curly-group-lts.Claims
-curly-group-calls t = (curly-plan-reads.Asked, curly-plan-reads.Learnt, each-below t, each.Post)
+curly-group-calls t = (curly-plan-reads.Asked, curly-plan-reads.Learnt, walk-below t, walk.Post)
 
 abbrev pub each-calls : ℕ → each-lts.Claims
-each-calls t = (placed-reads.Asked, placed-reads.Learnt, put-tokens-reads.Asked, put-tokens-reads.Learnt, refuse-reads.Asked, refuse-reads.Learnt, span-at-reads.Asked, span-at-reads.Learnt, act-of-reads.Asked, act-of-reads.Learnt, turn-below t, turn.Post, next-loop-reads.Asked, next-loop-reads.Learnt, put-loop-end-reads.Asked, put-loop-end-reads.Learnt, put-end-reads.Asked, put-end-reads.Learnt, went-reads.Asked, went-reads.Learnt)
+each-calls t = (put-tokens-reads.Asked, put-tokens-reads.Learnt, refuse-reads.Asked, refuse-reads.Learnt, span-at-reads.Asked, span-at-reads.Learnt, act-of-reads.Asked, act-of-reads.Learnt, turn-below t, turn.Post, next-loop-reads.Asked, next-loop-reads.Learnt, put-loop-end-reads.Asked, put-loop-end-reads.Learnt, went-reads.Asked, went-reads.Learnt)
 
 abbrev pub env-body-calls : ℕ → env-body-lts.Claims
-env-body-calls t = (put-env-begin-reads.Asked, put-env-begin-reads.Learnt, env-plan-reads.Asked, env-plan-reads.Learnt, each-below t, each.Post, env-figure-below t, env-figure.Post, env-table-below t, env-table.Post, put-math-begin-reads.Asked, put-math-begin-reads.Learnt, math-plans-reads.Asked, math-plans-reads.Learnt, twice-below t, twice.Post)
+env-body-calls t = (put-env-begin-reads.Asked, put-env-begin-reads.Learnt, env-plan-reads.Asked, env-plan-reads.Learnt, walk-below t, walk.Post, env-figure-below t, env-figure.Post, env-table-below t, env-table.Post, put-math-begin-reads.Asked, put-math-begin-reads.Learnt, math-plans-reads.Asked, math-plans-reads.Learnt, twice-below t, twice.Post)
 
 abbrev pub env-figure-calls : ℕ → env-figure-lts.Claims
 env-figure-calls t = (last-caption-reads.Asked, last-caption-reads.Learnt, is-bare-reads.Asked, is-bare-reads.Learnt, bare-row-reads.Asked, bare-row-reads.Learnt, refuse-reads.Asked, refuse-reads.Learnt, put-figure-begin-reads.Asked, put-figure-begin-reads.Learnt, figure-plans-reads.Asked, figure-plans-reads.Learnt, twice-below t, twice.Post)
 
 abbrev pub env-table-calls : ℕ → env-table-lts.Claims
-env-table-calls t = (table-argument-reads.Asked, table-argument-reads.Learnt, has-ends-reads.Asked, has-ends-reads.Learnt, refuse-reads.Asked, refuse-reads.Learnt, inner-reads.Asked, inner-reads.Learnt, trim-reads.Asked, trim-reads.Learnt, letters-fit-reads.Asked, letters-fit-reads.Learnt, put-table-begin-reads.Asked, put-table-begin-reads.Learnt, table-plan-reads.Asked, table-plan-reads.Learnt, each-below t, each.Post)
+env-table-calls t = (table-argument-reads.Asked, table-argument-reads.Learnt, has-ends-reads.Asked, has-ends-reads.Learnt, refuse-reads.Asked, refuse-reads.Learnt, inner-reads.Asked, inner-reads.Learnt, trim-reads.Asked, trim-reads.Learnt, letters-fit-reads.Asked, letters-fit-reads.Learnt, put-table-begin-reads.Asked, put-table-begin-reads.Learnt, table-plan-reads.Asked, table-plan-reads.Learnt, walk-below t, walk.Post)
 
 abbrev pub environment-calls : ℕ → environment-lts.Claims
 environment-calls t = (env-name-reads.Asked, env-name-reads.Learnt, trim-reads.Asked, trim-reads.Learnt, get-env-reads.Asked, get-env-reads.Learnt, is-absent-reads.Asked, is-absent-reads.Learnt, refuse-reads.Asked, refuse-reads.Learnt, class-of-reads.Asked, class-of-reads.Learnt, env-of-reads.Asked, env-of-reads.Learnt, written-name-reads.Asked, written-name-reads.Learnt, env-body-below t, env-body.Post, is-list-reads.Asked, is-list-reads.Learnt, take-label-reads.Asked, take-label-reads.Learnt)
 
 abbrev pub formula-calls : ℕ → formula-lts.Claims
-formula-calls t = (is-valid-reads.Asked, is-valid-reads.Learnt, refuse-reads.Asked, refuse-reads.Learnt, is-inline-reads.Asked, is-inline-reads.Learnt, put-formula-begin-reads.Asked, put-formula-begin-reads.Learnt, formula-plan-reads.Asked, formula-plan-reads.Learnt, each-below t, each.Post)
+formula-calls t = (is-valid-reads.Asked, is-valid-reads.Learnt, refuse-reads.Asked, refuse-reads.Learnt, is-inline-reads.Asked, is-inline-reads.Learnt, put-formula-begin-reads.Asked, put-formula-begin-reads.Learnt, formula-plan-reads.Asked, formula-plan-reads.Learnt, walk-below t, walk.Post)
 
 abbrev pub normal-command-calls : ℕ → normal-command-lts.Claims
-normal-command-calls t = (get-cmd-reads.Asked, get-cmd-reads.Learnt, is-absent-reads.Asked, is-absent-reads.Learnt, refuse-reads.Asked, refuse-reads.Learnt, written-name-reads.Asked, written-name-reads.Learnt, class-of-reads.Asked, class-of-reads.Learnt, arguments-of-reads.Asked, arguments-of-reads.Learnt, is-stack-reads.Asked, is-stack-reads.Learnt, arguments-plan-reads.Asked, arguments-plan-reads.Learnt, put-command-begin-reads.Asked, put-command-begin-reads.Learnt, each-below t, each.Post)
+normal-command-calls t = (get-cmd-reads.Asked, get-cmd-reads.Learnt, is-absent-reads.Asked, is-absent-reads.Learnt, refuse-reads.Asked, refuse-reads.Learnt, written-name-reads.Asked, written-name-reads.Learnt, class-of-reads.Asked, class-of-reads.Learnt, arguments-of-reads.Asked, arguments-of-reads.Learnt, is-stack-reads.Asked, is-stack-reads.Learnt, arguments-plan-reads.Asked, arguments-plan-reads.Learnt, put-command-begin-reads.Asked, put-command-begin-reads.Learnt, walk-below t, walk.Post)
 
 abbrev pub turn-calls : ℕ → turn-lts.Claims
 turn-calls t = (put-before-reads.Asked, put-before-reads.Learnt, converts-reads.Asked, converts-reads.Learnt, went-reads.Asked, went-reads.Learnt, convert-below t, convert.Post, put-behind-reads.Asked, put-behind-reads.Learnt)
 
 abbrev pub twice-calls : ℕ → twice-lts.Claims
-twice-calls t = (each-below t, each.Post)
+twice-calls t = (walk-below t, walk.Post)
+
+abbrev pub walk-calls : ℕ → walk-lts.Claims
+walk-calls t = (placed-reads.Asked, placed-reads.Learnt, each-below t, each.Post, put-end-reads.Asked, put-end-reads.Learnt, went-reads.Asked, went-reads.Learnt)

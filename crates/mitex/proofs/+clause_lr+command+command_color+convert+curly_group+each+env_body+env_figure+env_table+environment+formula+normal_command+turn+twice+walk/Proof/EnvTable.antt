@@ -21,8 +21,8 @@ use native.Mathlib.Omega.{arith}
 use borrow.Author.Needs.{needs}
 use Prim.Native.Nat.{ℕ}
 use Rattle.mitex.proofs.env_table.Reads as env-table
-use Rattle.mitex.proofs.+clause_lr+command+command_color+convert+curly_group+each+env_body+env_figure+env_table+environment+formula+normal_command+turn+twice.Lts-env_table as env-table-lts
-use Rattle.mitex.proofs.+clause_lr+command+command_color+convert+curly_group+each+env_body+env_figure+env_table+environment+formula+normal_command+turn+twice.Proof.Setup.{env-table-at, env-table-calls}
+use Rattle.mitex.proofs.+clause_lr+command+command_color+convert+curly_group+each+env_body+env_figure+env_table+environment+formula+normal_command+turn+twice+walk.Lts-env_table as env-table-lts
+use Rattle.mitex.proofs.+clause_lr+command+command_color+convert+curly_group+each+env_body+env_figure+env_table+environment+formula+normal_command+turn+twice+walk.Proof.Setup.{env-table-at, env-table-calls}
 
 -- a place where the column letters are found, and the function's entry before it
 abbrev Found : ℕ → Type 0
@@ -120,8 +120,8 @@ env-table-put-table-begin-requires t c κs =
 env-table-table-plan-requires : (t : ℕ) → env-table-lts.Need-table-plan-requires (env-table-calls t) (env-table-at t) env-table.Post
 env-table-table-plan-requires t c κs = search needs
 
-env-table-each-requires : (t : ℕ) → env-table-lts.Need-each-requires (env-table-calls t) (env-table-at t) env-table.Post
-env-table-each-requires t c κs =
+env-table-walk-requires : (t : ℕ) → env-table-lts.Need-walk-requires (env-table-calls t) (env-table-at t) env-table.Post
+env-table-walk-requires t c κs =
     let at-table-plan = c .before in
     let at-put-table-begin = at-table-plan .before .before .before in
     let at-inner = at-put-table-begin .before .before .before .before .before in
@@ -141,14 +141,14 @@ env-table-each-requires t c κs =
 
 env-table-same-length : (t : ℕ) → env-table-lts.Need-same-length (env-table-calls t) (env-table-at t) env-table.Post
 env-table-same-length t c =
-    let at-each = c .before .before in
-    let at-put-table-begin = at-each .before .before .before .before .before in
-    at-each .each .kept .0 ∙ at-put-table-begin .put-table-begin .kept .0
+    let at-walk = c .before .before in
+    let at-put-table-begin = at-walk .before .before .before .before .before in
+    at-walk .walk .kept .0 ∙ at-put-table-begin .put-table-begin .kept .0
 
 env-table-returns-3 : (t : ℕ) → env-table-lts.Need-returns-3 (env-table-calls t) (env-table-at t) env-table.Post
 env-table-returns-3 t c =
-    let at-each = c .before .before in
-    let at-table-plan = at-each .before .before in
+    let at-walk = c .before .before in
+    let at-table-plan = at-walk .before .before in
     let at-put-table-begin = at-table-plan .before .before .before in
     let at-if2 = at-put-table-begin .before .before in
     let at-letters-fit = at-if2 .before in
@@ -159,7 +159,7 @@ env-table-returns-3 t c =
     λ rs ready f sp n h. agrees-as (lettered t (at-trim) rs f sp n ∙ letters-good (start .args .name .now) _ (meaning n)
     (contextOf rs (start .args .c)) f (carryOf (start .args .c)) (sym (at-letters-fit .letters-fit .ensures) ∙ not-false _
     (at-if2 .if2 .left))) (plan-agrees (start .args .c) (tableCells _) (start .pre .1 .0 .room)
-    (at-put-table-begin .put-table-begin .ensures) ready n h (at-table-plan .table-plan .ensures f sp _ rs) (at-each .each .ensures))
+    (at-put-table-begin .put-table-begin .ensures) ready n h (at-table-plan .table-plan .ensures f sp _ rs) (at-walk .walk .ensures))
 
 -- its code meets what it promises, if those it calls do where less is left
 pub env-table-closed : {M : Type 1} (t : ℕ) → env-table-lts.Closed (env-table-calls t) (env-table-at t) env-table.Post M
@@ -178,6 +178,6 @@ env-table-closed t =
     (env-table-returns-2 t)
     (env-table-put-table-begin-requires t)
     (env-table-table-plan-requires t)
-    (env-table-each-requires t)
+    (env-table-walk-requires t)
     (env-table-same-length t)
     (env-table-returns-3 t)

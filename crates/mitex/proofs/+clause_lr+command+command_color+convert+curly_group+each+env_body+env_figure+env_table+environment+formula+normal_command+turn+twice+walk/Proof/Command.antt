@@ -15,8 +15,8 @@ use native.Mathlib.Omega.{arith}
 use borrow.Author.Needs.{needs}
 use Prim.Native.Nat.{ℕ}
 use Rattle.mitex.proofs.command.Reads as command
-use Rattle.mitex.proofs.+clause_lr+command+command_color+convert+curly_group+each+env_body+env_figure+env_table+environment+formula+normal_command+turn+twice.Lts-command as command-lts
-use Rattle.mitex.proofs.+clause_lr+command+command_color+convert+curly_group+each+env_body+env_figure+env_table+environment+formula+normal_command+turn+twice.Proof.Setup.{command-at, command-calls}
+use Rattle.mitex.proofs.+clause_lr+command+command_color+convert+curly_group+each+env_body+env_figure+env_table+environment+formula+normal_command+turn+twice+walk.Lts-command as command-lts
+use Rattle.mitex.proofs.+clause_lr+command+command_color+convert+curly_group+each+env_body+env_figure+env_table+environment+formula+normal_command+turn+twice+walk.Proof.Setup.{command-at, command-calls}
 
 command-name-tok-requires : (t : ℕ) → command-lts.Need-name-tok-requires (command-calls t) (command-at t) command.Post
 command-name-tok-requires t c κs =

@@ -9,8 +9,8 @@ use Rattle.mitex.proofs.Commanding.{color-head}
 use native.Mathlib.Omega.{arith}
 use Prim.Native.Nat.{ℕ}
 use Rattle.mitex.proofs.command_color.Reads as command-color
-use Rattle.mitex.proofs.+clause_lr+command+command_color+convert+curly_group+each+env_body+env_figure+env_table+environment+formula+normal_command+turn+twice.Lts-command_color as command-color-lts
-use Rattle.mitex.proofs.+clause_lr+command+command_color+convert+curly_group+each+env_body+env_figure+env_table+environment+formula+normal_command+turn+twice.Proof.Setup.{command-color-at, command-color-calls}
+use Rattle.mitex.proofs.+clause_lr+command+command_color+convert+curly_group+each+env_body+env_figure+env_table+environment+formula+normal_command+turn+twice+walk.Lts-command_color as command-color-lts
+use Rattle.mitex.proofs.+clause_lr+command+command_color+convert+curly_group+each+env_body+env_figure+env_table+environment+formula+normal_command+turn+twice+walk.Proof.Setup.{command-color-at, command-color-calls}
 
 command-color-get-cmd-requires : (t : ℕ) → command-color-lts.Need-get-cmd-requires (command-color-calls t) (command-color-at t)
     command-color.Post

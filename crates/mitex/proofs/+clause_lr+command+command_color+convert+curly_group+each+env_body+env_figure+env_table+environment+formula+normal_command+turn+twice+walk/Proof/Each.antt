@@ -1,27 +1,20 @@
 -- The needs of `each`.
-use mathlib.Core.Path.{sym, ap, _∙_}
+use mathlib.Core.Path.{refl, _∙_}
 use lib.ListN.{length}
-use Prim.Native.Nat.{ℕ, _+_, _-_, _/_}
-use Rattle.text.proofs.Writing.{wrote-low}
-use Rattle.mitex_state.specs.Contract.{placeOf}
-use Rattle.mitex_state.specs.Parts.{rowsIn, textIn}
-use Rattle.mitex_plans.proofs.Parting.{between-length}
-use Rattle.mitex.proofs.Rooms.{room-between}
-use Rattle.mitex.proofs.Walking.{Looping, Child, looping-start, loop-room, loop-row, child-spans, child, child-given, child-behind, loop-refused, loop-next, tokens-given, run-high, run-stop, run-some, run-refused, run-next, loop-ended}
-use Rattle.mitex.proofs.Planning.{planned-at, planned-refused}
+use Prim.Native.Nat.{ℕ, _-_}
+use Rattle.mitex.proofs.Walking.{Looping, Child, looping-start, loop-room, loop-row, child-spans, child, child-given, child-behind, loop-refused, loop-next, tokens-given, run-high, run-stop, run-some, run-refused, run-next, loop-done}
 use native.Mathlib.Omega.{arith}
 use borrow.Author.Needs.{needs}
 use Rattle.mitex.proofs.each.Reads as each
-use Rattle.mitex.proofs.+clause_lr+command+command_color+convert+curly_group+each+env_body+env_figure+env_table+environment+formula+normal_command+turn+twice.Lts-each as each-lts
-use Rattle.mitex.proofs.+clause_lr+command+command_color+convert+curly_group+each+env_body+env_figure+env_table+environment+formula+normal_command+turn+twice.Proof.Setup.{each-at, each-calls}
+use Rattle.mitex.proofs.+clause_lr+command+command_color+convert+curly_group+each+env_body+env_figure+env_table+environment+formula+normal_command+turn+twice+walk.Lts-each as each-lts
+use Rattle.mitex.proofs.+clause_lr+command+command_color+convert+curly_group+each+env_body+env_figure+env_table+environment+formula+normal_command+turn+twice+walk.Proof.Setup.{each-at, each-calls}
 
 abbrev pub each-Inv-loop : each-lts.InvT-loop
-each-Inv-loop out₀ at rows text row rules index c plan a b x y mode env indent elements words first w₀ d₀ l₀ i₀ j₀ out w d l i j =
-    Looping rules index elements words first out₀ w₀ d₀ l₀ out w d l i j
+each-Inv-loop out₀ at rows text row rules index mode env indent w₀ d₀ l₀ i₀ j₀ out w d l i j = Looping rules index rows text row out₀ w₀
+    d₀ l₀ out w d l i j
 
 abbrev pub each-μ-loop : each-lts.MeasureT-loop
-each-μ-loop out₀ at rows text row rules index c plan a b x y mode env indent elements words first w₀ d₀ l₀ i₀ j₀ out w d l i j = length
-    elements - i
+each-μ-loop out₀ at rows text row rules index mode env indent w₀ d₀ l₀ i₀ j₀ out w d l i j = length rows - i
 
 -- a place in a turn of the loop, behind the measuring of the child; the loop's head before it, and the function's entry
 abbrev Here : ℕ → Type 0
@@ -31,78 +24,20 @@ abbrev head : (t : ℕ) → Here t → each-lts.At-loop (each-calls t) (each-at 
 head t c = c .before .before .before .before
 
 abbrev entry : (t : ℕ) → Here t → each-lts.Start (each-calls t) (each-at t) each.Post each-Inv-loop each-μ-loop
-entry t c = let at-part = head t c .before .before .before .before in at-part .before .before .before .before .before .before
+entry t c = let known = head t c .before .before .before in known .before .before .before
 
 -- the child there
 child-here :
     (t : ℕ) (c : Here t)
-    → Child (rowsIn (entry t c .args .plan .part) (entry t c .args .rows .now))
-    (textIn (entry t c .args .plan .part) (entry t c .args .text .now))
-    (head t c .loop .out) (head t c .loop .d) (head t c .loop .i) (head t c .loop .j) (c .span-at .result .rows)
-    (c .span-at .result .text) (head t c .loop .w)
-    (entry t c .args .row + 1 + entry t c .args .plan .part .i / 8)
+    → Child (entry t c .args .rows .now) (entry t c .args .text .now) (head t c .loop .out) (head t c .loop .d) (head t c .loop .i)
+    (head t c .loop .j) (c .span-at .result .rows) (c .span-at .result .text) (head t c .loop .w) (entry t c .args .row)
 child-here t c = child (head t c .loop .inv) (c .before .before .before .loop-test .taken) _ _ (c .span-at .ensures .0)
     (c .span-at .ensures .1)
 
-each-sub-elements : (t : ℕ) → each-lts.Need-sub-elements (each-calls t) (each-at t) each.Post each-Inv-loop each-μ-loop
-each-sub-elements t c =
-    let at-slice-known = c .before .before .before .before .before in
-    let start = at-slice-known .before in
-    start .pre .1 .1 .1 .inside .low
-
-each-part-elements-start : (t : ℕ) → each-lts.Need-part-elements-start (each-calls t) (each-at t) each.Post each-Inv-loop each-μ-loop
-each-part-elements-start t c =
-    let at-slice-known = c .before .before .before .before .before in
-    let start = at-slice-known .before in
-    start .pre .1 .1 .1 .inside .low
-
-each-part-elements-end : (t : ℕ) → each-lts.Need-part-elements-end (each-calls t) (each-at t) each.Post each-Inv-loop each-μ-loop
-each-part-elements-end t c =
-    let at-slice-known = c .before .before .before .before .before in
-    let start = at-slice-known .before in
-    start .pre .1 .1 .1 .inside .high
-
-each-sub-words : (t : ℕ) → each-lts.Need-sub-words (each-calls t) (each-at t) each.Post each-Inv-loop each-μ-loop
-each-sub-words t c =
-    let at-shared-slice-known = c .before .before .before .before .before in
-    let start = at-shared-slice-known .before .before in
-    start .pre .1 .1 .1 .inside .begun
-
-each-part-words-start : (t : ℕ) → each-lts.Need-part-words-start (each-calls t) (each-at t) each.Post each-Inv-loop each-μ-loop
-each-part-words-start t c =
-    let at-shared-slice-known = c .before .before .before .before .before in
-    let start = at-shared-slice-known .before .before in
-    start .pre .1 .1 .1 .inside .begun
-
-each-part-words-end : (t : ℕ) → each-lts.Need-part-words-end (each-calls t) (each-at t) each.Post each-Inv-loop each-μ-loop
-each-part-words-end t c =
-    let at-shared-slice-known = c .before .before .before .before .before in
-    let start = at-shared-slice-known .before .before in
-    start .pre .1 .1 .1 .inside .stop
-
-each-add-first : (t : ℕ) → each-lts.Need-add-first (each-calls t) (each-at t) each.Post each-Inv-loop each-μ-loop
-each-add-first t c =
-    let at-shared-slice-known2 = c .before .before .before .before .before in
-    let start = at-shared-slice-known2 .before .before .before in
-    omega (arith, start .pre .1 .0 .low)
-
-each-add-first-2 : (t : ℕ) → each-lts.Need-add-first-2 (each-calls t) (each-at t) each.Post each-Inv-loop each-μ-loop
-each-add-first-2 t c =
-    let at-shared-slice-known2 = c .before .before .before .before .before in
-    let start = at-shared-slice-known2 .before .before .before in
-    omega (arith, start .pre .1 .0 .low, start .pre .1 .1 .1 .inside .low, start .pre .1 .1 .1 .inside .high)
-
-each-placed-requires : (t : ℕ) → each-lts.Need-placed-requires (each-calls t) (each-at t) each.Post each-Inv-loop each-μ-loop
-each-placed-requires t c κs = search needs
-
 each-loop-holds : (t : ℕ) → each-lts.Need-loop-holds (each-calls t) (each-at t) each.Post each-Inv-loop each-μ-loop
 each-loop-holds t c =
-    let at-shared-slice-known3 = c .before .before .before .before .before in
-    let start = at-shared-slice-known3 .before .before .before .before in
-    let g = start .pre .1 .1 .1 in let e = c .placed .ensures in looping-start
-    (room-between (start .pre .1 .0) (start .args .plan .part) (g .inside) (c .placed .result)
-    (omega (arith, ap (λ y. y .indent) e, g .near)) (omega (arith, ap (λ y. y .«label_len») e, start .pre .1 .0 .label)))
-    (start .pre .1 .1 .0) (record { forest = g .forest; spells = g .spells }) (g .counts)
+    let start = c .before .before .before .before .before in
+    looping-start (start .pre .1 .0) (start .pre .1 .1 .0) (start .pre .1 .1 .1 .0) (start .pre .1 .1 .1 .1)
 
 each-add-if1 : (t : ℕ) → each-lts.Need-add-if1 (each-calls t) (each-at t) each.Post each-Inv-loop each-μ-loop
 each-add-if1 t c =
@@ -156,24 +91,14 @@ each-add-i t c =
     let at-put-tokens = c .before .before .before in
     let at-shared-slice-known5 = at-put-tokens .before .before .before .before .before in
     let at-loop = at-shared-slice-known5 .before .before in
-    let at-placed = at-loop .before in
-    omega (
-      arith,
-      run-high (at-loop .loop .inv) (ap placeOf (at-placed .placed .ensures)) (at-put-tokens .put-tokens .ensures),
-      at-loop .loop .inv .room .few,
-    )
+    omega (arith, run-high (at-loop .loop .inv) refl (at-put-tokens .put-tokens .ensures), at-loop .loop .inv .room .few)
 
 each-add-j : (t : ℕ) → each-lts.Need-add-j (each-calls t) (each-at t) each.Post each-Inv-loop each-μ-loop
 each-add-j t c =
     let at-put-tokens = c .before .before .before .before in
     let at-shared-slice-known5 = at-put-tokens .before .before .before .before .before in
     let at-loop = at-shared-slice-known5 .before .before in
-    let at-placed = at-loop .before in
-    omega (
-      arith,
-      run-stop (at-loop .loop .inv) (ap placeOf (at-placed .placed .ensures)) (at-put-tokens .put-tokens .ensures),
-      at-loop .loop .inv .room .short,
-    )
+    omega (arith, run-stop (at-loop .loop .inv) refl (at-put-tokens .put-tokens .ensures), at-loop .loop .inv .room .short)
 
 each-add-refuse : (t : ℕ) → each-lts.Need-add-refuse (each-calls t) (each-at t) each.Post each-Inv-loop each-μ-loop
 each-add-refuse t c =
@@ -181,12 +106,7 @@ each-add-refuse t c =
     let at-put-tokens = at-out .before in
     let at-shared-slice-known5 = at-put-tokens .before .before .before .before .before in
     let at-loop = at-shared-slice-known5 .before .before in
-    let at-placed = at-loop .before in
-    omega (
-      arith,
-      run-high (at-loop .loop .inv) (ap placeOf (at-placed .placed .ensures)) (at-put-tokens .put-tokens .ensures),
-      at-loop .loop .inv .room .low,
-    )
+    omega (arith, run-high (at-loop .loop .inv) refl (at-put-tokens .put-tokens .ensures), at-loop .loop .inv .room .low)
 
 each-refuse-requires : (t : ℕ) → each-lts.Need-refuse-requires (each-calls t) (each-at t) each.Post each-Inv-loop each-μ-loop
 each-refuse-requires t c κs = search needs
@@ -206,12 +126,8 @@ each-returns t c =
     let at-put-tokens = at-out .before in
     let at-shared-slice-known5 = at-put-tokens .before .before .before .before .before in
     let at-loop = at-shared-slice-known5 .before .before in
-    let at-placed = at-loop .before in
-    let at-shared-slice-known3 = at-placed .before .before .before .before .before in
-    let start = at-shared-slice-known3 .before .before .before .before in
-    λ rs ready g sp n h. planned-refused (start .args .c) (start .args .plan) (at-placed .placed .ensures) rs n g
-    (run-refused (at-loop .loop .inv) (ap placeOf (at-placed .placed .ensures)) (at-put-tokens .put-tokens .ensures) rs ready g sp n h
-    (at-if2 .if2 .taken) (c .refuse .ensures)) (λ z. at-if2 .if2 .taken (sym (c .refuse .ensures .number) ∙ z))
+    λ rs ready g sp n h. run-refused (at-loop .loop .inv) refl (at-put-tokens .put-tokens .ensures) rs ready g sp n h
+    (at-if2 .if2 .taken) (c .refuse .ensures)
 
 each-loop-less : (t : ℕ) → each-lts.Need-loop-less (each-calls t) (each-at t) each.Post each-Inv-loop each-μ-loop
 each-loop-less t c =
@@ -219,12 +135,11 @@ each-loop-less t c =
     let at-put-tokens = at-out .before in
     let at-shared-slice-known5 = at-put-tokens .before .before .before .before .before in
     let at-loop = at-shared-slice-known5 .before .before in
-    let at-placed = at-loop .before in
     omega (
       arith,
-      run-some (at-loop .loop .inv) (ap placeOf (at-placed .placed .ensures)) (at-put-tokens .put-tokens .ensures)
-          (c .if2 .left),
-      run-high (at-loop .loop .inv) (ap placeOf (at-placed .placed .ensures)) (at-put-tokens .put-tokens .ensures),
+      run-some (at-loop .loop .inv) refl (at-put-tokens .put-tokens .ensures) (c .if2 .left),
+      run-high (at-loop .loop .inv)
+          refl (at-put-tokens .put-tokens .ensures),
     )
 
 each-loop-again : (t : ℕ) → each-lts.Need-loop-again (each-calls t) (each-at t) each.Post each-Inv-loop each-μ-loop
@@ -233,9 +148,7 @@ each-loop-again t c =
     let at-put-tokens = at-out .before in
     let at-shared-slice-known5 = at-put-tokens .before .before .before .before .before in
     let at-loop = at-shared-slice-known5 .before .before in
-    let at-placed = at-loop .before in
-    run-next (at-loop .loop .inv) (ap placeOf (at-placed .placed .ensures)) (at-put-tokens .put-tokens .ensures) (c .if2 .left)
-    (at-put-tokens .put-tokens .kept .0)
+    run-next (at-loop .loop .inv) refl (at-put-tokens .put-tokens .ensures) (c .if2 .left) (at-put-tokens .put-tokens .kept .0)
 
 each-span-at-requires : (t : ℕ) → each-lts.Need-span-at-requires (each-calls t) (each-at t) each.Post each-Inv-loop each-μ-loop
 each-span-at-requires t c κs =
@@ -313,10 +226,10 @@ each-turn-requires t c κs =
     let at-struct-known5 = c .before .before .before .before .before in
     let at-span-at = at-struct-known5 .before .before in
     let at-loop = at-span-at .before .before .before .before in
-    let at-shared-slice-known4 = at-loop .before .before .before .before .before in
-    let start = at-shared-slice-known4 .before .before .before .before .before in
-    let x = child-here t (at-span-at) in let p = start .pre .1 .1 .1 .inside in (
-      omega (arith, x .long, x .end, between-length _ _ (start .args .rows .now) (p .low) (p .high), p .high, start .pre .0),
+    let at-slice-known = at-loop .before .before .before .before .before in
+    let start = at-slice-known .before in
+    let x = child-here t (at-span-at) in (
+      omega (arith, x .long, x .end, start .pre .0),
       (x .room, (at-loop .loop .inv .some-rules, x .given)),
     )
 
@@ -336,13 +249,9 @@ each-returns-2 t c =
     let at-span-at = at-struct-known4 .before in
     let in-loop = at-span-at .before .before .before in
     let at-loop = in-loop .before in
-    let at-placed = at-loop .before in
-    let at-shared-slice-known3 = at-placed .before .before .before .before .before in
-    let start = at-shared-slice-known3 .before .before .before .before in
-    λ rs ready g sp n h. planned-refused (start .args .c) (start .args .plan) (at-placed .placed .ensures) rs n g
-    (loop-refused (at-loop .loop .inv) (in-loop .loop-test .taken) _ _ (at-span-at .span-at .ensures .0)
+    λ rs ready g sp n h. loop-refused (at-loop .loop .inv) (in-loop .loop-test .taken) _ _ (at-span-at .span-at .ensures .0)
     (at-span-at .span-at .ensures .1) (at-act-of .act-of .result) (at-turn .turn .ensures) (at-act-of .act-of .ensures) rs ready g sp n
-    h (c .if3 .taken)) (c .if3 .taken)
+    h (c .if3 .taken)
 
 each-shared-slice-read-next-loop : (t : ℕ) → each-lts.Need-shared-slice-read-next-loop (each-calls t) (each-at t) each.Post
     each-Inv-loop each-μ-loop
@@ -388,45 +297,22 @@ each-put-loop-end-requires t c κs =
     let at-loop = c .before .before in
     (at-loop .loop .inv .stands .place, loop-room (at-loop .loop .inv))
 
-each-put-end-requires : (t : ℕ) → each-lts.Need-put-end-requires (each-calls t) (each-at t) each.Post each-Inv-loop each-μ-loop
-each-put-end-requires t c κs =
-    let at-put-loop-end = c .before .before .before in
-    let at-loop = at-put-loop-end .before .before .before in (
-      wrote-low (at-put-loop-end .put-loop-end .ensures),
-      omega (
-        arith,
-        at-put-loop-end .put-loop-end .kept .0,
-        loop-room
-            (at-loop .loop .inv),
-      ),
-    )
-
-each-placed-requires-2 : (t : ℕ) → each-lts.Need-placed-requires-2 (each-calls t) (each-at t) each.Post each-Inv-loop each-μ-loop
-each-placed-requires-2 t c κs = search needs
-
 each-went-requires : (t : ℕ) → each-lts.Need-went-requires (each-calls t) (each-at t) each.Post each-Inv-loop each-μ-loop
 each-went-requires t c κs = search needs
 
 each-same-length-3 : (t : ℕ) → each-lts.Need-same-length-3 (each-calls t) (each-at t) each.Post each-Inv-loop each-μ-loop
 each-same-length-3 t c =
-    let at-put-end = c .before .before .before .before in
-    let at-put-loop-end = at-put-end .before .before .before .before in
+    let at-put-loop-end = c .before .before .before in
     let at-loop = at-put-loop-end .before .before .before in
-    at-put-end .put-end .kept .0 ∙ at-put-loop-end .put-loop-end .kept .0 ∙ at-loop .loop .inv .stands .same
+    at-put-loop-end .put-loop-end .kept .0 ∙ at-loop .loop .inv .stands .same
 
 each-returns-3 : (t : ℕ) → each-lts.Need-returns-3 (each-calls t) (each-at t) each.Post each-Inv-loop each-μ-loop
 each-returns-3 t c =
-    let at-placed2 = c .before in
-    let at-put-end = at-placed2 .before .before .before in
-    let at-put-loop-end = at-put-end .before .before .before .before in
+    let at-put-loop-end = c .before .before .before in
     let past-loop = at-put-loop-end .before .before in
     let at-loop = past-loop .before in
-    let at-placed = at-loop .before in
-    let at-shared-slice-known3 = at-placed .before .before .before .before .before in
-    let start = at-shared-slice-known3 .before .before .before .before in
-    λ rs ready g sp n h. planned-at (start .args .c) (start .args .plan) (at-placed .placed .ensures) rs n g
-    (loop-ended (at-loop .loop .inv) (past-loop .loop-test .left) (placeOf (start .args .c)) (at-put-loop-end .put-loop-end .ensures)
-    (at-put-end .put-end .ensures) (at-placed2 .placed2 .ensures) (c .went .ensures) rs ready g sp n h)
+    λ rs ready g sp n h. loop-done (at-loop .loop .inv) (past-loop .loop-test .left) (at-put-loop-end .put-loop-end .ensures)
+    (c .went .ensures) rs ready g sp n h
 
 -- its code meets what it promises, if those it calls do where less is left
 pub each-closed : {M : Type 1} (t : ℕ) → each-lts.Closed (each-calls t) (each-at t) each.Post M
@@ -436,15 +322,6 @@ each-closed t =
     each.Post
     each-Inv-loop
     each-μ-loop
-    (each-sub-elements t)
-    (each-part-elements-start t)
-    (each-part-elements-end t)
-    (each-sub-words t)
-    (each-part-words-start t)
-    (each-part-words-end t)
-    (each-add-first t)
-    (each-add-first-2 t)
-    (each-placed-requires t)
     (each-loop-holds t)
     (each-add-if1 t)
     (each-shared-slice-read-if1 t)
@@ -485,8 +362,6 @@ each-closed t =
     (each-loop-less-2 t)
     (each-loop-again-2 t)
     (each-put-loop-end-requires t)
-    (each-put-end-requires t)
-    (each-placed-requires-2 t)
     (each-went-requires t)
     (each-same-length-3 t)
     (each-returns-3 t)

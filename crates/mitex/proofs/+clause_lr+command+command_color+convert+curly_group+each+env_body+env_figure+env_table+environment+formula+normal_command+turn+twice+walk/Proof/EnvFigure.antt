@@ -13,8 +13,8 @@ use native.Mathlib.Omega.{arith}
 use borrow.Author.Needs.{needs}
 use Prim.Native.Nat.{ℕ}
 use Rattle.mitex.proofs.env_figure.Reads as env-figure
-use Rattle.mitex.proofs.+clause_lr+command+command_color+convert+curly_group+each+env_body+env_figure+env_table+environment+formula+normal_command+turn+twice.Lts-env_figure as env-figure-lts
-use Rattle.mitex.proofs.+clause_lr+command+command_color+convert+curly_group+each+env_body+env_figure+env_table+environment+formula+normal_command+turn+twice.Proof.Setup.{env-figure-at, env-figure-calls}
+use Rattle.mitex.proofs.+clause_lr+command+command_color+convert+curly_group+each+env_body+env_figure+env_table+environment+formula+normal_command+turn+twice+walk.Lts-env_figure as env-figure-lts
+use Rattle.mitex.proofs.+clause_lr+command+command_color+convert+curly_group+each+env_body+env_figure+env_table+environment+formula+normal_command+turn+twice+walk.Proof.Setup.{env-figure-at, env-figure-calls}
 
 env-figure-last-caption-requires : (t : ℕ) → env-figure-lts.Need-last-caption-requires (env-figure-calls t) (env-figure-at t)
     env-figure.Post
