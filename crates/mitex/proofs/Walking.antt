@@ -26,7 +26,7 @@ use Rattle.mitex_state.specs.Children.{actOf, before, converts, behind, nextLoo
 use Rattle.mitex_state.specs.Conversion.{convert}
 use Rattle.mitex_loops.specs.Given.{numberOf, ChildGiven, OthersGiven, Decides}
 use Rattle.mitex_loops.proofs.Closing.{passes-alone}
-use Rattle.mitex_tokens.specs.Puts.{inside, carrying}
+use Rattle.mitex_tokens.specs.Puts.{carrying}
 use Rattle.mitex_tokens.specs.Runs.{TokensGiven, Runs}
 use Rattle.mitex_tokens.specs.declared.Run.{Run}
 use Rattle.mitex_tokens.proofs.Running.{next-number}
@@ -394,15 +394,14 @@ module _ {rules index rows text : List ℕ} {row : ℕ} {out₀ : List ℕ} {w�
         counts = omega (arith, rest-long, k .counts, k .room .few);
       }
 
-  module _ {mode : LaTeXMode} {env : LaTeXEnv} {indent : ℕ} (x : placeOf d₀ ≡ record { mode = mode; env = env; indent = indent }) {r : Run}
-      {out′ : List ℕ}
+  module _ {r : Run} {out′ : List ℕ}
       (m : (rs : List Rule) → rulesOf rules ≡ some rs
-      → Runs (inside rs mode env indent) (d .«skip_next_space») l (rest rows i) (rest text j) w out r out′) where
-    abbrev first : Runs (inside (k .some-rules .rules) mode env indent) (d .«skip_next_space») l (rest rows i) (rest text j) w out r out′
+      → Runs (contextOf rs d) (d .«skip_next_space») l (rest rows i) (rest text j) w out r out′) where
+    abbrev first : Runs (contextOf (k .some-rules .rules) d) (d .«skip_next_space») l (rest rows i) (rest text j) w out r out′
     first = m (k .some-rules .rules) (k .some-rules .ready .decodes)
 
-    in-place : (rs : List Rule) → contextOf rs d₀ ≡ inside rs mode env indent
-    in-place rs = ap (λ (p : Place). record { rules = rs; mode = p .mode; env = p .env; indent = p .indent }) x
+    in-place : (rs : List Rule) → contextOf rs d₀ ≡ contextOf rs d
+    in-place rs = ap (λ (p : Place). record { rules = rs; mode = p .mode; env = p .env; indent = p .indent }) (sym (k .stands .placed-so))
 
     abbrev held-so : Label
     held-so = labelOf (d .«label_held») (d .«label_len») (d .label)

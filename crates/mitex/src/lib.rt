@@ -76,7 +76,7 @@ use mitex_state::went;
 use mitex_tables::has_ends;
 use mitex_tables::letters_fit;
 use mitex_tokens::convert_token;
-use mitex_tokens::put_tokens;
+use mitex_tokens::convert_tokens;
 
 // An element.
 pub fn convert<'a>(
@@ -104,16 +104,16 @@ pub fn convert<'a>(
             let plan = children_plan(below, text, d);
             walk(out, at, below, text, row, rules, index, d, plan)
         }
-        Element::Formula => formula(out, at, below, text, row, rules, index, d),
-        Element::CurlyGroup => curly_group(out, at, below, text, row, rules, index, d),
-        Element::ClauseLr => clause_lr(out, at, below, text, row, rules, index, d),
+        Element::Formula => convert_formula(out, at, below, text, row, rules, index, d),
+        Element::CurlyGroup => convert_curly_group(out, at, below, text, row, rules, index, d),
+        Element::ClauseLr => convert_clause_lr(out, at, below, text, row, rules, index, d),
         Element::AttachComponent => {
             let plan = attach_plan(below, text, d);
             walk(out, at, below, text, row, rules, index, d, plan)
         }
         Element::Silent => went(d, at),
         Element::Command => command(out, at, below, text, row, rules, index, d),
-        Element::Environment => environment(out, at, below, text, row, rules, index, d),
+        Element::Environment => convert_env(out, at, below, text, row, rules, index, d),
         Element::TypstCode => {
             let p = text::put(out, at, text);
             went(d, p)
@@ -170,9 +170,6 @@ fn each<'a>(
     requires { ⌜ numberOf how ≡ 0 ⌝ }
     ensures { λ r. ⌜ Loops (now (rules .entry)) (now (index .entry)) (now (rows .entry)) (now (text .entry)) row c at (now (out .entry)) r (now (out .exit)) how ⌝ }
 {
-    let mode = c.mode;
-    let env = c.env;
-    let indent = c.indent;
     let mut w = at;
     let mut d = c;
     let mut l = how;
@@ -180,20 +177,7 @@ fn each<'a>(
     let mut j = 0;
     while i < rows.len() {
         if rows[i + 1] == 1 {
-            let flag = d.skip_next_space;
-            let t = put_tokens(
-                out,
-                w,
-                &rows[i..],
-                &text[j..],
-                rules,
-                index,
-                mode,
-                env,
-                indent,
-                flag,
-                l,
-            );
+            let t = convert_tokens(out, w, &rows[i..], &text[j..], rules, index, d, l);
             i += t.rows;
             j += t.text;
             if t.refusal != 0 {
@@ -302,8 +286,8 @@ fn twice<'a>(
     walk(out, w, rows, text, row, rules, index, d, second)
 }
 
-// A formula like `$x$` or `$$x$$` (`convert_formula` in the Rust).
-fn formula<'a>(
+// A formula like `$x$` or `$$x$$`.
+fn convert_formula<'a>(
     out: &mut [u8],
     at: usize,
     rows: &[u8],
@@ -328,8 +312,8 @@ fn formula<'a>(
     walk(out, p, rows, text, row, rules, index, c, plan)
 }
 
-// A curly group like `{abc}` (`convert_curly_group` in the Rust).
-fn curly_group<'a>(
+// A curly group like `{abc}`.
+fn convert_curly_group<'a>(
     out: &mut [u8],
     at: usize,
     rows: &[u8],
@@ -348,8 +332,8 @@ fn curly_group<'a>(
     walk(out, at, rows, text, row, rules, index, c, plan)
 }
 
-// `\left` and `\right`: the first child is the name (`convert_clause_lr` in the Rust).
-fn clause_lr<'a>(
+// `\left` and `\right`: the first child is the name.
+fn convert_clause_lr<'a>(
     out: &mut [u8],
     at: usize,
     rows: &[u8],
@@ -399,7 +383,7 @@ fn command<'a>(
         Command::Array => went(c, at),
         Command::Color => {
             let m = color_model(rows, text);
-            command_color(
+            convert_command_color(
                 out,
                 at,
                 rows,
@@ -415,7 +399,7 @@ fn command<'a>(
         }
         Command::ColorArguments => {
             let m = argument_model(rows, text);
-            command_color(
+            convert_command_color(
                 out,
                 at,
                 rows,
@@ -429,12 +413,12 @@ fn command<'a>(
                 arguments_loop(mode),
             )
         }
-        Command::Normal => normal_command(out, at, rows, text, row, rules, index, c, name),
+        Command::Normal => convert_normal_command(out, at, rows, text, row, rules, index, c, name),
     }
 }
 
-// A colour command: its model, then the colour and the body (`convert_command_color` in the Rust).
-fn command_color<'a>(
+// A colour command: its model, then the colour and the body.
+fn convert_command_color<'a>(
     out: &mut [u8],
     at: usize,
     rows: &[u8],
@@ -459,8 +443,8 @@ fn command_color<'a>(
     twice(out, p, rows, text, row, rules, index, c, plans)
 }
 
-// A command by its rule (`convert_normal_command` in the Rust).
-fn normal_command<'a>(
+// A command by its rule.
+fn convert_normal_command<'a>(
     out: &mut [u8],
     at: usize,
     rows: &[u8],
@@ -493,8 +477,8 @@ fn normal_command<'a>(
     }
 }
 
-// An environment, by its rule; one that ends in Text takes the held label (`convert_env` in the Rust).
-fn environment<'a>(
+// An environment, by its rule; one that ends in Text takes the held label.
+fn convert_env<'a>(
     out: &mut [u8],
     at: usize,
     rows: &[u8],
@@ -517,12 +501,12 @@ fn environment<'a>(
     let mode = c.mode;
     let env = env_of(class_of(found));
     let written = mitex_spec::written_name(rules, name, found);
-    let a = env_body(out, at, rows, text, row, rules, index, c, written, env);
+    let a = body(out, at, rows, text, row, rules, index, c, written, env);
     take_label(out, a, is_list(env), mode)
 }
 
 // What stands in an environment; one for Math is a function like `mat(a, b; c, d)`, its arguments first.
-fn env_body<'a>(
+fn body<'a>(
     out: &mut [u8],
     at: usize,
     rows: &[u8],
@@ -545,8 +529,8 @@ fn env_body<'a>(
             let plan = env_plan(rows, text, c, env);
             walk(out, p, rows, text, row, rules, index, c, plan)
         }
-        LaTeXEnv::Figure => env_figure(out, at, rows, text, row, rules, index, c, name),
-        LaTeXEnv::Table => env_table(out, at, rows, text, row, rules, index, c, name),
+        LaTeXEnv::Figure => convert_env_figure(out, at, rows, text, row, rules, index, c, name),
+        LaTeXEnv::Table => convert_env_table(out, at, rows, text, row, rules, index, c, name),
         LaTeXEnv::Math
         | LaTeXEnv::Matrix
         | LaTeXEnv::Cases
@@ -560,8 +544,8 @@ fn env_body<'a>(
     }
 }
 
-// A figure: its last caption, then the children (`convert_env_figure` in the Rust).
-fn env_figure<'a>(
+// A figure: its last caption, then the children.
+fn convert_env_figure<'a>(
     out: &mut [u8],
     at: usize,
     rows: &[u8],
@@ -586,8 +570,8 @@ fn env_figure<'a>(
     twice(out, p, rows, text, row, rules, index, c, plans)
 }
 
-// A table: the head by its column letters, then the cells (`convert_env_table` in the Rust).
-fn env_table<'a>(
+// A table: the head by its column letters, then the cells.
+fn convert_env_table<'a>(
     out: &mut [u8],
     at: usize,
     rows: &[u8],

@@ -539,25 +539,26 @@ fn put_one(
     ran(8, u, t.at, t.flag, next, 0)
 }
 
-// Tokens behind each other, the first of these rows among them.
-pub fn put_tokens(
+// Tokens behind each other, the first of these rows among them, as the converter stands.
+pub fn convert_tokens(
     out: &mut [u8],
     at: usize,
     rows: &[u8],
     text: &[u8],
     rules: &[u8],
     index: &[u32],
-    mode: LaTeXMode,
-    env: LaTeXEnv,
-    indent: usize,
-    flag: bool,
+    c: Converter,
     how: Loop,
 ) -> Run
     requires { ⌜ (at ≤ cap) × (length (now out) ≤ cap) ⌝ }
     requires { ⌜ SomeRules (now rules) (now index) ⌝ }
     requires { ⌜ TokensGiven (now rows) (now text) how ⌝ }
-    ensures { λ r. ⌜ ((rs : List Rule) → rulesOf (now (rules .entry)) ≡ some rs → Runs (inside rs mode env indent) flag how (now (rows .entry)) (now (text .entry)) at (now (out .entry)) r (now (out .exit))) ⌝ }
+    ensures { λ r. ⌜ ((rs : List Rule) → rulesOf (now (rules .entry)) ≡ some rs → Runs (contextOf rs c) (c .«skip_next_space») how (now (rows .entry)) (now (text .entry)) at (now (out .entry)) r (now (out .exit))) ⌝ }
 {
+    let mode = c.mode;
+    let env = c.env;
+    let indent = c.indent;
+    let flag = c.skip_next_space;
     if is_steady(how) {
         return put_run(
             out,

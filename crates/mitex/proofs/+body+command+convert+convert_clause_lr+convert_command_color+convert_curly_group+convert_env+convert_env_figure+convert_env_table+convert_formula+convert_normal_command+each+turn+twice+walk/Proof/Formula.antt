@@ -1,4 +1,4 @@
--- The needs of `formula`.
+-- The needs of `convert_formula`.
 use mathlib.Core.Path.{refl, sym, _∙_}
 use Rattle.text.proofs.Writing.{wrote-low}
 use Rattle.mitex_syntax.proofs.Trees.{all-begins}
@@ -12,20 +12,20 @@ use Rattle.mitex.proofs.Planning.{plan-agrees, given-in, formula-bad}
 use native.Mathlib.Omega.{arith}
 use borrow.Author.Needs.{needs}
 use Prim.Native.Nat.{ℕ}
-use Rattle.mitex.proofs.formula.Reads as formula
-use Rattle.mitex.proofs.+clause_lr+command+command_color+convert+curly_group+each+env_body+env_figure+env_table+environment+formula+normal_command+turn+twice+walk.Lts-formula as formula-lts
-use Rattle.mitex.proofs.+clause_lr+command+command_color+convert+curly_group+each+env_body+env_figure+env_table+environment+formula+normal_command+turn+twice+walk.Proof.Setup.{formula-at, formula-calls}
+use Rattle.mitex.proofs.convert_formula.Reads as convert-formula
+use Rattle.mitex.proofs.+body+command+convert+convert_clause_lr+convert_command_color+convert_curly_group+convert_env+convert_env_figure+convert_env_table+convert_formula+convert_normal_command+each+turn+twice+walk.Lts-convert_formula as convert-formula-lts
+use Rattle.mitex.proofs.+body+command+convert+convert_clause_lr+convert_command_color+convert_curly_group+convert_env+convert_env_figure+convert_env_table+convert_formula+convert_normal_command+each+turn+twice+walk.Proof.Setup.{convert-formula-at, convert-formula-calls}
 
-formula-is-valid-requires : (t : ℕ) → formula-lts.Need-is-valid-requires (formula-calls t) (formula-at t) formula.Post
-formula-is-valid-requires t c κs =
+convert-formula-is-valid-requires : (t : ℕ) → convert-formula-lts.Need-is-valid-requires (convert-formula-calls t) (convert-formula-at t) convert-formula.Post
+convert-formula-is-valid-requires t c κs =
     let start = c .before .before .before .before .before in
     siblings-forest (start .pre .1 .0) (start .pre .1 .1 .1)
 
-formula-refuse-requires : (t : ℕ) → formula-lts.Need-refuse-requires (formula-calls t) (formula-at t) formula.Post
-formula-refuse-requires t c κs = search needs
+convert-formula-refuse-requires : (t : ℕ) → convert-formula-lts.Need-refuse-requires (convert-formula-calls t) (convert-formula-at t) convert-formula.Post
+convert-formula-refuse-requires t c κs = search needs
 
-formula-returns : (t : ℕ) → formula-lts.Need-returns (formula-calls t) (formula-at t) formula.Post
-formula-returns t c =
+convert-formula-returns : (t : ℕ) → convert-formula-lts.Need-returns (convert-formula-calls t) (convert-formula-at t) convert-formula.Post
+convert-formula-returns t c =
     let at-if1 = c .before in
     let at-is-valid = at-if1 .before in
     let at-slice-known = at-is-valid .before .before .before .before .before in
@@ -34,23 +34,23 @@ formula-returns t c =
     (sym (at-is-valid .is-valid .ensures f (all-begins sp)) ∙ not-true _ (at-if1 .if1 .taken)))
     (agrees-here (omega arith) (c .refuse .ensures))
 
-formula-is-inline-requires : (t : ℕ) → formula-lts.Need-is-inline-requires (formula-calls t) (formula-at t) formula.Post
-formula-is-inline-requires t c κs =
+convert-formula-is-inline-requires : (t : ℕ) → convert-formula-lts.Need-is-inline-requires (convert-formula-calls t) (convert-formula-at t) convert-formula.Post
+convert-formula-is-inline-requires t c κs =
     let at-shared-slice-known = c .before .before .before .before .before in
     let start = at-shared-slice-known .before .before in
     siblings-forest (start .pre .1 .0) (start .pre .1 .1 .1)
 
-formula-put-formula-begin-requires : (t : ℕ) → formula-lts.Need-put-formula-begin-requires (formula-calls t) (formula-at t) formula.Post
-formula-put-formula-begin-requires t c κs =
+convert-formula-put-formula-begin-requires : (t : ℕ) → convert-formula-lts.Need-put-formula-begin-requires (convert-formula-calls t) (convert-formula-at t) convert-formula.Post
+convert-formula-put-formula-begin-requires t c κs =
     let at-shared-slice-known3 = c .before .before .before .before .before in
     let start = at-shared-slice-known3 .before .before .before .before in
     (start .pre .1 .0 .place, start .pre .1 .0 .room)
 
-formula-formula-plan-requires : (t : ℕ) → formula-lts.Need-formula-plan-requires (formula-calls t) (formula-at t) formula.Post
-formula-formula-plan-requires t c κs = search needs
+convert-formula-formula-plan-requires : (t : ℕ) → convert-formula-lts.Need-formula-plan-requires (convert-formula-calls t) (convert-formula-at t) convert-formula.Post
+convert-formula-formula-plan-requires t c κs = search needs
 
-formula-walk-requires : (t : ℕ) → formula-lts.Need-walk-requires (formula-calls t) (formula-at t) formula.Post
-formula-walk-requires t c κs =
+convert-formula-walk-requires : (t : ℕ) → convert-formula-lts.Need-walk-requires (convert-formula-calls t) (convert-formula-at t) convert-formula.Post
+convert-formula-walk-requires t c κs =
     let at-formula-plan = c .before in
     let at-put-formula-begin = at-formula-plan .before .before .before in
     let at-is-inline = at-put-formula-begin .before .before in
@@ -71,14 +71,14 @@ formula-walk-requires t c κs =
       ),
     )
 
-formula-same-length : (t : ℕ) → formula-lts.Need-same-length (formula-calls t) (formula-at t) formula.Post
-formula-same-length t c =
+convert-formula-same-length : (t : ℕ) → convert-formula-lts.Need-same-length (convert-formula-calls t) (convert-formula-at t) convert-formula.Post
+convert-formula-same-length t c =
     let at-walk = c .before .before in
     let at-put-formula-begin = at-walk .before .before .before .before .before in
     at-walk .walk .kept .0 ∙ at-put-formula-begin .put-formula-begin .kept .0
 
-formula-returns-2 : (t : ℕ) → formula-lts.Need-returns-2 (formula-calls t) (formula-at t) formula.Post
-formula-returns-2 t c =
+convert-formula-returns-2 : (t : ℕ) → convert-formula-lts.Need-returns-2 (convert-formula-calls t) (convert-formula-at t) convert-formula.Post
+convert-formula-returns-2 t c =
     let at-walk = c .before .before in
     let at-formula-plan = at-walk .before .before in
     let at-put-formula-begin = at-formula-plan .before .before .before in
@@ -93,17 +93,17 @@ formula-returns-2 t c =
     (sym (at-is-inline .is-inline .ensures f (all-begins sp))) rs) (at-walk .walk .ensures)
 
 -- its code meets what it promises, if those it calls do where less is left
-pub formula-closed : {M : Type 1} (t : ℕ) → formula-lts.Closed (formula-calls t) (formula-at t) formula.Post M
-formula-closed t =
-    formula-lts.spec (formula-calls t)
-    (formula-at t)
-    formula.Post
-    (formula-is-valid-requires t)
-    (formula-refuse-requires t)
-    (formula-returns t)
-    (formula-is-inline-requires t)
-    (formula-put-formula-begin-requires t)
-    (formula-formula-plan-requires t)
-    (formula-walk-requires t)
-    (formula-same-length t)
-    (formula-returns-2 t)
+pub convert-formula-closed : {M : Type 1} (t : ℕ) → convert-formula-lts.Closed (convert-formula-calls t) (convert-formula-at t) convert-formula.Post M
+convert-formula-closed t =
+    convert-formula-lts.spec (convert-formula-calls t)
+    (convert-formula-at t)
+    convert-formula.Post
+    (convert-formula-is-valid-requires t)
+    (convert-formula-refuse-requires t)
+    (convert-formula-returns t)
+    (convert-formula-is-inline-requires t)
+    (convert-formula-put-formula-begin-requires t)
+    (convert-formula-formula-plan-requires t)
+    (convert-formula-walk-requires t)
+    (convert-formula-same-length t)
+    (convert-formula-returns-2 t)

@@ -1,4 +1,4 @@
--- The needs of `env_table`.
+-- The needs of `convert_env_table`.
 use mathlib.Core.Path.{refl, sym, ap, _∙_, _≡_}
 use mathlib.Core.List.{List, []}
 use Rattle.text.proofs.Writing.{wrote-low}
@@ -20,15 +20,15 @@ use Rattle.mitex.proofs.Environing.{table-bad, table-letters, letters-b
 use native.Mathlib.Omega.{arith}
 use borrow.Author.Needs.{needs}
 use Prim.Native.Nat.{ℕ}
-use Rattle.mitex.proofs.env_table.Reads as env-table
-use Rattle.mitex.proofs.+clause_lr+command+command_color+convert+curly_group+each+env_body+env_figure+env_table+environment+formula+normal_command+turn+twice+walk.Lts-env_table as env-table-lts
-use Rattle.mitex.proofs.+clause_lr+command+command_color+convert+curly_group+each+env_body+env_figure+env_table+environment+formula+normal_command+turn+twice+walk.Proof.Setup.{env-table-at, env-table-calls}
+use Rattle.mitex.proofs.convert_env_table.Reads as convert-env-table
+use Rattle.mitex.proofs.+body+command+convert+convert_clause_lr+convert_command_color+convert_curly_group+convert_env+convert_env_figure+convert_env_table+convert_formula+convert_normal_command+each+turn+twice+walk.Lts-convert_env_table as convert-env-table-lts
+use Rattle.mitex.proofs.+body+command+convert+convert_clause_lr+convert_command_color+convert_curly_group+convert_env+convert_env_figure+convert_env_table+convert_formula+convert_normal_command+each+turn+twice+walk.Proof.Setup.{convert-env-table-at, convert-env-table-calls}
 
 -- a place where the column letters are found, and the function's entry before it
 abbrev Found : ℕ → Type 0
-Found t = env-table-lts.After-trim (env-table-calls t) (env-table-at t) env-table.Post
+Found t = convert-env-table-lts.After-trim (convert-env-table-calls t) (convert-env-table-at t) convert-env-table.Post
 
-abbrev entry : (t : ℕ) → Found t → env-table-lts.Start (env-table-calls t) (env-table-at t) env-table.Post
+abbrev entry : (t : ℕ) → Found t → convert-env-table-lts.Start (convert-env-table-calls t) (convert-env-table-at t) convert-env-table.Post
 entry t c =
     let at-1 = c .before .before .before .before .before in
     let at-2 = at-1 .before .before .before .before .before in
@@ -51,20 +51,20 @@ lettered t c rs f sp n =
     (carryOf (start .args .c)) (at-table-argument .table-argument .ensures f sp)
     (sym (at-has-ends .has-ends .ensures) ∙ not-false _ (at-if1 .if1 .left)) (c .trim .ensures ∙ ap trim (at-inner .inner .ensures))
 
-env-table-table-argument-requires : (t : ℕ) → env-table-lts.Need-table-argument-requires (env-table-calls t) (env-table-at t) env-table.Post
-env-table-table-argument-requires t c κs =
+convert-env-table-table-argument-requires : (t : ℕ) → convert-env-table-lts.Need-table-argument-requires (convert-env-table-calls t) (convert-env-table-at t) convert-env-table.Post
+convert-env-table-table-argument-requires t c κs =
     let at-slice-known = c .before .before .before .before .before in
     let start = at-slice-known .before in
     siblings-forest (start .pre .1 .0) (start .pre .1 .1 .1)
 
-env-table-has-ends-requires : (t : ℕ) → env-table-lts.Need-has-ends-requires (env-table-calls t) (env-table-at t) env-table.Post
-env-table-has-ends-requires t c κs = search needs
+convert-env-table-has-ends-requires : (t : ℕ) → convert-env-table-lts.Need-has-ends-requires (convert-env-table-calls t) (convert-env-table-at t) convert-env-table.Post
+convert-env-table-has-ends-requires t c κs = search needs
 
-env-table-refuse-requires : (t : ℕ) → env-table-lts.Need-refuse-requires (env-table-calls t) (env-table-at t) env-table.Post
-env-table-refuse-requires t c κs = search needs
+convert-env-table-refuse-requires : (t : ℕ) → convert-env-table-lts.Need-refuse-requires (convert-env-table-calls t) (convert-env-table-at t) convert-env-table.Post
+convert-env-table-refuse-requires t c κs = search needs
 
-env-table-returns : (t : ℕ) → env-table-lts.Need-returns (env-table-calls t) (env-table-at t) env-table.Post
-env-table-returns t c =
+convert-env-table-returns : (t : ℕ) → convert-env-table-lts.Need-returns (convert-env-table-calls t) (convert-env-table-at t) convert-env-table.Post
+convert-env-table-returns t c =
     let at-if1 = c .before in
     let at-has-ends = at-if1 .before in
     let at-table-argument = at-has-ends .before in
@@ -74,20 +74,20 @@ env-table-returns t c =
     (contextOf rs (start .args .c)) f (carryOf (start .args .c)) (at-table-argument .table-argument .ensures f sp)
     (sym (at-has-ends .has-ends .ensures) ∙ not-true _ (at-if1 .if1 .taken))) (agrees-here (omega arith) (c .refuse .ensures))
 
-env-table-inner-requires : (t : ℕ) → env-table-lts.Need-inner-requires (env-table-calls t) (env-table-at t) env-table.Post
-env-table-inner-requires t c κs = search needs
+convert-env-table-inner-requires : (t : ℕ) → convert-env-table-lts.Need-inner-requires (convert-env-table-calls t) (convert-env-table-at t) convert-env-table.Post
+convert-env-table-inner-requires t c κs = search needs
 
-env-table-trim-requires : (t : ℕ) → env-table-lts.Need-trim-requires (env-table-calls t) (env-table-at t) env-table.Post
-env-table-trim-requires t c κs = search needs
+convert-env-table-trim-requires : (t : ℕ) → convert-env-table-lts.Need-trim-requires (convert-env-table-calls t) (convert-env-table-at t) convert-env-table.Post
+convert-env-table-trim-requires t c κs = search needs
 
-env-table-letters-fit-requires : (t : ℕ) → env-table-lts.Need-letters-fit-requires (env-table-calls t) (env-table-at t) env-table.Post
-env-table-letters-fit-requires t c κs = search needs
+convert-env-table-letters-fit-requires : (t : ℕ) → convert-env-table-lts.Need-letters-fit-requires (convert-env-table-calls t) (convert-env-table-at t) convert-env-table.Post
+convert-env-table-letters-fit-requires t c κs = search needs
 
-env-table-refuse-requires-2 : (t : ℕ) → env-table-lts.Need-refuse-requires-2 (env-table-calls t) (env-table-at t) env-table.Post
-env-table-refuse-requires-2 t c κs = search needs
+convert-env-table-refuse-requires-2 : (t : ℕ) → convert-env-table-lts.Need-refuse-requires-2 (convert-env-table-calls t) (convert-env-table-at t) convert-env-table.Post
+convert-env-table-refuse-requires-2 t c κs = search needs
 
-env-table-returns-2 : (t : ℕ) → env-table-lts.Need-returns-2 (env-table-calls t) (env-table-at t) env-table.Post
-env-table-returns-2 t c =
+convert-env-table-returns-2 : (t : ℕ) → convert-env-table-lts.Need-returns-2 (convert-env-table-calls t) (convert-env-table-at t) convert-env-table.Post
+convert-env-table-returns-2 t c =
     let at-if2 = c .before in
     let at-letters-fit = at-if2 .before in
     let at-trim = at-letters-fit .before in
@@ -98,9 +98,9 @@ env-table-returns-2 t c =
     (contextOf rs (start .args .c)) f (carryOf (start .args .c)) (sym (at-letters-fit .letters-fit .ensures) ∙ not-true _
     (at-if2 .if2 .taken))) (agrees-here (omega arith) (c .refuse2 .ensures))
 
-env-table-put-table-begin-requires : (t : ℕ) → env-table-lts.Need-put-table-begin-requires (env-table-calls t) (env-table-at t)
-    env-table.Post
-env-table-put-table-begin-requires t c κs =
+convert-env-table-put-table-begin-requires : (t : ℕ) → convert-env-table-lts.Need-put-table-begin-requires (convert-env-table-calls t) (convert-env-table-at t)
+    convert-env-table.Post
+convert-env-table-put-table-begin-requires t c κs =
     let at-trim = c .before .before .before in
     let at-inner = at-trim .before in
     let at-table-argument = at-inner .before .before .before in
@@ -117,11 +117,11 @@ env-table-put-table-begin-requires t c κs =
       ),
     )
 
-env-table-table-plan-requires : (t : ℕ) → env-table-lts.Need-table-plan-requires (env-table-calls t) (env-table-at t) env-table.Post
-env-table-table-plan-requires t c κs = search needs
+convert-env-table-table-plan-requires : (t : ℕ) → convert-env-table-lts.Need-table-plan-requires (convert-env-table-calls t) (convert-env-table-at t) convert-env-table.Post
+convert-env-table-table-plan-requires t c κs = search needs
 
-env-table-walk-requires : (t : ℕ) → env-table-lts.Need-walk-requires (env-table-calls t) (env-table-at t) env-table.Post
-env-table-walk-requires t c κs =
+convert-env-table-walk-requires : (t : ℕ) → convert-env-table-lts.Need-walk-requires (convert-env-table-calls t) (convert-env-table-at t) convert-env-table.Post
+convert-env-table-walk-requires t c κs =
     let at-table-plan = c .before in
     let at-put-table-begin = at-table-plan .before .before .before in
     let at-inner = at-put-table-begin .before .before .before .before .before in
@@ -139,14 +139,14 @@ env-table-walk-requires t c κs =
       ),
     )
 
-env-table-same-length : (t : ℕ) → env-table-lts.Need-same-length (env-table-calls t) (env-table-at t) env-table.Post
-env-table-same-length t c =
+convert-env-table-same-length : (t : ℕ) → convert-env-table-lts.Need-same-length (convert-env-table-calls t) (convert-env-table-at t) convert-env-table.Post
+convert-env-table-same-length t c =
     let at-walk = c .before .before in
     let at-put-table-begin = at-walk .before .before .before .before .before in
     at-walk .walk .kept .0 ∙ at-put-table-begin .put-table-begin .kept .0
 
-env-table-returns-3 : (t : ℕ) → env-table-lts.Need-returns-3 (env-table-calls t) (env-table-at t) env-table.Post
-env-table-returns-3 t c =
+convert-env-table-returns-3 : (t : ℕ) → convert-env-table-lts.Need-returns-3 (convert-env-table-calls t) (convert-env-table-at t) convert-env-table.Post
+convert-env-table-returns-3 t c =
     let at-walk = c .before .before in
     let at-table-plan = at-walk .before .before in
     let at-put-table-begin = at-table-plan .before .before .before in
@@ -162,22 +162,22 @@ env-table-returns-3 t c =
     (at-put-table-begin .put-table-begin .ensures) ready n h (at-table-plan .table-plan .ensures f sp _ rs) (at-walk .walk .ensures))
 
 -- its code meets what it promises, if those it calls do where less is left
-pub env-table-closed : {M : Type 1} (t : ℕ) → env-table-lts.Closed (env-table-calls t) (env-table-at t) env-table.Post M
-env-table-closed t =
-    env-table-lts.spec (env-table-calls t)
-    (env-table-at t)
-    env-table.Post
-    (env-table-table-argument-requires t)
-    (env-table-has-ends-requires t)
-    (env-table-refuse-requires t)
-    (env-table-returns t)
-    (env-table-inner-requires t)
-    (env-table-trim-requires t)
-    (env-table-letters-fit-requires t)
-    (env-table-refuse-requires-2 t)
-    (env-table-returns-2 t)
-    (env-table-put-table-begin-requires t)
-    (env-table-table-plan-requires t)
-    (env-table-walk-requires t)
-    (env-table-same-length t)
-    (env-table-returns-3 t)
+pub convert-env-table-closed : {M : Type 1} (t : ℕ) → convert-env-table-lts.Closed (convert-env-table-calls t) (convert-env-table-at t) convert-env-table.Post M
+convert-env-table-closed t =
+    convert-env-table-lts.spec (convert-env-table-calls t)
+    (convert-env-table-at t)
+    convert-env-table.Post
+    (convert-env-table-table-argument-requires t)
+    (convert-env-table-has-ends-requires t)
+    (convert-env-table-refuse-requires t)
+    (convert-env-table-returns t)
+    (convert-env-table-inner-requires t)
+    (convert-env-table-trim-requires t)
+    (convert-env-table-letters-fit-requires t)
+    (convert-env-table-refuse-requires-2 t)
+    (convert-env-table-returns-2 t)
+    (convert-env-table-put-table-begin-requires t)
+    (convert-env-table-table-plan-requires t)
+    (convert-env-table-walk-requires t)
+    (convert-env-table-same-length t)
+    (convert-env-table-returns-3 t)

@@ -1,4 +1,4 @@
--- The needs of `command_color`.
+-- The needs of `convert_command_color`.
 use mathlib.Core.Path.{refl, _∙_}
 use Rattle.text.proofs.Writing.{wrote-nil, wrote-low, wrote-as}
 use Rattle.mitex_state.proofs.Agreeing.{agrees-after}
@@ -8,20 +8,20 @@ use Rattle.mitex.proofs.Planning.{both-agree}
 use Rattle.mitex.proofs.Commanding.{color-head}
 use native.Mathlib.Omega.{arith}
 use Prim.Native.Nat.{ℕ}
-use Rattle.mitex.proofs.command_color.Reads as command-color
-use Rattle.mitex.proofs.+clause_lr+command+command_color+convert+curly_group+each+env_body+env_figure+env_table+environment+formula+normal_command+turn+twice+walk.Lts-command_color as command-color-lts
-use Rattle.mitex.proofs.+clause_lr+command+command_color+convert+curly_group+each+env_body+env_figure+env_table+environment+formula+normal_command+turn+twice+walk.Proof.Setup.{command-color-at, command-color-calls}
+use Rattle.mitex.proofs.convert_command_color.Reads as convert-command-color
+use Rattle.mitex.proofs.+body+command+convert+convert_clause_lr+convert_command_color+convert_curly_group+convert_env+convert_env_figure+convert_env_table+convert_formula+convert_normal_command+each+turn+twice+walk.Lts-convert_command_color as convert-command-color-lts
+use Rattle.mitex.proofs.+body+command+convert+convert_clause_lr+convert_command_color+convert_curly_group+convert_env+convert_env_figure+convert_env_table+convert_formula+convert_normal_command+each+turn+twice+walk.Proof.Setup.{convert-command-color-at, convert-command-color-calls}
 
-command-color-get-cmd-requires : (t : ℕ) → command-color-lts.Need-get-cmd-requires (command-color-calls t) (command-color-at t)
-    command-color.Post
-command-color-get-cmd-requires t c κs =
+convert-command-color-get-cmd-requires : (t : ℕ) → convert-command-color-lts.Need-get-cmd-requires (convert-command-color-calls t) (convert-command-color-at t)
+    convert-command-color.Post
+convert-command-color-get-cmd-requires t c κs =
     let at-slice-known = c .before .before .before .before .before in
     let start = at-slice-known .before in
     start .pre .1 .1 .0
 
-command-color-put-color-head-requires : (t : ℕ) → command-color-lts.Need-put-color-head-requires (command-color-calls t)
-    (command-color-at t) command-color.Post
-command-color-put-color-head-requires t c κs =
+convert-command-color-put-color-head-requires : (t : ℕ) → convert-command-color-lts.Need-put-color-head-requires (convert-command-color-calls t)
+    (convert-command-color-at t) convert-command-color.Post
+convert-command-color-put-color-head-requires t c κs =
     let at-get-cmd = c .before in
     let at-shared-slice-known = at-get-cmd .before .before .before .before .before in
     let start = at-shared-slice-known .before .before in (
@@ -33,17 +33,17 @@ command-color-put-color-head-requires t c κs =
       ),
     )
 
-command-color-color-plans-requires : (t : ℕ) → command-color-lts.Need-color-plans-requires (command-color-calls t) (command-color-at t)
-    command-color.Post
-command-color-color-plans-requires t c κs =
+convert-command-color-color-plans-requires : (t : ℕ) → convert-command-color-lts.Need-color-plans-requires (convert-command-color-calls t) (convert-command-color-at t)
+    convert-command-color.Post
+convert-command-color-color-plans-requires t c κs =
     let at-shared-slice-known5 = c .before .before .before .before .before in
     let at-slice-known = at-shared-slice-known5 .before .before .before .before .before in
     let start = at-slice-known .before in
     (start .pre .1 .1 .1 .1, start .pre .1 .0 .few, start .pre .1 .0 .short)
 
-command-color-twice-requires : (t : ℕ) → command-color-lts.Need-twice-requires (command-color-calls t) (command-color-at t)
-    command-color.Post
-command-color-twice-requires t c κs =
+convert-command-color-twice-requires : (t : ℕ) → convert-command-color-lts.Need-twice-requires (convert-command-color-calls t) (convert-command-color-at t)
+    convert-command-color.Post
+convert-command-color-twice-requires t c κs =
     let at-color-plans = c .before in
     let at-put-color-head = at-color-plans .before .before .before in
     let at-shared-slice-known3 = at-put-color-head .before .before .before .before .before in
@@ -59,14 +59,14 @@ command-color-twice-requires t c κs =
       ),
     )
 
-command-color-same-length : (t : ℕ) → command-color-lts.Need-same-length (command-color-calls t) (command-color-at t) command-color.Post
-command-color-same-length t c =
+convert-command-color-same-length : (t : ℕ) → convert-command-color-lts.Need-same-length (convert-command-color-calls t) (convert-command-color-at t) convert-command-color.Post
+convert-command-color-same-length t c =
     let at-twice = c .before .before in
     let at-put-color-head = at-twice .before .before .before .before .before in
     at-twice .twice .kept .0 ∙ at-put-color-head .put-color-head .kept .0
 
-command-color-returns : (t : ℕ) → command-color-lts.Need-returns (command-color-calls t) (command-color-at t) command-color.Post
-command-color-returns t c =
+convert-command-color-returns : (t : ℕ) → convert-command-color-lts.Need-returns (convert-command-color-calls t) (convert-command-color-at t) convert-command-color.Post
+convert-command-color-returns t c =
     let at-twice = c .before .before in
     let at-color-plans = at-twice .before .before in
     let at-put-color-head = at-color-plans .before .before .before in
@@ -82,14 +82,14 @@ command-color-returns t c =
     (at-color-plans .color-plans .ensures m f sp found rs) (at-twice .twice .ensures))
 
 -- its code meets what it promises, if those it calls do where less is left
-pub command-color-closed : {M : Type 1} (t : ℕ) → command-color-lts.Closed (command-color-calls t) (command-color-at t) command-color.Post M
-command-color-closed t =
-    command-color-lts.spec (command-color-calls t)
-    (command-color-at t)
-    command-color.Post
-    (command-color-get-cmd-requires t)
-    (command-color-put-color-head-requires t)
-    (command-color-color-plans-requires t)
-    (command-color-twice-requires t)
-    (command-color-same-length t)
-    (command-color-returns t)
+pub convert-command-color-closed : {M : Type 1} (t : ℕ) → convert-command-color-lts.Closed (convert-command-color-calls t) (convert-command-color-at t) convert-command-color.Post M
+convert-command-color-closed t =
+    convert-command-color-lts.spec (convert-command-color-calls t)
+    (convert-command-color-at t)
+    convert-command-color.Post
+    (convert-command-color-get-cmd-requires t)
+    (convert-command-color-put-color-head-requires t)
+    (convert-command-color-color-plans-requires t)
+    (convert-command-color-twice-requires t)
+    (convert-command-color-same-length t)
+    (convert-command-color-returns t)

@@ -8,8 +8,8 @@ use native.Mathlib.Omega.{arith}
 use borrow.Author.Needs.{needs}
 use Prim.Native.Nat.{ℕ}
 use Rattle.mitex.proofs.turn.Reads as turn
-use Rattle.mitex.proofs.+clause_lr+command+command_color+convert+curly_group+each+env_body+env_figure+env_table+environment+formula+normal_command+turn+twice+walk.Lts-turn as turn-lts
-use Rattle.mitex.proofs.+clause_lr+command+command_color+convert+curly_group+each+env_body+env_figure+env_table+environment+formula+normal_command+turn+twice+walk.Proof.Setup.{turn-at, turn-calls}
+use Rattle.mitex.proofs.+body+command+convert+convert_clause_lr+convert_command_color+convert_curly_group+convert_env+convert_env_figure+convert_env_table+convert_formula+convert_normal_command+each+turn+twice+walk.Lts-turn as turn-lts
+use Rattle.mitex.proofs.+body+command+convert+convert_clause_lr+convert_command_color+convert_curly_group+convert_env+convert_env_figure+convert_env_table+convert_formula+convert_normal_command+each+turn+twice+walk.Proof.Setup.{turn-at, turn-calls}
 
 turn-put-before-requires : (t : ℕ) → turn-lts.Need-put-before-requires (turn-calls t) (turn-at t) turn.Post
 turn-put-before-requires t c κs =

@@ -1,22 +1,62 @@
 -- The needs of `command`.
-use mathlib.Core.Path.{refl, sym, ap, _∙_}
-use lib.ListN.{drop}
+use mathlib.Core.Path.{_≡_, refl, sym, ap, _∙_}
+use mathlib.Core.List.{List}
+use Prim.Native.Nat.{ℕ, _+_, _<_}
+use native.Mathlib.Omega.{arith}
+use lib.ListN.{length, drop}
 use Rattle.text.proofs.Writing.{wrote-nil}
+use Rattle.mitex_spec.specs.Rules.{Rule}
+use Rattle.mitex_spec.specs.Index.{SomeRules}
+use Rattle.mitex_syntax.specs.Tree.{Forest}
+use Rattle.mitex_syntax.specs.Spells.{SpellsAll}
+use Rattle.mitex_syntax.proofs.Trees.{all-begins}
 use Rattle.mitex_state.specs.State.{contextOf, carryOf}
 use Rattle.mitex_state.specs.Conversion.{convert as meaning}
+use Rattle.mitex_state.specs.Commands.{commandBy, command as command-arm}
+use Rattle.mitex_state.specs.Colors.{argumentModel}
+use Rattle.mitex_state.specs.declared.Command.{Command}
+use Rattle.mitex_state.specs.declared.Command.the-variants.{Item, Label, IncludeGraphics, Array, Color, ColorArguments, Normal}
 use Rattle.mitex_state.proofs.Agreeing.{agrees-as, agrees-done}
 use Rattle.mitex_loops.specs.Given.{numberOf}
-use Rattle.mitex_syntax.proofs.Trees.{all-begins}
-use Rattle.mitex_state.specs.Colors.{argumentModel}
-use Rattle.mitex_state.specs.declared.Command.the-variants.{Item, Label, IncludeGraphics, Array, Color, ColorArguments, Normal}
+use Rattle.mitex.specs.Walks.{Room, Siblings}
 use Rattle.mitex.proofs.Rooms.{siblings-forest}
 use Rattle.mitex.proofs.Commanding.{body-number, arguments-number, command-is, colors-how}
-use native.Mathlib.Omega.{arith}
 use borrow.Author.Needs.{needs}
-use Prim.Native.Nat.{ℕ}
 use Rattle.mitex.proofs.command.Reads as command
-use Rattle.mitex.proofs.+clause_lr+command+command_color+convert+curly_group+each+env_body+env_figure+env_table+environment+formula+normal_command+turn+twice+walk.Lts-command as command-lts
-use Rattle.mitex.proofs.+clause_lr+command+command_color+convert+curly_group+each+env_body+env_figure+env_table+environment+formula+normal_command+turn+twice+walk.Proof.Setup.{command-at, command-calls}
+use Rattle.mitex.proofs.+body+command+convert+convert_clause_lr+convert_command_color+convert_curly_group+convert_env+convert_env_figure+convert_env_table+convert_formula+convert_normal_command+each+turn+twice+walk.Lts-command as command-lts
+use Rattle.mitex.proofs.+body+command+convert+convert_clause_lr+convert_command_color+convert_curly_group+convert_env+convert_env_figure+convert_env_table+convert_formula+convert_normal_command+each+turn+twice+walk.Proof.Setup.{command-at, command-calls}
+
+-- a place at which the command is told; where its name was read and cut, and the function's entry
+abbrev Here : ℕ → Type 0
+Here t = command-lts.After-command-of (command-calls t) (command-at t) command.Post
+
+abbrev cut : (t : ℕ) → Here t → command-lts.After-past-first (command-calls t) (command-at t) command.Post
+cut t c = c .before
+
+abbrev read : (t : ℕ) → Here t → command-lts.After-name-tok (command-calls t) (command-at t) command.Post
+read t c = cut t c .before
+
+abbrev entry : (t : ℕ) → Here t → command-lts.Start (command-calls t) (command-at t) command.Post
+entry t c = let known = read t c .before .before .before .before .before in known .before
+
+-- what a helper is given: less to do, and the children as they are here
+given-here :
+    (t : ℕ) (c : Here t) (k : ℕ) → k < 6 → let a = entry t c .args in
+    (length (a .rows .now) + k < t)
+    × (Room 8 (a .rows .now) (a .text .now) (a .out .now) (a .at) (a .row) (a .c)
+    × (SomeRules (a .rules .now) (a .index .now) × Siblings (a .rows .now) (a .text .now)))
+given-here t c k h = let start = entry t c in (omega (arith, start .pre .0), start .pre .1)
+
+-- what the command comes to, by its arm
+command-here :
+    (t : ℕ) (c : Here t) (k : Command) → c .command-of .result ≡ k → (rs : List Rule) (f : Forest)
+    → SpellsAll f (entry t c .args .rows .now) (entry t c .args .text .now) → (n : ℕ) → let d = entry t c .args .c in
+    command-arm (meaning n) (contextOf rs d) f (carryOf d)
+    ≡ commandBy k (cut t c .past-first .result .now) (meaning n) (contextOf rs d) f (carryOf d)
+command-here t c k q rs f sp n =
+    let d = entry t c .args .c in
+    command-is (meaning n) (contextOf rs d) f (carryOf d) _ k
+    (cut t c .past-first .ensures ∙ ap (drop 1) (read t c .name-tok .ensures f (all-begins sp))) (sym (c .command-of .ensures) ∙ q)
 
 command-name-tok-requires : (t : ℕ) → command-lts.Need-name-tok-requires (command-calls t) (command-at t) command.Post
 command-name-tok-requires t c κs =
@@ -83,28 +123,26 @@ command-color-model-requires t c κs =
 command-body-loop-requires : (t : ℕ) → command-lts.Need-body-loop-requires (command-calls t) (command-at t) command.Post
 command-body-loop-requires t c κs = search needs
 
-command-command-color-requires : (t : ℕ) → command-lts.Need-command-color-requires (command-calls t) (command-at t) command.Post
-command-command-color-requires t c κs =
+command-convert-command-color-requires : (t : ℕ) → command-lts.Need-convert-command-color-requires (command-calls t) (command-at t) command.Post
+command-convert-command-color-requires t c κs =
     let at-color-model = c .before .before in
-    let at-name-tok = at-color-model .before .before .before .before .before in
-    let at-slice-known = at-name-tok .before .before .before .before .before in
-    let start = at-slice-known .before in (
-      omega (arith, start .pre .0),
+    let here = at-color-model .before .before .before in
+    let given = given-here t here 5 (omega arith) in
+    let children = given .1 .1 .1 in
+    let model = at-color-model .color-model .ensures (children .forest) (children .spells) in (
+      given .0,
       (
-        start .pre .1 .0,
+        given .1 .0,
         (
-          start .pre .1 .1 .0,
+          given .1 .1 .0,
           (
-            start .pre .1 .1 .1,
+            children,
             record {
-              model = (at-color-model .color-model .ensures (start .pre .1 .1 .1 .forest)
-                  (start .pre .1 .1 .1 .spells)) .model;
-              forest = start .pre .1 .1 .1 .forest;
-              spells = start .pre .1 .1 .1 .spells;
-              found =
-                  (at-color-model .color-model .ensures (start .pre .1 .1 .1 .forest) (start .pre .1 .1 .1 .spells)) .found;
-              counts = ap numberOf
-                  (c .body-loop .ensures) ∙ body-number (start .args .c .mode);
+              model = model .model;
+              forest = children .forest;
+              spells = children .spells;
+              found = model .found;
+              counts = ap numberOf (c .body-loop .ensures) ∙ body-number (entry t here .args .c .mode);
             },
           ),
         ),
@@ -123,26 +161,25 @@ command-argument-model-requires t c κs =
 command-arguments-loop-requires : (t : ℕ) → command-lts.Need-arguments-loop-requires (command-calls t) (command-at t) command.Post
 command-arguments-loop-requires t c κs = search needs
 
-command-command-color-requires-2 : (t : ℕ) → command-lts.Need-command-color-requires-2 (command-calls t) (command-at t) command.Post
-command-command-color-requires-2 t c κs =
+command-convert-command-color-requires-2 : (t : ℕ) → command-lts.Need-convert-command-color-requires-2 (command-calls t) (command-at t) command.Post
+command-convert-command-color-requires-2 t c κs =
     let at-argument-model = c .before .before in
-    let at-name-tok = at-argument-model .before .before .before .before .before in
-    let at-slice-known = at-name-tok .before .before .before .before .before in
-    let start = at-slice-known .before in (
-      omega (arith, start .pre .0),
+    let here = at-argument-model .before .before .before in
+    let given = given-here t here 5 (omega arith) in
+    let children = given .1 .1 .1 in (
+      given .0,
       (
-        start .pre .1 .0,
+        given .1 .0,
         (
-          start .pre .1 .1 .0,
+          given .1 .1 .0,
           (
-            start .pre .1 .1 .1,
+            children,
             record {
-              model = argumentModel 1 (start .pre .1 .1 .1 .forest);
-              forest = start .pre .1 .1 .1 .forest;
-              spells = start .pre .1 .1 .1 .spells;
-              found = at-argument-model .argument-model .ensures (start .pre .1 .1 .1 .forest)
-                  (start .pre .1 .1 .1 .spells);
-              counts = ap numberOf (c .arguments-loop .ensures) ∙ arguments-number (start .args .c .mode);
+              model = argumentModel 1 (children .forest);
+              forest = children .forest;
+              spells = children .spells;
+              found = at-argument-model .argument-model .ensures (children .forest) (children .spells);
+              counts = ap numberOf (c .arguments-loop .ensures) ∙ arguments-number (entry t here .args .c .mode);
             },
           ),
         ),
@@ -152,12 +189,8 @@ command-command-color-requires-2 t c κs =
 command-enum-told-7 : (t : ℕ) → command-lts.Need-enum-told-7 (command-calls t) (command-at t) command.Post
 command-enum-told-7 t c = search needs
 
-command-normal-command-requires : (t : ℕ) → command-lts.Need-normal-command-requires (command-calls t) (command-at t) command.Post
-command-normal-command-requires t c κs =
-    let at-name-tok = c .before .before .before .before .before in
-    let at-slice-known = at-name-tok .before .before .before .before .before in
-    let start = at-slice-known .before in
-    (omega (arith, start .pre .0), (start .pre .1 .0, (start .pre .1 .1 .0, start .pre .1 .1 .1)))
+command-convert-normal-command-requires : (t : ℕ) → command-lts.Need-convert-normal-command-requires (command-calls t) (command-at t) command.Post
+command-convert-normal-command-requires t c κs = given-here t (c .before .before .before) 4 (omega arith)
 
 command-same-length : (t : ℕ) → command-lts.Need-same-length (command-calls t) (command-at t) command.Post
 command-same-length t c =
@@ -167,15 +200,8 @@ command-same-length t c =
 command-returns : (t : ℕ) → command-lts.Need-returns (command-calls t) (command-at t) command.Post
 command-returns t c =
     let at-convert-command-item = c .before .before in
-    let at-enum-told = at-convert-command-item .before .before in
-    let at-command-of = at-enum-told .before .before in
-    let at-past-first = at-command-of .before in
-    let at-name-tok = at-past-first .before in
-    let at-slice-known = at-name-tok .before .before .before .before .before in
-    let start = at-slice-known .before in
-    λ rs ready f sp n h. agrees-as (command-is (meaning n) (contextOf rs (start .args .c)) f (carryOf (start .args .c)) _ Item
-    (at-past-first .past-first .ensures ∙ ap (drop 1) (at-name-tok .name-tok .ensures f (all-begins sp)))
-    (sym (at-command-of .command-of .ensures) ∙ at-enum-told .enum-told .given .1))
+    let at-told = at-convert-command-item .before .before in
+    λ rs ready f sp n h. agrees-as (command-here t (at-told .before .before) Item (at-told .enum-told .given .1) rs f sp n)
     (at-convert-command-item .convert-command-item .ensures)
 
 command-same-length-2 : (t : ℕ) → command-lts.Need-same-length-2 (command-calls t) (command-at t) command.Post
@@ -186,15 +212,8 @@ command-same-length-2 t c =
 command-returns-2 : (t : ℕ) → command-lts.Need-returns-2 (command-calls t) (command-at t) command.Post
 command-returns-2 t c =
     let at-convert-command-label = c .before .before in
-    let at-enum-told2 = at-convert-command-label .before .before in
-    let at-command-of = at-enum-told2 .before .before in
-    let at-past-first = at-command-of .before in
-    let at-name-tok = at-past-first .before in
-    let at-slice-known = at-name-tok .before .before .before .before .before in
-    let start = at-slice-known .before in
-    λ rs ready f sp n h. agrees-as (command-is (meaning n) (contextOf rs (start .args .c)) f (carryOf (start .args .c)) _ Label
-    (at-past-first .past-first .ensures ∙ ap (drop 1) (at-name-tok .name-tok .ensures f (all-begins sp)))
-    (sym (at-command-of .command-of .ensures) ∙ at-enum-told2 .enum-told2 .given .1))
+    let at-told = at-convert-command-label .before .before in
+    λ rs ready f sp n h. agrees-as (command-here t (at-told .before .before) Label (at-told .enum-told2 .given .1) rs f sp n)
     (at-convert-command-label .convert-command-label .ensures f sp)
 
 command-same-length-3 : (t : ℕ) → command-lts.Need-same-length-3 (command-calls t) (command-at t) command.Post
@@ -205,96 +224,67 @@ command-same-length-3 t c =
 command-returns-3 : (t : ℕ) → command-lts.Need-returns-3 (command-calls t) (command-at t) command.Post
 command-returns-3 t c =
     let at-convert-command-includegraphics = c .before .before .before in
-    let at-enum-told3 = at-convert-command-includegraphics .before .before in
-    let at-command-of = at-enum-told3 .before .before in
-    let at-past-first = at-command-of .before in
-    let at-name-tok = at-past-first .before in
-    let at-slice-known = at-name-tok .before .before .before .before .before in
-    let start = at-slice-known .before in
-    λ rs ready f sp n h. agrees-as (command-is (meaning n) (contextOf rs (start .args .c)) f (carryOf (start .args .c)) _
-    IncludeGraphics (at-past-first .past-first .ensures ∙ ap (drop 1) (at-name-tok .name-tok .ensures f (all-begins sp)))
-    (sym (at-command-of .command-of .ensures) ∙ at-enum-told3 .enum-told3 .given .1))
+    let at-told = at-convert-command-includegraphics .before .before in
+    let here = at-told .before .before in
+    let start = entry t here in
+    λ rs ready f sp n h. agrees-as (command-here t here IncludeGraphics (at-told .enum-told3 .given .1) rs f sp n)
     (agrees-done (start .args .c) (c .went .ensures) refl refl (start .pre .1 .0 .label)
     (at-convert-command-includegraphics .convert-command-includegraphics .ensures f (all-begins sp)))
 
 command-returns-4 : (t : ℕ) → command-lts.Need-returns-4 (command-calls t) (command-at t) command.Post
 command-returns-4 t c =
-    let at-enum-told4 = c .before in
-    let at-command-of = at-enum-told4 .before .before in
-    let at-past-first = at-command-of .before in
-    let at-name-tok = at-past-first .before in
-    let at-slice-known = at-name-tok .before .before .before .before .before in
-    let start = at-slice-known .before in
-    λ rs ready f sp n h. agrees-as (command-is (meaning n) (contextOf rs (start .args .c)) f (carryOf (start .args .c)) _ Array
-    (at-past-first .past-first .ensures ∙ ap (drop 1) (at-name-tok .name-tok .ensures f (all-begins sp)))
-    (sym (at-command-of .command-of .ensures) ∙ at-enum-told4 .enum-told4 .given .1))
+    let at-told = c .before in
+    let here = at-told .before .before in
+    let start = entry t here in
+    λ rs ready f sp n h. agrees-as (command-here t here Array (at-told .enum-told4 .given .1) rs f sp n)
     (agrees-done (start .args .c) (c .went2 .ensures) refl refl (start .pre .1 .0 .label) (wrote-nil _ _ (start .pre .1 .0 .place)))
 
 command-same-length-4 : (t : ℕ) → command-lts.Need-same-length-4 (command-calls t) (command-at t) command.Post
 command-same-length-4 t c =
-    let at-command-color = c .before .before in
-    at-command-color .command-color .kept .0
+    let at-convert-command-color = c .before .before in
+    at-convert-command-color .convert-command-color .kept .0
 
 command-returns-5 : (t : ℕ) → command-lts.Need-returns-5 (command-calls t) (command-at t) command.Post
 command-returns-5 t c =
-    let at-command-color = c .before .before in
-    let at-body-loop = at-command-color .before in
+    let at-convert-command-color = c .before .before in
+    let at-body-loop = at-convert-command-color .before in
     let at-color-model = at-body-loop .before .before in
-    let at-enum-told5 = at-color-model .before in
-    let at-command-of = at-enum-told5 .before .before in
-    let at-past-first = at-command-of .before in
-    let at-name-tok = at-past-first .before in
-    let at-slice-known = at-name-tok .before .before .before .before .before in
-    let start = at-slice-known .before in
-    λ rs ready f sp n h. let q = at-color-model .color-model .ensures f sp in agrees-as
-    (command-is (meaning n) (contextOf rs (start .args .c)) f (carryOf (start .args .c)) _ Color
-    (at-past-first .past-first .ensures ∙ ap (drop 1) (at-name-tok .name-tok .ensures f (all-begins sp)))
-    (sym (at-command-of .command-of .ensures) ∙ at-enum-told5 .enum-told5 .given .1) ∙ q .same _ (meaning n)
-    (contextOf rs (start .args .c)) (carryOf (start .args .c))) (colors-how (start .args .c) (at-past-first .past-first .result .now)
-    (at-color-model .color-model .result) (at-body-loop .body-loop .ensures) (at-command-color .command-color .ensures) rs ready
-    (q .model) f sp (q .found) n h)
+    let at-told = at-color-model .before in
+    let here = at-told .before .before in
+    let d = entry t here .args .c in
+    λ rs ready f sp n h. let q = at-color-model .color-model .ensures f sp in
+    agrees-as (command-here t here Color (at-told .enum-told5 .given .1) rs f sp n ∙ q .same _ (meaning n) (contextOf rs d) (carryOf d))
+    (colors-how d (cut t here .past-first .result .now) (at-color-model .color-model .result) (at-body-loop .body-loop .ensures)
+    (at-convert-command-color .convert-command-color .ensures) rs ready (q .model) f sp (q .found) n h)
 
 command-same-length-5 : (t : ℕ) → command-lts.Need-same-length-5 (command-calls t) (command-at t) command.Post
 command-same-length-5 t c =
-    let at-command-color2 = c .before .before in
-    at-command-color2 .command-color2 .kept .0
+    let at-convert-command-color2 = c .before .before in
+    at-convert-command-color2 .convert-command-color2 .kept .0
 
 command-returns-6 : (t : ℕ) → command-lts.Need-returns-6 (command-calls t) (command-at t) command.Post
 command-returns-6 t c =
-    let at-command-color2 = c .before .before in
-    let at-arguments-loop = at-command-color2 .before in
+    let at-convert-command-color2 = c .before .before in
+    let at-arguments-loop = at-convert-command-color2 .before in
     let at-argument-model = at-arguments-loop .before .before in
-    let at-enum-told6 = at-argument-model .before in
-    let at-command-of = at-enum-told6 .before .before in
-    let at-past-first = at-command-of .before in
-    let at-name-tok = at-past-first .before in
-    let at-slice-known = at-name-tok .before .before .before .before .before in
-    let start = at-slice-known .before in
-    λ rs ready f sp n h. agrees-as (command-is (meaning n) (contextOf rs (start .args .c)) f (carryOf (start .args .c)) _ ColorArguments
-    (at-past-first .past-first .ensures ∙ ap (drop 1) (at-name-tok .name-tok .ensures f (all-begins sp)))
-    (sym (at-command-of .command-of .ensures) ∙ at-enum-told6 .enum-told6 .given .1))
-    (colors-how (start .args .c) (at-past-first .past-first .result .now) (at-argument-model .argument-model .result)
-    (at-arguments-loop .arguments-loop .ensures) (at-command-color2 .command-color2 .ensures) rs ready (argumentModel 1 f) f sp
+    let at-told = at-argument-model .before in
+    let here = at-told .before .before in
+    λ rs ready f sp n h. agrees-as (command-here t here ColorArguments (at-told .enum-told6 .given .1) rs f sp n)
+    (colors-how (entry t here .args .c) (cut t here .past-first .result .now) (at-argument-model .argument-model .result)
+    (at-arguments-loop .arguments-loop .ensures) (at-convert-command-color2 .convert-command-color2 .ensures) rs ready (argumentModel 1 f) f sp
     (at-argument-model .argument-model .ensures f sp) n h)
 
 command-same-length-6 : (t : ℕ) → command-lts.Need-same-length-6 (command-calls t) (command-at t) command.Post
 command-same-length-6 t c =
-    let at-normal-command = c .before .before in
-    at-normal-command .normal-command .kept .0
+    let at-convert-normal-command = c .before .before in
+    at-convert-normal-command .convert-normal-command .kept .0
 
 command-returns-7 : (t : ℕ) → command-lts.Need-returns-7 (command-calls t) (command-at t) command.Post
 command-returns-7 t c =
-    let at-normal-command = c .before .before in
-    let at-enum-told7 = at-normal-command .before .before in
-    let at-command-of = at-enum-told7 .before .before in
-    let at-past-first = at-command-of .before in
-    let at-name-tok = at-past-first .before in
-    let at-slice-known = at-name-tok .before .before .before .before .before in
-    let start = at-slice-known .before in
-    λ rs ready f sp n h. agrees-as (command-is (meaning n) (contextOf rs (start .args .c)) f (carryOf (start .args .c)) _ Normal
-    (at-past-first .past-first .ensures ∙ ap (drop 1) (at-name-tok .name-tok .ensures f (all-begins sp)))
-    (sym (at-command-of .command-of .ensures) ∙ at-enum-told7 .enum-told7 .given .1))
-    (at-normal-command .normal-command .ensures rs ready f sp n h)
+    let at-convert-normal-command = c .before .before in
+    let at-told = at-convert-normal-command .before .before in
+    λ rs ready f sp n h. agrees-as (command-here t (at-told .before .before) Normal (at-told .enum-told7 .given .1) rs f sp n)
+    (at-convert-normal-command .convert-normal-command .ensures rs ready f sp n h)
 
 -- its code meets what it promises, if those it calls do where less is left
 pub command-closed : {M : Type 1} (t : ℕ) → command-lts.Closed (command-calls t) (command-at t) command.Post M
@@ -317,13 +307,13 @@ command-closed t =
     (command-enum-told-5 t)
     (command-color-model-requires t)
     (command-body-loop-requires t)
-    (command-command-color-requires t)
+    (command-convert-command-color-requires t)
     (command-enum-told-6 t)
     (command-argument-model-requires t)
     (command-arguments-loop-requires t)
-    (command-command-color-requires-2 t)
+    (command-convert-command-color-requires-2 t)
     (command-enum-told-7 t)
-    (command-normal-command-requires t)
+    (command-convert-normal-command-requires t)
     (command-same-length t)
     (command-returns t)
     (command-same-length-2 t)

@@ -1,19 +1,91 @@
 -- The needs of `convert`.
-use mathlib.Core.Path.{refl, sym, _∙_}
-use Rattle.text.proofs.Writing.{wrote-nil, wrote-as}
-use Rattle.mitex_state.specs.State.{contextOf, carryOf}
-use Rattle.mitex_state.specs.Groups.{children, attachComponent}
-use Rattle.mitex_state.proofs.Agreeing.{agrees-as, agrees-here, agrees-carried}
-use Rattle.mitex_syntax.proofs.Trees.{rows-some}
-use Rattle.mitex_state.specs.declared.Element.the-variants.{Children, Formula, CurlyGroup, ClauseLr, AttachComponent, Silent, Command, Environment, TypstCode}
-use Rattle.mitex.proofs.Nodes.{below-length, at-node, at-token, at-unexpected, given-below, room-below, converts-arm}
-use Rattle.mitex.proofs.Planning.{plan-agrees, given-in}
+use mathlib.Core.Path.{_≡_, refl, sym, _∙_}
+use mathlib.Core.Bool.{true}
+use mathlib.Core.List.{List, []}
+use Prim.Native.Nat.{ℕ, _+_, _<_}
 use native.Mathlib.Omega.{arith}
+use lib.ListN.{length, getD}
+use Rattle.text.proofs.Writing.{wrote-nil, wrote-as}
+use Rattle.mitex_spec.specs.Rules.{Rule}
+use Rattle.mitex_spec.specs.Index.{SomeRules}
+use Rattle.mitex_syntax.specs.Tree.{Forest}
+use Rattle.mitex_syntax.specs.Spells.{SpellsAll}
+use Rattle.mitex_syntax.proofs.Trees.{rows-some}
+use Rattle.mitex_state.specs.Outcome.{Arm}
+use Rattle.mitex_state.specs.State.{contextOf, carryOf}
+use Rattle.mitex_state.specs.Conversion.{elementOf, armBy}
+use Rattle.mitex_state.specs.declared.Element.{Element}
+use Rattle.mitex_state.specs.declared.Element.the-variants.{Children, Formula, CurlyGroup, ClauseLr, AttachComponent, Silent, Command, Environment, TypstCode}
+use Rattle.mitex_state.specs.declared.Walked.{Walked}
+use Rattle.mitex_state.proofs.Agreeing.{agrees-as, agrees-here, agrees-carried}
+use Rattle.mitex_commands.proofs.Elements.{ofNode}
+use Rattle.mitex_plans.specs.Plans.{Means}
+use Rattle.mitex_plans.specs.declared.Plan.{Plan}
+use Rattle.mitex.specs.Walks.{Room, Siblings, Converts, Walks, Planned}
+use Rattle.mitex.proofs.Nodes.{below, below-length, at-node, at-token, at-unexpected, given-below, room-below, converts-arm}
+use Rattle.mitex.proofs.Planning.{plan-agrees, given-in}
 use borrow.Author.Needs.{needs}
-use Prim.Native.Nat.{ℕ}
 use Rattle.mitex.proofs.convert.Reads as convert
-use Rattle.mitex.proofs.+clause_lr+command+command_color+convert+curly_group+each+env_body+env_figure+env_table+environment+formula+normal_command+turn+twice+walk.Lts-convert as convert-lts
-use Rattle.mitex.proofs.+clause_lr+command+command_color+convert+curly_group+each+env_body+env_figure+env_table+environment+formula+normal_command+turn+twice+walk.Proof.Setup.{convert-at, convert-calls}
+use Rattle.mitex.proofs.+body+command+convert+convert_clause_lr+convert_command_color+convert_curly_group+convert_env+convert_env_figure+convert_env_table+convert_formula+convert_normal_command+each+turn+twice+walk.Lts-convert as convert-lts
+use Rattle.mitex.proofs.+body+command+convert+convert_clause_lr+convert_command_color+convert_curly_group+convert_env+convert_env_figure+convert_env_table+convert_formula+convert_normal_command+each+turn+twice+walk.Proof.Setup.{convert-at, convert-calls}
+
+-- a place behind the clearing of the flag; where the element was told, and the function's entry
+abbrev Here : ℕ → Type 0
+Here t = convert-lts.After-with-flag (convert-calls t) (convert-at t) convert.Post
+
+abbrev told : (t : ℕ) → Here t → convert-lts.After-element-of (convert-calls t) (convert-at t) convert.Post
+told t c = c .before .before
+
+abbrev entry : (t : ℕ) → Here t → convert-lts.Start (convert-calls t) (convert-at t) convert.Post
+entry t c = let known = told t c .before .before .before .before .before in known .before .before
+
+-- the kind of the element that was told
+kind-here :
+    (t : ℕ) (c : Here t) {e : Element} → told t c .element-of .result ≡ e → elementOf (getD (entry t c .args .rows .now) 0 0) ≡ e
+kind-here t c q = sym (told t c .element-of .ensures) ∙ q
+
+-- what an arm is given: fewer rows, room, rules, and the children of a node
+falls-here : (t : ℕ) (c : Here t) (k : ℕ) → k < 8 → length (below (entry t c .args .rows .now)) + k < t
+falls-here t c k h =
+    let start = entry t c in
+    omega (arith, start .pre .0, below-length (start .args .rows .now), rows-some (start .pre .1 .1 .1 .spells))
+
+room-here :
+    (t : ℕ) (c : Here t) → let a = entry t c .args in
+    Room 8 (below (a .rows .now)) (a .text .now) (a .out .now) (a .at) (a .row) (c .with-flag .result)
+room-here t c = let start = entry t c in room-below (start .pre .1 .0) (rows-some (start .pre .1 .1 .1 .spells)) (c .with-flag .ensures)
+
+children-here :
+    (t : ℕ) (c : Here t) (e : Element) → told t c .element-of .result ≡ e → ofNode e ≡ true
+    → Siblings (below (entry t c .args .rows .now)) (entry t c .args .text .now)
+children-here t c e q z = given-below (entry t c .pre .1 .1 .1) e (kind-here t c q) z
+
+given-here :
+    (t : ℕ) (c : Here t) (k : ℕ) → k < 8 → (e : Element) → told t c .element-of .result ≡ e → ofNode e ≡ true
+    → let a = entry t c .args in
+    (length (below (a .rows .now)) + k < t)
+    × (Room 8 (below (a .rows .now)) (a .text .now) (a .out .now) (a .at) (a .row) (c .with-flag .result)
+    × (SomeRules (a .rules .now) (a .index .now) × Siblings (below (a .rows .now)) (a .text .now)))
+given-here t c k h e q z = (falls-here t c k h, (room-here t c, (entry t c .pre .1 .1 .0, children-here t c e q z)))
+
+-- what an arm promises of the children is what is asked of the element
+arm-here :
+    (t : ℕ) (c : Here t) (e : Element) → told t c .element-of .result ≡ e → ofNode e ≡ true → {w : Walked} {out′ : List ℕ}
+    → let a = entry t c .args in
+    Walks (a .rules .now) (a .index .now) (below (a .rows .now)) (a .text .now) (a .row) (c .with-flag .result) (a .at) (a .out .now) w out′ (armBy e)
+    → Converts (a .rules .now) (a .index .now) (a .rows .now) (a .text .now) (a .row) (a .c) (a .at) (a .out .now) w out′
+arm-here t c e q z m = converts-arm e (c .with-flag .ensures) (kind-here t c q) z m
+
+-- and one that walks over all of them by a plan
+plan-here :
+    (t : ℕ) (c : Here t) {arm : Arm} {w : Walked} {out′ : List ℕ} {p : Plan} → let a = entry t c .args in
+    ((f : Forest) → SpellsAll f (below (a .rows .now)) (a .text .now) → (rs : List Rule) → Means arm [] (c .with-flag .result) rs f (below (a .rows .now)) (a .text .now) p)
+    → Planned (a .rules .now) (a .index .now) (below (a .rows .now)) (a .text .now) (a .row) (c .with-flag .result) (a .at) (a .out .now) w out′ p
+    → Walks (a .rules .now) (a .index .now) (below (a .rows .now)) (a .text .now) (a .row) (c .with-flag .result) (a .at) (a .out .now) w out′ arm
+plan-here t c {arm} means planned =
+    let start = entry t c in
+    λ rs ready f sp n h.
+    plan-agrees (c .with-flag .result) arm (start .pre .1 .0 .room) (wrote-nil _ _ (start .pre .1 .0 .place)) ready n h (means f sp rs) planned
 
 convert-shared-slice-read-kind : (t : ℕ) → convert-lts.Need-shared-slice-read-kind (convert-calls t) (convert-at t) convert.Post
 convert-shared-slice-read-kind t c =
@@ -59,85 +131,29 @@ convert-children-plan-requires t c κs = search needs
 
 convert-walk-requires : (t : ℕ) → convert-lts.Need-walk-requires (convert-calls t) (convert-at t) convert.Post
 convert-walk-requires t c κs =
-    let at-children-plan = c .before in
-    let at-enum-told2 = at-children-plan .before in
-    let at-with-flag = at-enum-told2 .before .before in
-    let at-element-of = at-with-flag .before .before in
-    let at-shared-slice-known = at-element-of .before .before .before .before .before in
-    let start = at-shared-slice-known .before .before in (
-      omega (arith, start .pre .0, below-length (start .args .rows .now), rows-some (start .pre .1 .1 .1 .spells)),
-      (
-        room-below (start .pre .1 .0) (rows-some (start .pre .1 .1 .1 .spells)) (at-with-flag .with-flag .ensures),
-        (
-          start .pre .1 .1 .0,
-          given-in (start .pre .1 .1 .0) (given-below (start .pre .1 .1 .1) Children
-              (sym (at-element-of .element-of .ensures) ∙ at-enum-told2 .enum-told2 .given .1) refl) (at-children-plan .children-plan .ensures),
-        ),
-      ),
-    )
+    let at-told2 = c .before .before in
+    let here = at-told2 .before .before in
+    let some-rules = entry t here .pre .1 .1 .0 in
+    let children = children-here t here Children (at-told2 .enum-told2 .given .1) refl in
+    (falls-here t here 3 (omega arith), (room-here t here, (some-rules, given-in some-rules children (c .before .children-plan .ensures))))
 
 convert-enum-told-3 : (t : ℕ) → convert-lts.Need-enum-told-3 (convert-calls t) (convert-at t) convert.Post
 convert-enum-told-3 t c = search needs
 
-convert-formula-requires : (t : ℕ) → convert-lts.Need-formula-requires (convert-calls t) (convert-at t) convert.Post
-convert-formula-requires t c κs =
-    let at-enum-told3 = c .before in
-    let at-with-flag = at-enum-told3 .before .before in
-    let at-element-of = at-with-flag .before .before in
-    let at-shared-slice-known = at-element-of .before .before .before .before .before in
-    let start = at-shared-slice-known .before .before in (
-      omega (arith, start .pre .0, below-length (start .args .rows .now), rows-some (start .pre .1 .1 .1 .spells)),
-      (
-        room-below (start .pre .1 .0) (rows-some (start .pre .1 .1 .1 .spells)) (at-with-flag .with-flag .ensures),
-        (
-          start .pre .1 .1 .0,
-          given-below (start .pre .1 .1 .1) Formula (sym (at-element-of .element-of .ensures) ∙
-              at-enum-told3 .enum-told3 .given .1) refl,
-        ),
-      ),
-    )
+convert-convert-formula-requires : (t : ℕ) → convert-lts.Need-convert-formula-requires (convert-calls t) (convert-at t) convert.Post
+convert-convert-formula-requires t c κs = given-here t (c .before .before .before) 4 (omega arith) Formula (c .before .enum-told3 .given .1) refl
 
 convert-enum-told-4 : (t : ℕ) → convert-lts.Need-enum-told-4 (convert-calls t) (convert-at t) convert.Post
 convert-enum-told-4 t c = search needs
 
-convert-curly-group-requires : (t : ℕ) → convert-lts.Need-curly-group-requires (convert-calls t) (convert-at t) convert.Post
-convert-curly-group-requires t c κs =
-    let at-enum-told4 = c .before in
-    let at-with-flag = at-enum-told4 .before .before in
-    let at-element-of = at-with-flag .before .before in
-    let at-shared-slice-known = at-element-of .before .before .before .before .before in
-    let start = at-shared-slice-known .before .before in (
-      omega (arith, start .pre .0, below-length (start .args .rows .now), rows-some (start .pre .1 .1 .1 .spells)),
-      (
-        room-below (start .pre .1 .0) (rows-some (start .pre .1 .1 .1 .spells)) (at-with-flag .with-flag .ensures),
-        (
-          start .pre .1 .1 .0,
-          given-below (start .pre .1 .1 .1) CurlyGroup (sym (at-element-of .element-of .ensures) ∙
-              at-enum-told4 .enum-told4 .given .1) refl,
-        ),
-      ),
-    )
+convert-convert-curly-group-requires : (t : ℕ) → convert-lts.Need-convert-curly-group-requires (convert-calls t) (convert-at t) convert.Post
+convert-convert-curly-group-requires t c κs = given-here t (c .before .before .before) 4 (omega arith) CurlyGroup (c .before .enum-told4 .given .1) refl
 
 convert-enum-told-5 : (t : ℕ) → convert-lts.Need-enum-told-5 (convert-calls t) (convert-at t) convert.Post
 convert-enum-told-5 t c = search needs
 
-convert-clause-lr-requires : (t : ℕ) → convert-lts.Need-clause-lr-requires (convert-calls t) (convert-at t) convert.Post
-convert-clause-lr-requires t c κs =
-    let at-enum-told5 = c .before in
-    let at-with-flag = at-enum-told5 .before .before in
-    let at-element-of = at-with-flag .before .before in
-    let at-shared-slice-known = at-element-of .before .before .before .before .before in
-    let start = at-shared-slice-known .before .before in (
-      omega (arith, start .pre .0, below-length (start .args .rows .now), rows-some (start .pre .1 .1 .1 .spells)),
-      (
-        room-below (start .pre .1 .0) (rows-some (start .pre .1 .1 .1 .spells)) (at-with-flag .with-flag .ensures),
-        (
-          start .pre .1 .1 .0,
-          given-below (start .pre .1 .1 .1) ClauseLr (sym (at-element-of .element-of .ensures) ∙
-              at-enum-told5 .enum-told5 .given .1) refl,
-        ),
-      ),
-    )
+convert-convert-clause-lr-requires : (t : ℕ) → convert-lts.Need-convert-clause-lr-requires (convert-calls t) (convert-at t) convert.Post
+convert-convert-clause-lr-requires t c κs = given-here t (c .before .before .before) 4 (omega arith) ClauseLr (c .before .enum-told5 .given .1) refl
 
 convert-enum-told-6 : (t : ℕ) → convert-lts.Need-enum-told-6 (convert-calls t) (convert-at t) convert.Post
 convert-enum-told-6 t c = search needs
@@ -147,22 +163,11 @@ convert-attach-plan-requires t c κs = search needs
 
 convert-walk-requires-2 : (t : ℕ) → convert-lts.Need-walk-requires-2 (convert-calls t) (convert-at t) convert.Post
 convert-walk-requires-2 t c κs =
-    let at-attach-plan = c .before in
-    let at-enum-told6 = at-attach-plan .before in
-    let at-with-flag = at-enum-told6 .before .before in
-    let at-element-of = at-with-flag .before .before in
-    let at-shared-slice-known = at-element-of .before .before .before .before .before in
-    let start = at-shared-slice-known .before .before in (
-      omega (arith, start .pre .0, below-length (start .args .rows .now), rows-some (start .pre .1 .1 .1 .spells)),
-      (
-        room-below (start .pre .1 .0) (rows-some (start .pre .1 .1 .1 .spells)) (at-with-flag .with-flag .ensures),
-        (
-          start .pre .1 .1 .0,
-          given-in (start .pre .1 .1 .0) (given-below (start .pre .1 .1 .1) AttachComponent
-              (sym (at-element-of .element-of .ensures) ∙ at-enum-told6 .enum-told6 .given .1) refl) (at-attach-plan .attach-plan .ensures),
-        ),
-      ),
-    )
+    let at-told6 = c .before .before in
+    let here = at-told6 .before .before in
+    let some-rules = entry t here .pre .1 .1 .0 in
+    let children = children-here t here AttachComponent (at-told6 .enum-told6 .given .1) refl in
+    (falls-here t here 3 (omega arith), (room-here t here, (some-rules, given-in some-rules children (c .before .attach-plan .ensures))))
 
 convert-enum-told-7 : (t : ℕ) → convert-lts.Need-enum-told-7 (convert-calls t) (convert-at t) convert.Post
 convert-enum-told-7 t c = search needs
@@ -174,43 +179,13 @@ convert-enum-told-8 : (t : ℕ) → convert-lts.Need-enum-told-8 (convert-calls 
 convert-enum-told-8 t c = search needs
 
 convert-command-requires : (t : ℕ) → convert-lts.Need-command-requires (convert-calls t) (convert-at t) convert.Post
-convert-command-requires t c κs =
-    let at-enum-told8 = c .before in
-    let at-with-flag = at-enum-told8 .before .before in
-    let at-element-of = at-with-flag .before .before in
-    let at-shared-slice-known = at-element-of .before .before .before .before .before in
-    let start = at-shared-slice-known .before .before in (
-      omega (arith, start .pre .0, below-length (start .args .rows .now), rows-some (start .pre .1 .1 .1 .spells)),
-      (
-        room-below (start .pre .1 .0) (rows-some (start .pre .1 .1 .1 .spells)) (at-with-flag .with-flag .ensures),
-        (
-          start .pre .1 .1 .0,
-          given-below (start .pre .1 .1 .1) Command (sym (at-element-of .element-of .ensures) ∙
-              at-enum-told8 .enum-told8 .given .1) refl,
-        ),
-      ),
-    )
+convert-command-requires t c κs = given-here t (c .before .before .before) 6 (omega arith) Command (c .before .enum-told8 .given .1) refl
 
 convert-enum-told-9 : (t : ℕ) → convert-lts.Need-enum-told-9 (convert-calls t) (convert-at t) convert.Post
 convert-enum-told-9 t c = search needs
 
-convert-environment-requires : (t : ℕ) → convert-lts.Need-environment-requires (convert-calls t) (convert-at t) convert.Post
-convert-environment-requires t c κs =
-    let at-enum-told9 = c .before in
-    let at-with-flag = at-enum-told9 .before .before in
-    let at-element-of = at-with-flag .before .before in
-    let at-shared-slice-known = at-element-of .before .before .before .before .before in
-    let start = at-shared-slice-known .before .before in (
-      omega (arith, start .pre .0, below-length (start .args .rows .now), rows-some (start .pre .1 .1 .1 .spells)),
-      (
-        room-below (start .pre .1 .0) (rows-some (start .pre .1 .1 .1 .spells)) (at-with-flag .with-flag .ensures),
-        (
-          start .pre .1 .1 .0,
-          given-below (start .pre .1 .1 .1) Environment
-              (sym (at-element-of .element-of .ensures) ∙ at-enum-told9 .enum-told9 .given .1) refl,
-        ),
-      ),
-    )
+convert-convert-env-requires : (t : ℕ) → convert-lts.Need-convert-env-requires (convert-calls t) (convert-at t) convert.Post
+convert-convert-env-requires t c κs = given-here t (c .before .before .before) 7 (omega arith) Environment (c .before .enum-told9 .given .1) refl
 
 convert-enum-told-10 : (t : ℕ) → convert-lts.Need-enum-told-10 (convert-calls t) (convert-at t) convert.Post
 convert-enum-told-10 t c = search needs
@@ -252,58 +227,43 @@ convert-same-length t c =
 convert-returns-2 : (t : ℕ) → convert-lts.Need-returns-2 (convert-calls t) (convert-at t) convert.Post
 convert-returns-2 t c =
     let at-walk = c .before .before in
-    let at-children-plan = at-walk .before .before in
-    let at-enum-told2 = at-children-plan .before in
-    let at-with-flag = at-enum-told2 .before .before in
-    let at-element-of = at-with-flag .before .before in
-    let at-shared-slice-known = at-element-of .before .before .before .before .before in
-    let start = at-shared-slice-known .before .before in
-    converts-arm Children (at-with-flag .with-flag .ensures) (sym (at-element-of .element-of .ensures) ∙
-    at-enum-told2 .enum-told2 .given .1) refl (λ rs ready f sp n h. plan-agrees (at-with-flag .with-flag .result) children
-    (start .pre .1 .0 .room) (wrote-nil _ _ (start .pre .1 .0 .place)) ready n h (at-children-plan .children-plan .ensures f sp rs)
-    (at-walk .walk .ensures))
+    let at-plan = at-walk .before .before in
+    let at-told = at-plan .before in
+    let here = at-told .before .before in
+    arm-here t here Children (at-told .enum-told2 .given .1) refl (plan-here t here (at-plan .children-plan .ensures) (at-walk .walk .ensures))
 
 convert-same-length-2 : (t : ℕ) → convert-lts.Need-same-length-2 (convert-calls t) (convert-at t) convert.Post
 convert-same-length-2 t c =
-    let at-formula = c .before .before in
-    at-formula .formula .kept .0
+    let at-convert-formula = c .before .before in
+    at-convert-formula .convert-formula .kept .0
 
 convert-returns-3 : (t : ℕ) → convert-lts.Need-returns-3 (convert-calls t) (convert-at t) convert.Post
 convert-returns-3 t c =
-    let at-formula = c .before .before in
-    let at-enum-told3 = at-formula .before .before in
-    let at-with-flag = at-enum-told3 .before .before in
-    let at-element-of = at-with-flag .before .before in
-    converts-arm Formula (at-with-flag .with-flag .ensures) (sym (at-element-of .element-of .ensures) ∙
-    at-enum-told3 .enum-told3 .given .1) refl (at-formula .formula .ensures)
+    let at-convert-formula = c .before .before in
+    let at-told = at-convert-formula .before .before in
+    arm-here t (at-told .before .before) Formula (at-told .enum-told3 .given .1) refl (at-convert-formula .convert-formula .ensures)
 
 convert-same-length-3 : (t : ℕ) → convert-lts.Need-same-length-3 (convert-calls t) (convert-at t) convert.Post
 convert-same-length-3 t c =
-    let at-curly-group = c .before .before in
-    at-curly-group .curly-group .kept .0
+    let at-convert-curly-group = c .before .before in
+    at-convert-curly-group .convert-curly-group .kept .0
 
 convert-returns-4 : (t : ℕ) → convert-lts.Need-returns-4 (convert-calls t) (convert-at t) convert.Post
 convert-returns-4 t c =
-    let at-curly-group = c .before .before in
-    let at-enum-told4 = at-curly-group .before .before in
-    let at-with-flag = at-enum-told4 .before .before in
-    let at-element-of = at-with-flag .before .before in
-    converts-arm CurlyGroup (at-with-flag .with-flag .ensures) (sym (at-element-of .element-of .ensures) ∙
-    at-enum-told4 .enum-told4 .given .1) refl (at-curly-group .curly-group .ensures)
+    let at-convert-curly-group = c .before .before in
+    let at-told = at-convert-curly-group .before .before in
+    arm-here t (at-told .before .before) CurlyGroup (at-told .enum-told4 .given .1) refl (at-convert-curly-group .convert-curly-group .ensures)
 
 convert-same-length-4 : (t : ℕ) → convert-lts.Need-same-length-4 (convert-calls t) (convert-at t) convert.Post
 convert-same-length-4 t c =
-    let at-clause-lr = c .before .before in
-    at-clause-lr .clause-lr .kept .0
+    let at-convert-clause-lr = c .before .before in
+    at-convert-clause-lr .convert-clause-lr .kept .0
 
 convert-returns-5 : (t : ℕ) → convert-lts.Need-returns-5 (convert-calls t) (convert-at t) convert.Post
 convert-returns-5 t c =
-    let at-clause-lr = c .before .before in
-    let at-enum-told5 = at-clause-lr .before .before in
-    let at-with-flag = at-enum-told5 .before .before in
-    let at-element-of = at-with-flag .before .before in
-    converts-arm ClauseLr (at-with-flag .with-flag .ensures) (sym (at-element-of .element-of .ensures) ∙
-    at-enum-told5 .enum-told5 .given .1) refl (at-clause-lr .clause-lr .ensures)
+    let at-convert-clause-lr = c .before .before in
+    let at-told = at-convert-clause-lr .before .before in
+    arm-here t (at-told .before .before) ClauseLr (at-told .enum-told5 .given .1) refl (at-convert-clause-lr .convert-clause-lr .ensures)
 
 convert-same-length-5 : (t : ℕ) → convert-lts.Need-same-length-5 (convert-calls t) (convert-at t) convert.Post
 convert-same-length-5 t c =
@@ -312,17 +272,11 @@ convert-same-length-5 t c =
 
 convert-returns-6 : (t : ℕ) → convert-lts.Need-returns-6 (convert-calls t) (convert-at t) convert.Post
 convert-returns-6 t c =
-    let at-walk2 = c .before .before in
-    let at-attach-plan = at-walk2 .before .before in
-    let at-enum-told6 = at-attach-plan .before in
-    let at-with-flag = at-enum-told6 .before .before in
-    let at-element-of = at-with-flag .before .before in
-    let at-shared-slice-known = at-element-of .before .before .before .before .before in
-    let start = at-shared-slice-known .before .before in
-    converts-arm AttachComponent (at-with-flag .with-flag .ensures) (sym (at-element-of .element-of .ensures) ∙
-    at-enum-told6 .enum-told6 .given .1) refl (λ rs ready f sp n h. plan-agrees (at-with-flag .with-flag .result) attachComponent
-    (start .pre .1 .0 .room) (wrote-nil _ _ (start .pre .1 .0 .place)) ready n h (at-attach-plan .attach-plan .ensures f sp rs)
-    (at-walk2 .walk2 .ensures))
+    let at-walk = c .before .before in
+    let at-plan = at-walk .before .before in
+    let at-told = at-plan .before in
+    let here = at-told .before .before in
+    arm-here t here AttachComponent (at-told .enum-told6 .given .1) refl (plan-here t here (at-plan .attach-plan .ensures) (at-walk .walk2 .ensures))
 
 convert-returns-7 : (t : ℕ) → convert-lts.Need-returns-7 (convert-calls t) (convert-at t) convert.Post
 convert-returns-7 t c =
@@ -344,25 +298,19 @@ convert-same-length-6 t c =
 convert-returns-8 : (t : ℕ) → convert-lts.Need-returns-8 (convert-calls t) (convert-at t) convert.Post
 convert-returns-8 t c =
     let at-command = c .before .before in
-    let at-enum-told8 = at-command .before .before in
-    let at-with-flag = at-enum-told8 .before .before in
-    let at-element-of = at-with-flag .before .before in
-    converts-arm Command (at-with-flag .with-flag .ensures) (sym (at-element-of .element-of .ensures) ∙
-    at-enum-told8 .enum-told8 .given .1) refl (at-command .command .ensures)
+    let at-told = at-command .before .before in
+    arm-here t (at-told .before .before) Command (at-told .enum-told8 .given .1) refl (at-command .command .ensures)
 
 convert-same-length-7 : (t : ℕ) → convert-lts.Need-same-length-7 (convert-calls t) (convert-at t) convert.Post
 convert-same-length-7 t c =
-    let at-environment = c .before .before in
-    at-environment .environment .kept .0
+    let at-convert-env = c .before .before in
+    at-convert-env .convert-env .kept .0
 
 convert-returns-9 : (t : ℕ) → convert-lts.Need-returns-9 (convert-calls t) (convert-at t) convert.Post
 convert-returns-9 t c =
-    let at-environment = c .before .before in
-    let at-enum-told9 = at-environment .before .before in
-    let at-with-flag = at-enum-told9 .before .before in
-    let at-element-of = at-with-flag .before .before in
-    converts-arm Environment (at-with-flag .with-flag .ensures) (sym (at-element-of .element-of .ensures) ∙
-    at-enum-told9 .enum-told9 .given .1) refl (at-environment .environment .ensures)
+    let at-convert-env = c .before .before in
+    let at-told = at-convert-env .before .before in
+    arm-here t (at-told .before .before) Environment (at-told .enum-told9 .given .1) refl (at-convert-env .convert-env .ensures)
 
 convert-same-length-8 : (t : ℕ) → convert-lts.Need-same-length-8 (convert-calls t) (convert-at t) convert.Post
 convert-same-length-8 t c =
@@ -416,11 +364,11 @@ convert-closed t =
     (convert-children-plan-requires t)
     (convert-walk-requires t)
     (convert-enum-told-3 t)
-    (convert-formula-requires t)
+    (convert-convert-formula-requires t)
     (convert-enum-told-4 t)
-    (convert-curly-group-requires t)
+    (convert-convert-curly-group-requires t)
     (convert-enum-told-5 t)
-    (convert-clause-lr-requires t)
+    (convert-convert-clause-lr-requires t)
     (convert-enum-told-6 t)
     (convert-attach-plan-requires t)
     (convert-walk-requires-2 t)
@@ -429,7 +377,7 @@ convert-closed t =
     (convert-enum-told-8 t)
     (convert-command-requires t)
     (convert-enum-told-9 t)
-    (convert-environment-requires t)
+    (convert-convert-env-requires t)
     (convert-enum-told-10 t)
     (convert-put-requires t)
     (convert-went-requires-2 t)

@@ -1,8 +1,8 @@
--- `mitex_tokens::put_tokens` meets its contract: by whether the loop is steady.
+-- `mitex_tokens::convert_tokens` meets its contract: by whether the loop is steady.
 use mathlib.Core.Path.{sym, _∙_}
 use borrow.Author.Needs.{needs}
-use Rattle.mitex_tokens.proofs.put_tokens.Statement.{statement}
-use Rattle.mitex_tokens.proofs.put_tokens.Tie as tie
+use Rattle.mitex_tokens.proofs.convert_tokens.Statement.{statement}
+use Rattle.mitex_tokens.proofs.convert_tokens.Tie as tie
 
 is-steady-requires : tie.Need-is-steady-requires
 is-steady-requires c κs = search needs
@@ -28,8 +28,8 @@ same-length-2 c = search needs
 returns-2 : tie.Need-returns-2
 returns-2 c = search needs
 
-pub put-tokens-spec : {M : Type 1} → statement M
-put-tokens-spec =
+pub convert-tokens-spec : {M : Type 1} → statement M
+convert-tokens-spec =
     tie.close
     (tie.spec
     is-steady-requires

@@ -1,38 +1,55 @@
 -- The needs of `each`.
 use mathlib.Core.Path.{refl, _∙_}
 use lib.ListN.{length}
-use Prim.Native.Nat.{ℕ, _-_}
+use Prim.Native.Nat.{ℕ, _+_, _-_, _≤_}
 use Rattle.mitex.proofs.Walking.{Looping, Child, looping-start, loop-room, loop-row, child-spans, child, child-given, child-behind, loop-refused, loop-next, tokens-given, run-high, run-stop, run-some, run-refused, run-next, loop-done}
 use native.Mathlib.Omega.{arith}
 use borrow.Author.Needs.{needs}
 use Rattle.mitex.proofs.each.Reads as each
-use Rattle.mitex.proofs.+clause_lr+command+command_color+convert+curly_group+each+env_body+env_figure+env_table+environment+formula+normal_command+turn+twice+walk.Lts-each as each-lts
-use Rattle.mitex.proofs.+clause_lr+command+command_color+convert+curly_group+each+env_body+env_figure+env_table+environment+formula+normal_command+turn+twice+walk.Proof.Setup.{each-at, each-calls}
+use Rattle.mitex.proofs.+body+command+convert+convert_clause_lr+convert_command_color+convert_curly_group+convert_env+convert_env_figure+convert_env_table+convert_formula+convert_normal_command+each+turn+twice+walk.Lts-each as each-lts
+use Rattle.mitex.proofs.+body+command+convert+convert_clause_lr+convert_command_color+convert_curly_group+convert_env+convert_env_figure+convert_env_table+convert_formula+convert_normal_command+each+turn+twice+walk.Proof.Setup.{each-at, each-calls}
 
 abbrev pub each-Inv-loop : each-lts.InvT-loop
-each-Inv-loop out₀ at rows text row rules index mode env indent w₀ d₀ l₀ i₀ j₀ out w d l i j = Looping rules index rows text row out₀ w₀
+each-Inv-loop out₀ at rows text row rules index w₀ d₀ l₀ i₀ j₀ out w d l i j = Looping rules index rows text row out₀ w₀
     d₀ l₀ out w d l i j
 
 abbrev pub each-μ-loop : each-lts.MeasureT-loop
-each-μ-loop out₀ at rows text row rules index mode env indent w₀ d₀ l₀ i₀ j₀ out w d l i j = length rows - i
+each-μ-loop out₀ at rows text row rules index w₀ d₀ l₀ i₀ j₀ out w d l i j = length rows - i
 
--- a place in a turn of the loop, behind the measuring of the child; the loop's head before it, and the function's entry
+-- the loop's head, and the function's entry before it
+abbrev Head : ℕ → Type 0
+Head t = each-lts.At-loop (each-calls t) (each-at t) each.Post each-Inv-loop each-μ-loop
+
+abbrev entry : (t : ℕ) → Head t → each-lts.Start (each-calls t) (each-at t) each.Post each-Inv-loop each-μ-loop
+entry t c = let known = c .before .before .before .before .before in known .before
+
+-- a place in a turn of the loop, behind the measuring of the child
 abbrev Here : ℕ → Type 0
 Here t = each-lts.After-span-at (each-calls t) (each-at t) each.Post each-Inv-loop each-μ-loop
 
-abbrev head : (t : ℕ) → Here t → each-lts.At-loop (each-calls t) (each-at t) each.Post each-Inv-loop each-μ-loop
+abbrev head : (t : ℕ) → Here t → Head t
 head t c = c .before .before .before .before
-
-abbrev entry : (t : ℕ) → Here t → each-lts.Start (each-calls t) (each-at t) each.Post each-Inv-loop each-μ-loop
-entry t c = let known = head t c .before .before .before in known .before .before .before
 
 -- the child there
 child-here :
-    (t : ℕ) (c : Here t)
-    → Child (entry t c .args .rows .now) (entry t c .args .text .now) (head t c .loop .out) (head t c .loop .d) (head t c .loop .i)
-    (head t c .loop .j) (c .span-at .result .rows) (c .span-at .result .text) (head t c .loop .w) (entry t c .args .row)
+    (t : ℕ) (c : Here t) → let h = head t c in
+    let a = entry t h .args in
+    Child (a .rows .now) (a .text .now) (h .loop .out) (h .loop .d) (h .loop .i) (h .loop .j) (c .span-at .result .rows)
+    (c .span-at .result .text) (h .loop .w) (a .row)
 child-here t c = child (head t c .loop .inv) (c .before .before .before .loop-test .taken) _ _ (c .span-at .ensures .0)
     (c .span-at .ensures .1)
+
+-- a place behind a run of tokens; how far it went
+abbrev Ran : ℕ → Type 0
+Ran t = each-lts.After-convert-tokens (each-calls t) (each-at t) each.Post each-Inv-loop each-μ-loop
+
+abbrev ran-head : (t : ℕ) → Ran t → Head t
+ran-head t c = let known = c .before .before .before .before .before in known .before .before
+
+high-here :
+    (t : ℕ) (c : Ran t) → let h = ran-head t c in
+    h .loop .i + c .convert-tokens .result .rows ≤ length (entry t h .args .rows .now)
+high-here t c = run-high (ran-head t c .loop .inv) (c .convert-tokens .ensures)
 
 each-loop-holds : (t : ℕ) → each-lts.Need-loop-holds (each-calls t) (each-at t) each.Post each-Inv-loop each-μ-loop
 each-loop-holds t c =
@@ -50,35 +67,35 @@ each-shared-slice-read-if1 t c =
     let at-loop = in-loop .before in
     omega (arith, loop-row (at-loop .loop .inv) (in-loop .loop-test .taken))
 
-each-sub-put-tokens : (t : ℕ) → each-lts.Need-sub-put-tokens (each-calls t) (each-at t) each.Post each-Inv-loop each-μ-loop
-each-sub-put-tokens t c =
+each-sub-convert-tokens : (t : ℕ) → each-lts.Need-sub-convert-tokens (each-calls t) (each-at t) each.Post each-Inv-loop each-μ-loop
+each-sub-convert-tokens t c =
     let in-loop = c .before .before .before in
     omega (arith, in-loop .loop-test .taken)
 
-each-part-put-tokens-start : (t : ℕ) → each-lts.Need-part-put-tokens-start (each-calls t) (each-at t) each.Post each-Inv-loop each-μ-loop
-each-part-put-tokens-start t c =
+each-part-convert-tokens-start : (t : ℕ) → each-lts.Need-part-convert-tokens-start (each-calls t) (each-at t) each.Post each-Inv-loop each-μ-loop
+each-part-convert-tokens-start t c =
     let in-loop = c .before .before .before in
     omega (arith, in-loop .loop-test .taken)
 
-each-part-put-tokens-end : (t : ℕ) → each-lts.Need-part-put-tokens-end (each-calls t) (each-at t) each.Post each-Inv-loop each-μ-loop
-each-part-put-tokens-end t c = omega arith
+each-part-convert-tokens-end : (t : ℕ) → each-lts.Need-part-convert-tokens-end (each-calls t) (each-at t) each.Post each-Inv-loop each-μ-loop
+each-part-convert-tokens-end t c = omega arith
 
-each-sub-put-tokens-2 : (t : ℕ) → each-lts.Need-sub-put-tokens-2 (each-calls t) (each-at t) each.Post each-Inv-loop each-μ-loop
-each-sub-put-tokens-2 t c =
+each-sub-convert-tokens-2 : (t : ℕ) → each-lts.Need-sub-convert-tokens-2 (each-calls t) (each-at t) each.Post each-Inv-loop each-μ-loop
+each-sub-convert-tokens-2 t c =
     let at-loop = c .before .before .before .before .before in
     at-loop .loop .inv .stands .begun
 
-each-part-put-tokens-start-2 : (t : ℕ) → each-lts.Need-part-put-tokens-start-2 (each-calls t) (each-at t) each.Post each-Inv-loop
+each-part-convert-tokens-start-2 : (t : ℕ) → each-lts.Need-part-convert-tokens-start-2 (each-calls t) (each-at t) each.Post each-Inv-loop
     each-μ-loop
-each-part-put-tokens-start-2 t c =
+each-part-convert-tokens-start-2 t c =
     let at-loop = c .before .before .before .before .before in
     at-loop .loop .inv .stands .begun
 
-each-part-put-tokens-end-2 : (t : ℕ) → each-lts.Need-part-put-tokens-end-2 (each-calls t) (each-at t) each.Post each-Inv-loop each-μ-loop
-each-part-put-tokens-end-2 t c = omega arith
+each-part-convert-tokens-end-2 : (t : ℕ) → each-lts.Need-part-convert-tokens-end-2 (each-calls t) (each-at t) each.Post each-Inv-loop each-μ-loop
+each-part-convert-tokens-end-2 t c = omega arith
 
-each-put-tokens-requires : (t : ℕ) → each-lts.Need-put-tokens-requires (each-calls t) (each-at t) each.Post each-Inv-loop each-μ-loop
-each-put-tokens-requires t c κs =
+each-convert-tokens-requires : (t : ℕ) → each-lts.Need-convert-tokens-requires (each-calls t) (each-at t) each.Post each-Inv-loop each-μ-loop
+each-convert-tokens-requires t c κs =
     let at-if1 = c .before .before .before in
     let in-loop = at-if1 .before .before in
     let at-loop = in-loop .before in (
@@ -88,67 +105,49 @@ each-put-tokens-requires t c κs =
 
 each-add-i : (t : ℕ) → each-lts.Need-add-i (each-calls t) (each-at t) each.Post each-Inv-loop each-μ-loop
 each-add-i t c =
-    let at-put-tokens = c .before .before .before in
-    let at-shared-slice-known5 = at-put-tokens .before .before .before .before .before in
-    let at-loop = at-shared-slice-known5 .before .before in
-    omega (arith, run-high (at-loop .loop .inv) refl (at-put-tokens .put-tokens .ensures), at-loop .loop .inv .room .few)
+    let ran = c .before .before .before in
+    omega (arith, high-here t ran, ran-head t ran .loop .inv .room .few)
 
 each-add-j : (t : ℕ) → each-lts.Need-add-j (each-calls t) (each-at t) each.Post each-Inv-loop each-μ-loop
 each-add-j t c =
-    let at-put-tokens = c .before .before .before .before in
-    let at-shared-slice-known5 = at-put-tokens .before .before .before .before .before in
-    let at-loop = at-shared-slice-known5 .before .before in
-    omega (arith, run-stop (at-loop .loop .inv) refl (at-put-tokens .put-tokens .ensures), at-loop .loop .inv .room .short)
+    let ran = c .before .before .before .before in
+    let inv = ran-head t ran .loop .inv in
+    omega (arith, run-stop inv (ran .convert-tokens .ensures), inv .room .short)
 
 each-add-refuse : (t : ℕ) → each-lts.Need-add-refuse (each-calls t) (each-at t) each.Post each-Inv-loop each-μ-loop
 each-add-refuse t c =
     let at-out = c .before .before .before .before .before in
-    let at-put-tokens = at-out .before in
-    let at-shared-slice-known5 = at-put-tokens .before .before .before .before .before in
-    let at-loop = at-shared-slice-known5 .before .before in
-    omega (arith, run-high (at-loop .loop .inv) refl (at-put-tokens .put-tokens .ensures), at-loop .loop .inv .room .low)
+    let ran = at-out .before in
+    omega (arith, high-here t ran, ran-head t ran .loop .inv .room .low)
 
 each-refuse-requires : (t : ℕ) → each-lts.Need-refuse-requires (each-calls t) (each-at t) each.Post each-Inv-loop each-μ-loop
 each-refuse-requires t c κs = search needs
 
 each-same-length : (t : ℕ) → each-lts.Need-same-length (each-calls t) (each-at t) each.Post each-Inv-loop each-μ-loop
 each-same-length t c =
-    let at-slice-known2 = c .before .before .before .before .before in
-    let at-put-tokens = at-slice-known2 .before .before in
-    let at-shared-slice-known5 = at-put-tokens .before .before .before .before .before in
-    let at-loop = at-shared-slice-known5 .before .before in
-    at-put-tokens .put-tokens .kept .0 ∙ at-loop .loop .inv .stands .same
+    let known = c .before .before .before .before .before in
+    let ran = known .before .before in
+    ran .convert-tokens .kept .0 ∙ ran-head t ran .loop .inv .stands .same
 
 each-returns : (t : ℕ) → each-lts.Need-returns (each-calls t) (each-at t) each.Post each-Inv-loop each-μ-loop
 each-returns t c =
     let at-if2 = c .before in
     let at-out = at-if2 .before .before .before .before .before in
-    let at-put-tokens = at-out .before in
-    let at-shared-slice-known5 = at-put-tokens .before .before .before .before .before in
-    let at-loop = at-shared-slice-known5 .before .before in
-    λ rs ready g sp n h. run-refused (at-loop .loop .inv) refl (at-put-tokens .put-tokens .ensures) rs ready g sp n h
-    (at-if2 .if2 .taken) (c .refuse .ensures)
+    let ran = at-out .before in
+    λ rs ready g sp n h. run-refused (ran-head t ran .loop .inv) (ran .convert-tokens .ensures) rs ready g sp n h (at-if2 .if2 .taken)
+    (c .refuse .ensures)
 
 each-loop-less : (t : ℕ) → each-lts.Need-loop-less (each-calls t) (each-at t) each.Post each-Inv-loop each-μ-loop
 each-loop-less t c =
     let at-out = c .before .before .before .before .before in
-    let at-put-tokens = at-out .before in
-    let at-shared-slice-known5 = at-put-tokens .before .before .before .before .before in
-    let at-loop = at-shared-slice-known5 .before .before in
-    omega (
-      arith,
-      run-some (at-loop .loop .inv) refl (at-put-tokens .put-tokens .ensures) (c .if2 .left),
-      run-high (at-loop .loop .inv)
-          refl (at-put-tokens .put-tokens .ensures),
-    )
+    let ran = at-out .before in
+    omega (arith, run-some (ran-head t ran .loop .inv) (ran .convert-tokens .ensures) (c .if2 .left), high-here t ran)
 
 each-loop-again : (t : ℕ) → each-lts.Need-loop-again (each-calls t) (each-at t) each.Post each-Inv-loop each-μ-loop
 each-loop-again t c =
     let at-out = c .before .before .before .before .before in
-    let at-put-tokens = at-out .before in
-    let at-shared-slice-known5 = at-put-tokens .before .before .before .before .before in
-    let at-loop = at-shared-slice-known5 .before .before in
-    run-next (at-loop .loop .inv) refl (at-put-tokens .put-tokens .ensures) (c .if2 .left) (at-put-tokens .put-tokens .kept .0)
+    let ran = at-out .before in
+    run-next (ran-head t ran .loop .inv) (ran .convert-tokens .ensures) (c .if2 .left) (ran .convert-tokens .kept .0)
 
 each-span-at-requires : (t : ℕ) → each-lts.Need-span-at-requires (each-calls t) (each-at t) each.Post each-Inv-loop each-μ-loop
 each-span-at-requires t c κs =
@@ -325,13 +324,13 @@ each-closed t =
     (each-loop-holds t)
     (each-add-if1 t)
     (each-shared-slice-read-if1 t)
-    (each-sub-put-tokens t)
-    (each-part-put-tokens-start t)
-    (each-part-put-tokens-end t)
-    (each-sub-put-tokens-2 t)
-    (each-part-put-tokens-start-2 t)
-    (each-part-put-tokens-end-2 t)
-    (each-put-tokens-requires t)
+    (each-sub-convert-tokens t)
+    (each-part-convert-tokens-start t)
+    (each-part-convert-tokens-end t)
+    (each-sub-convert-tokens-2 t)
+    (each-part-convert-tokens-start-2 t)
+    (each-part-convert-tokens-end-2 t)
+    (each-convert-tokens-requires t)
     (each-add-i t)
     (each-add-j t)
     (each-add-refuse t)

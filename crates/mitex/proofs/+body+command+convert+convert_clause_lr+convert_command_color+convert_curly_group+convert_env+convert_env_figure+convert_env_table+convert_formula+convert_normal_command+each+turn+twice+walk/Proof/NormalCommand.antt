@@ -1,4 +1,4 @@
--- The needs of `normal_command`.
+-- The needs of `convert_normal_command`.
 use mathlib.Core.Path.{refl, sym, ap, _∙_, _≡_}
 use mathlib.Core.List.{List}
 use Rattle.text.proofs.Writing.{wrote-low}
@@ -18,15 +18,15 @@ use Rattle.mitex.proofs.Commanding.{normal-absent, normal-found, normal
 use native.Mathlib.Omega.{arith}
 use borrow.Author.Needs.{needs}
 use Prim.Native.Nat.{ℕ}
-use Rattle.mitex.proofs.normal_command.Reads as normal-command
-use Rattle.mitex.proofs.+clause_lr+command+command_color+convert+curly_group+each+env_body+env_figure+env_table+environment+formula+normal_command+turn+twice+walk.Lts-normal_command as normal-command-lts
-use Rattle.mitex.proofs.+clause_lr+command+command_color+convert+curly_group+each+env_body+env_figure+env_table+environment+formula+normal_command+turn+twice+walk.Proof.Setup.{normal-command-at, normal-command-calls}
+use Rattle.mitex.proofs.convert_normal_command.Reads as convert-normal-command
+use Rattle.mitex.proofs.+body+command+convert+convert_clause_lr+convert_command_color+convert_curly_group+convert_env+convert_env_figure+convert_env_table+convert_formula+convert_normal_command+each+turn+twice+walk.Lts-convert_normal_command as convert-normal-command-lts
+use Rattle.mitex.proofs.+body+command+convert+convert_clause_lr+convert_command_color+convert_curly_group+convert_env+convert_env_figure+convert_env_table+convert_formula+convert_normal_command+each+turn+twice+walk.Proof.Setup.{convert-normal-command-at, convert-normal-command-calls}
 
 -- a place behind the tests on the command's rule, and the function's entry before it
 abbrev Told : ℕ → Type 0
-Told t = normal-command-lts.After-is-stack (normal-command-calls t) (normal-command-at t) normal-command.Post
+Told t = convert-normal-command-lts.After-is-stack (convert-normal-command-calls t) (convert-normal-command-at t) convert-normal-command.Post
 
-abbrev entry : (t : ℕ) → Told t → normal-command-lts.Start (normal-command-calls t) (normal-command-at t) normal-command.Post
+abbrev entry : (t : ℕ) → Told t → convert-normal-command-lts.Start (convert-normal-command-calls t) (convert-normal-command-at t) convert-normal-command.Post
 entry t c =
     let at-is-absent = c .before .before .before .before .before in
     let at-known = at-is-absent .before .before .before .before in
@@ -57,23 +57,23 @@ written-here t c rs ready f n =
     (λ y. argumentsOf y (start .args .c .mode) (typstName (start .args .c .mode) (start .args .name .now)
     (at-written-name .written-name .result .now))) (at-class-of .class-of .ensures)) (c .is-stack .ensures)
 
-normal-command-get-cmd-requires : (t : ℕ) → normal-command-lts.Need-get-cmd-requires (normal-command-calls t) (normal-command-at t)
-    normal-command.Post
-normal-command-get-cmd-requires t c κs =
+convert-normal-command-get-cmd-requires : (t : ℕ) → convert-normal-command-lts.Need-get-cmd-requires (convert-normal-command-calls t) (convert-normal-command-at t)
+    convert-normal-command.Post
+convert-normal-command-get-cmd-requires t c κs =
     let at-slice-known = c .before .before .before .before .before in
     let start = at-slice-known .before in
     start .pre .1 .1 .0
 
-normal-command-is-absent-requires : (t : ℕ) → normal-command-lts.Need-is-absent-requires (normal-command-calls t) (normal-command-at t)
-    normal-command.Post
-normal-command-is-absent-requires t c κs = search needs
+convert-normal-command-is-absent-requires : (t : ℕ) → convert-normal-command-lts.Need-is-absent-requires (convert-normal-command-calls t) (convert-normal-command-at t)
+    convert-normal-command.Post
+convert-normal-command-is-absent-requires t c κs = search needs
 
-normal-command-refuse-requires : (t : ℕ) → normal-command-lts.Need-refuse-requires (normal-command-calls t) (normal-command-at t)
-    normal-command.Post
-normal-command-refuse-requires t c κs = search needs
+convert-normal-command-refuse-requires : (t : ℕ) → convert-normal-command-lts.Need-refuse-requires (convert-normal-command-calls t) (convert-normal-command-at t)
+    convert-normal-command.Post
+convert-normal-command-refuse-requires t c κs = search needs
 
-normal-command-returns : (t : ℕ) → normal-command-lts.Need-returns (normal-command-calls t) (normal-command-at t) normal-command.Post
-normal-command-returns t c =
+convert-normal-command-returns : (t : ℕ) → convert-normal-command-lts.Need-returns (convert-normal-command-calls t) (convert-normal-command-at t) convert-normal-command.Post
+convert-normal-command-returns t c =
     let at-if1 = c .before in
     let at-is-absent = at-if1 .before in
     let at-get-cmd = at-is-absent .before in
@@ -83,57 +83,57 @@ normal-command-returns t c =
     (carryOf (start .args .c)) _ (at-get-cmd .get-cmd .result) ((at-get-cmd .get-cmd .ensures rs (ready .decodes)) .rule)
     (sym (at-is-absent .is-absent .ensures) ∙ at-if1 .if1 .taken)) (agrees-here (omega arith) (c .refuse .ensures))
 
-normal-command-written-name-requires : (t : ℕ) → normal-command-lts.Need-written-name-requires (normal-command-calls t)
-    (normal-command-at t) normal-command.Post
-normal-command-written-name-requires t c κs =
+convert-normal-command-written-name-requires : (t : ℕ) → convert-normal-command-lts.Need-written-name-requires (convert-normal-command-calls t)
+    (convert-normal-command-at t) convert-normal-command.Post
+convert-normal-command-written-name-requires t c κs =
     let at-get-cmd = c .before .before in
     let at-shared-slice-known = at-get-cmd .before .before .before .before .before in
     let start = at-shared-slice-known .before .before in
     (at-get-cmd .get-cmd .ensures (start .pre .1 .1 .0 .rules) (start .pre .1 .1 .0 .ready .decodes)) .inside
 
-normal-command-class-of-requires : (t : ℕ) → normal-command-lts.Need-class-of-requires (normal-command-calls t) (normal-command-at t)
-    normal-command.Post
-normal-command-class-of-requires t c κs = search needs
+convert-normal-command-class-of-requires : (t : ℕ) → convert-normal-command-lts.Need-class-of-requires (convert-normal-command-calls t) (convert-normal-command-at t)
+    convert-normal-command.Post
+convert-normal-command-class-of-requires t c κs = search needs
 
-normal-command-arguments-of-requires : (t : ℕ) → normal-command-lts.Need-arguments-of-requires (normal-command-calls t)
-    (normal-command-at t) normal-command.Post
-normal-command-arguments-of-requires t c κs = search needs
+convert-normal-command-arguments-of-requires : (t : ℕ) → convert-normal-command-lts.Need-arguments-of-requires (convert-normal-command-calls t)
+    (convert-normal-command-at t) convert-normal-command.Post
+convert-normal-command-arguments-of-requires t c κs = search needs
 
-normal-command-is-stack-requires : (t : ℕ) → normal-command-lts.Need-is-stack-requires (normal-command-calls t) (normal-command-at t)
-    normal-command.Post
-normal-command-is-stack-requires t c κs = search needs
+convert-normal-command-is-stack-requires : (t : ℕ) → convert-normal-command-lts.Need-is-stack-requires (convert-normal-command-calls t) (convert-normal-command-at t)
+    convert-normal-command.Post
+convert-normal-command-is-stack-requires t c κs = search needs
 
-normal-command-arguments-plan-requires : (t : ℕ) → normal-command-lts.Need-arguments-plan-requires (normal-command-calls t)
-    (normal-command-at t) normal-command.Post
-normal-command-arguments-plan-requires t c κs =
+convert-normal-command-arguments-plan-requires : (t : ℕ) → convert-normal-command-lts.Need-arguments-plan-requires (convert-normal-command-calls t)
+    (convert-normal-command-at t) convert-normal-command.Post
+convert-normal-command-arguments-plan-requires t c κs =
     let at-is-absent = c .before .before .before .before .before in
     let at-shared-slice-known2 = at-is-absent .before .before .before .before .before in
     let start = at-shared-slice-known2 .before .before .before in
     siblings-forest (start .pre .1 .0) (start .pre .1 .1 .1)
 
-normal-command-enum-told : (t : ℕ) → normal-command-lts.Need-enum-told (normal-command-calls t) (normal-command-at t) normal-command.Post
-normal-command-enum-told t c = search needs
+convert-normal-command-enum-told : (t : ℕ) → convert-normal-command-lts.Need-enum-told (convert-normal-command-calls t) (convert-normal-command-at t) convert-normal-command.Post
+convert-normal-command-enum-told t c = search needs
 
-normal-command-refuse-requires-2 : (t : ℕ) → normal-command-lts.Need-refuse-requires-2 (normal-command-calls t) (normal-command-at t)
-    normal-command.Post
-normal-command-refuse-requires-2 t c κs = search needs
+convert-normal-command-refuse-requires-2 : (t : ℕ) → convert-normal-command-lts.Need-refuse-requires-2 (convert-normal-command-calls t) (convert-normal-command-at t)
+    convert-normal-command.Post
+convert-normal-command-refuse-requires-2 t c κs = search needs
 
-normal-command-enum-known-takes : (t : ℕ) → normal-command-lts.Need-enum-known-takes (normal-command-calls t) (normal-command-at t)
-    normal-command.Post
-normal-command-enum-known-takes t c = search needs
+convert-normal-command-enum-known-takes : (t : ℕ) → convert-normal-command-lts.Need-enum-known-takes (convert-normal-command-calls t) (convert-normal-command-at t)
+    convert-normal-command.Post
+convert-normal-command-enum-known-takes t c = search needs
 
-normal-command-put-command-begin-requires : (t : ℕ) → normal-command-lts.Need-put-command-begin-requires (normal-command-calls t)
-    (normal-command-at t) normal-command.Post
-normal-command-put-command-begin-requires t c κs =
+convert-normal-command-put-command-begin-requires : (t : ℕ) → convert-normal-command-lts.Need-put-command-begin-requires (convert-normal-command-calls t)
+    (convert-normal-command-at t) convert-normal-command.Post
+convert-normal-command-put-command-begin-requires t c κs =
     let at-is-stack = c .before .before .before .before .before in
     let at-is-absent = at-is-stack .before .before .before .before .before in
     let at-shared-slice-known2 = at-is-absent .before .before .before .before .before in
     let start = at-shared-slice-known2 .before .before .before in
     (start .pre .1 .0 .place, start .pre .1 .0 .room)
 
-normal-command-walk-requires : (t : ℕ) → normal-command-lts.Need-walk-requires (normal-command-calls t) (normal-command-at t)
-    normal-command.Post
-normal-command-walk-requires t c κs =
+convert-normal-command-walk-requires : (t : ℕ) → convert-normal-command-lts.Need-walk-requires (convert-normal-command-calls t) (convert-normal-command-at t)
+    convert-normal-command.Post
+convert-normal-command-walk-requires t c κs =
     let at-put-command-begin = c .before .before .before in
     let at-takes = at-put-command-begin .before .before .before in
     let at-arguments-plan = at-takes .before .before in
@@ -152,8 +152,8 @@ normal-command-walk-requires t c κs =
       ),
     )
 
-normal-command-returns-2 : (t : ℕ) → normal-command-lts.Need-returns-2 (normal-command-calls t) (normal-command-at t) normal-command.Post
-normal-command-returns-2 t c =
+convert-normal-command-returns-2 : (t : ℕ) → convert-normal-command-lts.Need-returns-2 (convert-normal-command-calls t) (convert-normal-command-at t) convert-normal-command.Post
+convert-normal-command-returns-2 t c =
     let at-enum-told = c .before in
     let at-arguments-plan = at-enum-told .before .before in
     let at-is-stack = at-arguments-plan .before in
@@ -165,15 +165,15 @@ normal-command-returns-2 t c =
     (arguments-missing (at-arguments-plan .arguments-plan .ensures f sp rs) (at-enum-told .enum-told .given .1) (meaning n)
     (carryOf (start .args .c)))) (agrees-here (omega arith) (c .refuse2 .ensures))
 
-normal-command-same-length : (t : ℕ) → normal-command-lts.Need-same-length (normal-command-calls t) (normal-command-at t)
-    normal-command.Post
-normal-command-same-length t c =
+convert-normal-command-same-length : (t : ℕ) → convert-normal-command-lts.Need-same-length (convert-normal-command-calls t) (convert-normal-command-at t)
+    convert-normal-command.Post
+convert-normal-command-same-length t c =
     let at-walk = c .before .before in
     let at-put-command-begin = at-walk .before .before .before .before in
     at-walk .walk .kept .0 ∙ at-put-command-begin .put-command-begin .kept .0
 
-normal-command-returns-3 : (t : ℕ) → normal-command-lts.Need-returns-3 (normal-command-calls t) (normal-command-at t) normal-command.Post
-normal-command-returns-3 t c =
+convert-normal-command-returns-3 : (t : ℕ) → convert-normal-command-lts.Need-returns-3 (convert-normal-command-calls t) (convert-normal-command-at t) convert-normal-command.Post
+convert-normal-command-returns-3 t c =
     let at-walk = c .before .before in
     let at-put-command-begin = at-walk .before .before .before .before in
     let at-takes = at-put-command-begin .before .before .before in
@@ -191,26 +191,26 @@ normal-command-returns-3 t c =
     (arguments-taken (at-arguments-plan .arguments-plan .ensures f sp rs) (at-takes .takes .given .1))) (at-walk .walk .ensures))
 
 -- its code meets what it promises, if those it calls do where less is left
-pub normal-command-closed : {M : Type 1} (t : ℕ) → normal-command-lts.Closed (normal-command-calls t) (normal-command-at t)
-    normal-command.Post M
-normal-command-closed t =
-    normal-command-lts.spec (normal-command-calls t)
-    (normal-command-at t)
-    normal-command.Post
-    (normal-command-get-cmd-requires t)
-    (normal-command-is-absent-requires t)
-    (normal-command-refuse-requires t)
-    (normal-command-returns t)
-    (normal-command-written-name-requires t)
-    (normal-command-class-of-requires t)
-    (normal-command-arguments-of-requires t)
-    (normal-command-is-stack-requires t)
-    (normal-command-arguments-plan-requires t)
-    (normal-command-enum-told t)
-    (normal-command-refuse-requires-2 t)
-    (normal-command-enum-known-takes t)
-    (normal-command-put-command-begin-requires t)
-    (normal-command-walk-requires t)
-    (normal-command-returns-2 t)
-    (normal-command-same-length t)
-    (normal-command-returns-3 t)
+pub convert-normal-command-closed : {M : Type 1} (t : ℕ) → convert-normal-command-lts.Closed (convert-normal-command-calls t) (convert-normal-command-at t)
+    convert-normal-command.Post M
+convert-normal-command-closed t =
+    convert-normal-command-lts.spec (convert-normal-command-calls t)
+    (convert-normal-command-at t)
+    convert-normal-command.Post
+    (convert-normal-command-get-cmd-requires t)
+    (convert-normal-command-is-absent-requires t)
+    (convert-normal-command-refuse-requires t)
+    (convert-normal-command-returns t)
+    (convert-normal-command-written-name-requires t)
+    (convert-normal-command-class-of-requires t)
+    (convert-normal-command-arguments-of-requires t)
+    (convert-normal-command-is-stack-requires t)
+    (convert-normal-command-arguments-plan-requires t)
+    (convert-normal-command-enum-told t)
+    (convert-normal-command-refuse-requires-2 t)
+    (convert-normal-command-enum-known-takes t)
+    (convert-normal-command-put-command-begin-requires t)
+    (convert-normal-command-walk-requires t)
+    (convert-normal-command-returns-2 t)
+    (convert-normal-command-same-length t)
+    (convert-normal-command-returns-3 t)
