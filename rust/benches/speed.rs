@@ -1,6 +1,7 @@
 //! How long Convert and Edit take, beside the reference on the same inputs: `cargo bench --offline`.
 //!
-//! Every time is the least mean of many short rounds; library and reference take turns in a round.
+//! Every time is the least mean of many short rounds; library and reference take turns in a round. With `ZALDRUME_WRITE` set to a
+//! folder it measures nothing and writes the documents there.
 
 use std::hint::black_box;
 use std::time::{Duration, Instant};
@@ -248,14 +249,19 @@ impl Buffers {
     }
 }
 
+/// A LaTeX-like document and one of words only.
+fn documents() -> [(&'static str, Vec<u8>); 2] {
+    let mut random = Random::new(7);
+    let latex = filled(&mut random, paragraph);
+    let plain = filled(&mut random, |random| words(random, 60));
+    [("LaTeX-like", latex), ("words only", plain)]
+}
+
 fn conversions() {
     println!("## Conversion\n");
     println!("| document | rules | rows | tree bytes | text bytes | library µs | ns a row | reference µs | library / reference | checks alone µs | reference's checks µs | block move of the text µs |");
     println!("|---|---|---|---|---|---|---|---|---|---|---|---|");
-    let mut random = Random::new(7);
-    let latex = filled(&mut random, paragraph);
-    let plain = filled(&mut random, |random| words(random, 60));
-    for (name, tree) in [("LaTeX-like", &latex), ("words only", &plain)] {
+    for (name, tree) in &documents() {
         for count in [10, 1_000, 5_000] {
             let rules = rules(count);
             assert!(rules.len() <= FILE_MOST, "{} bytes of rules", rules.len());
@@ -387,7 +393,19 @@ fn edits() {
     }
 }
 
-fn main() {
+/// The documents and 1,000 rules as files in a folder, for other programs.
+fn write_files(folder: &std::path::Path) -> std::io::Result<()> {
+    let [(_, latex), (_, words)] = documents();
+    std::fs::write(folder.join("rules.bin"), rules(1_000))?;
+    std::fs::write(folder.join("latex.bin"), latex)?;
+    std::fs::write(folder.join("words.bin"), words)
+}
+
+fn main() -> std::io::Result<()> {
+    if let Some(folder) = std::env::var_os("ZALDRUME_WRITE") {
+        return write_files(folder.as_ref());
+    }
     conversions();
     edits();
+    Ok(())
 }

@@ -1,7 +1,7 @@
 -- What Edit comes to over a document's blocks: 6 where block, kept length or ledger do not fit (`edited-unfit`); the refusal that the
 -- blocks converted again meet (`edited-refused`); else their pieces are written in the place of the kept ones (`edited-as`).
 use mathlib.Core.Path.{_≡_, refl, sym, ap, subst, _∙_}
-use mathlib.Core.Bool.{Bool, true, false, _&&_, cond}
+use mathlib.Core.Bool.{Bool, true, false, _&&_, cond, and-eq-true-iff}
 use mathlib.Core.List.{List}
 use Prim.Native.Nat.{ℕ, _+_, _-_, _≤_, _<_}
 use native.Mathlib.Omega.{arith}
@@ -13,11 +13,10 @@ use Rattle.mitex_syntax.specs.Tree.{size}
 use Rattle.mitex_state.specs.State.{newOf, carryOf, Carried}
 use Rattle.mitex_state.specs.declared.LaTeXMode.{LaTeXMode}
 use Rattle.mitex_state.specs.declared.Converter.{Converter}
-use Rattle.ledger.specs.Ledger.{HasRow, RowFits, decodeRows, fits}
+use Rattle.ledger.specs.Ledger.{RowFits, decodeRows, fits}
 use Rattle.ledger.proofs.Fitting.{fits-row}
 use Rattle.editing.specs.Walk.{Walk, rowsAll, walkUntil}
 use Rattle.editing.specs.Walk.Checked.{good}
-use Rattle.editing.specs.Walk.Walk.{stopped, pieces}
 use Rattle.editing.specs.Edit.{Answer, Result, unchanged, editFits, endBefore, carryBefore, rowCarries, write, writeOr, again, editChecked}
 use Rattle.editing.specs.Edit.Answer.{refused}
 use Rattle.editing.specs.Calls.{Gives}
@@ -37,15 +36,11 @@ pub record Fitting (n k kept : ℕ) (out ledger : List ℕ) : Type 0 where
   pub inside : kept ≤ length out
   pub rows : fits n kept ledger ≡ true
 
-both : (a b : Bool) → (a && b) ≡ true → (a ≡ true) × (b ≡ true)
-both true b e = (refl, e)
-both false b e = let z : _≡_ {A = ℕ} 0 1 = cc in absurd (omega arith)
-
 pub fitting : {n k kept : ℕ} {out ledger : List ℕ} {b : Bool} → b ≡ editFits n k kept out ledger → b ≡ true → Fitting n k kept out ledger
 unfolding editFits
 fitting {n} {k} {kept} {out} {ledger} e t =
-    let x = both (ltb k n) (leb kept (length out) && fits n kept ledger) (sym e ∙ t) in
-    let y = both (leb kept (length out)) (fits n kept ledger) (x .1) in
+    let x = and-eq-true-iff (ltb k n) (leb kept (length out) && fits n kept ledger) .0 (sym e ∙ t) in
+    let y = and-eq-true-iff (leb kept (length out)) (fits n kept ledger) .0 (x .1) in
     record { block = ltb-true k n (x .0); inside = leb-true kept (length out) (y .0); rows = y .1 }
 
 module _ {n k kept : ℕ} {out ledger : List ℕ} (f : Fitting n k kept out ledger) where

@@ -8,7 +8,6 @@ use Rattle.mitex_spec.specs.RuleFile.{rulesOf}
 use Rattle.mitex_syntax.specs.Tree.{Tree}
 use Rattle.mitex_state.specs.Outcome.{Carry}
 use Rattle.mitex_state.specs.Outcome.Outcome.{refused as declined}
-use Rattle.editing.specs.Walk.{Converter, Numbered}
 use Rattle.editing.specs.Walk.Checked.{bad}
 use Rattle.editing.specs.Edit.{convertDocument, edit}
 use Rattle.editing.specs.Numbers.{Fifteen, OfConvert, OfEdit}

@@ -10,7 +10,7 @@ use lib.ListN.{length, take, drop, length-take, length-drop}
 use Rattle.text.specs.Numbers.{Bytes}
 use Rattle.mitex_spec.specs.Rules.{Rule}
 use Rattle.mitex_spec.specs.RuleFile.{rulesOf}
-use Rattle.mitex_spec.specs.Index.{Ready, SomeRules}
+use Rattle.mitex_spec.specs.Index.{SomeRules}
 use Rattle.mitex_syntax.proofs.Trees.{size-some}
 use Rattle.mitex_parser.specs.Check.{Verdict, checkTree, blocksOf, answerOf}
 use Rattle.mitex_parser.specs.Check.Verdict.{refused as unfit, accepted}

@@ -11,7 +11,7 @@ use Rattle.editing.specs.Edit.{Answer, Result, put}
 use Rattle.editing.specs.Edit.Answer.{refused, converted, edited}
 use Rattle.editing.specs.Calls.{Gives, Converts, Edits}
 use Rattle.blocks.specs.Manuscript.{manuscript}
-use Rattle.edit.specs.Starred.{Call, Case, result, hand, starred, small, small-hold}
+use Rattle.edit.specs.Starred.{Call, Case, case, result, hand, starred, small, small-hold}
 use Rattle.edit.specs.Starred.Call.{converts, edits}
 
 -- ---- programs
@@ -81,9 +81,6 @@ callAt k cases = (getD cases k noCase) .call
 
 abbrev givesAt : ℕ → List Case → Result
 givesAt k cases = (getD cases k noCase) .gives
-
-abbrev case : Call → Answer → List ℕ → List ℕ → Case
-case c a text ledger = record { call = c; gives = record { answer = a; text = text; ledger = ledger } }
 
 -- Math `ab`; `$x$`; `\item` as row 1, in a text buffer of two bytes
 abbrev letters : Call

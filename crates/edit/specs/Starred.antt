@@ -51,7 +51,7 @@ pub record Case : Type 0 where
   pub call : Call
   pub gives : Result
 
-abbrev case : Call → Answer → List ℕ → List ℕ → Case
+abbrev pub case : Call → Answer → List ℕ → List ℕ → Case
 case c a text ledger = record { call = c; gives = record { answer = a; text = text; ledger = ledger } }
 
 -- ---- bytes

@@ -6,18 +6,12 @@ use Prim.Native.Nat.{ℕ}
 use lib.ListN.{take}
 use borrow.Author.Tests.{not-true, not-false}
 use Rattle.text.specs.Compare.{same}
-use Rattle.text.proofs.Compare.{same-refl, same-true}
+use Rattle.text.proofs.Compare.{beq-true, same-refl, same-true}
 use Rattle.mitex_state.specs.Outcome.{Label, Carry}
 use Rattle.mitex_state.specs.Outcome.Label.{unheld, held}
 use Rattle.mitex_state.specs.State.{labelOf}
 use Rattle.mitex_state.specs.Keeping.{labelBytes}
 use Rattle.ledger.specs.Ledger.{isHeld, sameLabel, sameCarry}
-
-beq-true : (a b : Bool) → Bool·beq a b ≡ true → a ≡ b
-beq-true true true e = refl
-beq-true true false e = sym e
-beq-true false true e = e
-beq-true false false e = refl
 
 beq-refl : (a : Bool) → Bool·beq a a ≡ true
 beq-refl true = refl

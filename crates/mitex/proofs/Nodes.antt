@@ -5,6 +5,7 @@ use mathlib.Core.List.{List}
 use Prim.Native.Nat.{ℕ, zero, suc, _-_, _≤_}
 use native.Mathlib.Omega.{arith}
 use lib.ListN.{length, take, drop, getD, length-drop}
+use Rattle.text.proofs.Writing.{part-rest}
 use Rattle.mitex_syntax.specs.Tree.{Tree, Forest, size, sizes}
 use Rattle.mitex_syntax.specs.Tree.Tree.{node}
 use Rattle.mitex_syntax.specs.Spells.{Spells, SpellsAll, SomeTree}
@@ -14,7 +15,6 @@ use Rattle.mitex_state.specs.Outcome.Outcome.{refused}
 use Rattle.mitex_state.specs.State.{contextOf, carryOf, Carried}
 use Rattle.mitex_state.specs.Contract.{Place, placeOf, Agrees}
 use Rattle.mitex_state.specs.Tokens.{tokenOut}
-use Rattle.mitex_state.specs.Children.{before, behind}
 use Rattle.mitex_state.specs.Conversion.{elementOf, armBy, step, convert}
 use Rattle.mitex_state.specs.declared.Element.{Element}
 use Rattle.mitex_state.specs.declared.Element.the-variants.{Unexpected, Token}
@@ -23,14 +23,14 @@ use Rattle.mitex_state.specs.declared.Walked.{Walked}
 use Rattle.mitex.specs.Walks.{Room, Siblings, Converts, Walks}
 use Rattle.mitex_state.proofs.Agreeing.{agrees-as}
 use Rattle.mitex_commands.proofs.Elements.{ofNode, element-node, element-token, element-unexpected}
-use Rattle.mitex.proofs.Rooms.{rest-rows, room-part}
+use Rattle.mitex.proofs.Rooms.{room-part}
 
 -- the rows behind an element's first
 abbrev pub below : List ℕ → List ℕ
 below rows = take (length rows - 8) (drop 8 rows)
 
 pub below-length : (rows : List ℕ) → length (below rows) ≡ length rows - 8
-below-length rows = ap length (rest-rows rows 8) ∙ length-drop 8 rows
+below-length rows = ap length (part-rest rows 8) ∙ length-drop 8 rows
 
 -- a level that is high enough is one above another
 pub record Level (d : ℕ) : Type 0 where
@@ -60,7 +60,7 @@ module _ (x : Context) (t : Tree) (c : Carry) {rows text : List ℕ} (sp : Spell
       let sp′ : Spells (node (getD rows 0 0) f) rows text = subst (λ (u : Tree). Spells u rows text) (n .1) sp in
       record {
         forest = f;
-        spells = subst (λ (r : List ℕ). SpellsAll f r text) (sym (rest-rows rows 8)) (under sp′);
+        spells = subst (λ (r : List ℕ). SpellsAll f r text) (sym (part-rest rows 8)) (under sp′);
         lower = l .lower;
         fits = omega (arith, ap size (n .1), size-node (getD rows 0 0) f, l .is);
         is = ap (λ (m : ℕ). convert m x t c) (l .is)
@@ -86,7 +86,7 @@ pub given-below :
 given-below {rows} {text} g e q z =
     let n = element-node (g .tree) (g .spells) e q z in
     let sp′ : Spells (node (getD rows 0 0) (n .0)) rows text = subst (λ (u : Tree). Spells u rows text) (n .1) (g .spells) in
-    record { forest = n .0; spells = subst (λ (r : List ℕ). SpellsAll (n .0) r text) (sym (rest-rows rows 8)) (under sp′) }
+    record { forest = n .0; spells = subst (λ (r : List ℕ). SpellsAll (n .0) r text) (sym (part-rest rows 8)) (under sp′) }
 
 -- a walk over them
 pub room-below :

@@ -3,8 +3,7 @@ use mathlib.Core.Path.{_≡_, refl}
 use mathlib.Core.List.{List}
 use Prim.Native.Nat.{ℕ, _+_, _-_, _/_, _≤_}
 use native.Mathlib.Omega.{arith}
-use lib.ListN.{length, take, drop, length-drop}
-use lib.Seq.{take-all}
+use lib.ListN.{length}
 use Rattle.text.specs.Writing.{cap}
 use Rattle.mitex_syntax.specs.Spells.{SomeForest}
 use Rattle.mitex_syntax.proofs.Trees.{all-begins}
@@ -15,10 +14,6 @@ use Rattle.mitex_state.specs.declared.Part.{Part}
 use Rattle.mitex_state.specs.declared.Converter.{Converter}
 use Rattle.mitex_plans.proofs.Parting.{between-length}
 use Rattle.mitex.specs.Walks.{Room, Siblings}
-
--- the rows behind a place, as the code has them
-pub rest-rows : (rows : List ℕ) (n : ℕ) → take (length rows - n) (drop n rows) ≡ drop n rows
-rest-rows rows n = take-all (length rows - n) (drop n rows) (simp length-drop (omega arith))
 
 -- a walk over the children asks that they can be searched
 pub siblings-forest : {slack at row : ℕ} {rows text out : List ℕ} {c : Converter} → Room slack rows text out at row c → Siblings rows text → SomeForest rows text 0 0

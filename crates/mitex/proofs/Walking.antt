@@ -9,7 +9,7 @@ use native.Mathlib.Omega.{arith}
 use lib.ListN.{length, take, drop, getD, length-drop}
 use lib.Seq.{getD-drop, drop-drop}
 use Rattle.text.specs.Writing.{cap, Wrote}
-use Rattle.text.proofs.Writing.{wrote-low}
+use Rattle.text.proofs.Writing.{wrote-low, part-rest}
 use Rattle.mitex_spec.specs.Rules.{Rule}
 use Rattle.mitex_spec.specs.RuleFile.{rulesOf}
 use Rattle.mitex_spec.specs.Index.{Ready, SomeRules}
@@ -18,7 +18,7 @@ use Rattle.mitex_syntax.specs.Spells.{Spells, SpellsAll, SomeTree}
 use Rattle.mitex_syntax.specs.Rows.{extentOf, tokenSum, Spans}
 use Rattle.mitex_syntax.proofs.Trees.{Element, element, all-begins, spans, kind-at, rows-e, text-n, part, part-spells, part-length, part-short, past-exact, no-left, size-more, length-rowss}
 use Rattle.mitex_state.specs.Outcome.{Context, Label, Carry, Outcome, after, andThen, closing, shift, labelMost}
-use Rattle.mitex_state.specs.Outcome.Outcome.{refused, done}
+use Rattle.mitex_state.specs.Outcome.Outcome.{done}
 use Rattle.mitex_state.specs.State.{contextOf, carryOf, labelOf}
 use Rattle.mitex_state.specs.Contract.{Place, placeOf, Agrees, Went, Declined}
 use Rattle.mitex_state.specs.Contract.Agrees.{declines, accepts}
@@ -29,9 +29,7 @@ use Rattle.mitex_loops.proofs.Closing.{passes-alone}
 use Rattle.mitex_tokens.specs.Puts.{carrying}
 use Rattle.mitex_tokens.specs.Runs.{TokensGiven, Runs}
 use Rattle.mitex_tokens.specs.declared.Run.{Run}
-use Rattle.mitex_tokens.proofs.Running.{next-number}
-use Rattle.mitex_state.specs.declared.LaTeXMode.{LaTeXMode}
-use Rattle.mitex_state.specs.declared.LaTeXEnv.{LaTeXEnv}
+use Rattle.mitex_loops.proofs.Acting.{number-next}
 use Rattle.mitex_state.specs.declared.Loop.{Loop}
 use Rattle.mitex_state.specs.declared.Act.{Act}
 use Rattle.mitex_state.specs.declared.Converter.{Converter}
@@ -39,7 +37,6 @@ use Rattle.mitex_state.specs.declared.Walked.{Walked}
 use Rattle.mitex_state.proofs.Agreeing.{Closed, Good, good, agrees-as, agrees-done, agrees-refused, agrees-after, agrees-close, agrees-shift, then-done, then-refused}
 use Rattle.mitex_state.proofs.Loops.{turn-converts, turn-passes, each-none, each-more}
 use Rattle.mitex.specs.Walks.{Room, Siblings, Converts, Turns}
-use Rattle.mitex.proofs.Rooms.{rest-rows}
 
 -- ---- where a loop stands
 
@@ -174,7 +171,7 @@ module _ {rules index rows text : List ℕ} {row : ℕ} {out₀ : List ℕ} {w�
       pub child-behind : OthersGiven (take (length rows - (i + e)) (drop (i + e) rows))
       child-behind =
           let x = child-element (left-spelt .spells) in
-          let q = rest-rows rows (i + e) in
+          let q = part-rest rows (i + e) in
           record {
             few = omega (arith, k .room .few, ap length q, length-drop (i + e) rows);
             others = record { forest = x .others; rows-are = q ∙ past-exact x e n is-e is-n (left-spelt .spells) .rows-are };
@@ -199,7 +196,7 @@ module _ {rules index rows text : List ℕ} {row : ℕ} {out₀ : List ℕ} {w�
           spelt-child = part-spells here e n is-e is-n
 
           acted : act ≡ actOf l (here .tree) (here .others)
-          acted = de (here .tree) (here .others) spelt-child (rest-rows rows (i + e) ∙ past-exact here e n is-e is-n (at-head .spells) .rows-are)
+          acted = de (here .tree) (here .others) spelt-child (part-rest rows (i + e) ∙ past-exact here e n is-e is-n (at-head .spells) .rows-are)
 
           -- what follows the child
           then : Carry → Outcome
@@ -270,7 +267,7 @@ module _ {rules index rows text : List ℕ} {row : ℕ} {out₀ : List ℕ} {w�
                 short = g .short;
                 placed-so = g .placed-so ∙ k .stands .placed-so;
               };
-              counts = omega (arith, x .some, k .counts, next-number l (getD rows i 0) act, ap numberOf next);
+              counts = omega (arith, x .some, k .counts, number-next l (getD rows i 0) act, ap numberOf next);
               left = λ rs ready f sp level fit. next-left rs ready f sp level fit z l′ next;
             }
 
@@ -369,17 +366,17 @@ abbrev pub rest : List ℕ → ℕ → List ℕ
 rest l n = take (length l - n) (drop n l)
 
 rest-behind : (l : List ℕ) (n m : ℕ) → drop m (rest l n) ≡ drop (n + m) l
-rest-behind l n m = ap (drop m) (rest-rows l n) ∙ drop-drop m n l
+rest-behind l n m = ap (drop m) (part-rest l n) ∙ drop-drop m n l
 
 module _ {rules index rows text : List ℕ} {row : ℕ} {out₀ : List ℕ} {w₀ : ℕ} {d₀ : Converter} {l₀ : Loop} {out : List ℕ} {w : ℕ}
     {d : Converter} {l : Loop} {i j : ℕ} (k : Looping rules index rows text row out₀ w₀ d₀ l₀ out w d l i j) where
   rest-spells : {g : Forest} → SpellsAll g (drop i rows) (drop j text) → SpellsAll g (rest rows i) (rest text j)
   rest-spells {g} sp =
-      subst (λ (r : List ℕ). SpellsAll g r (rest text j)) (sym (rest-rows rows i))
-      (subst (λ (s : List ℕ). SpellsAll g (drop i rows) s) (sym (rest-rows text j)) sp)
+      subst (λ (r : List ℕ). SpellsAll g r (rest text j)) (sym (part-rest rows i))
+      (subst (λ (s : List ℕ). SpellsAll g (drop i rows) s) (sym (part-rest text j)) sp)
 
   rest-long : length (rest rows i) ≡ length rows - i
-  rest-long = ap length (rest-rows rows i) ∙ length-drop i rows
+  rest-long = ap length (part-rest rows i) ∙ length-drop i rows
 
   pub tokens-given : i < length rows → getD rows (i + 1) 0 ≡ 1 → TokensGiven (rest rows i) (rest text j) l
   tokens-given h e =
@@ -388,9 +385,9 @@ module _ {rules index rows text : List ℕ} {row : ℕ} {out₀ : List ℕ} {w�
         forest = s .forest;
         spells = rest-spells (s .spells);
         few = omega (arith, rest-long, k .room .few);
-        short = omega (arith, ap length (rest-rows text j), length-drop j text, k .room .short);
+        short = omega (arith, ap length (part-rest text j), length-drop j text, k .room .short);
         some = omega (arith, rest-long);
-        token = ap (λ (r : List ℕ). getD r 1 0) (rest-rows rows i) ∙ getD-drop i rows 1 0 ∙ e;
+        token = ap (λ (r : List ℕ). getD r 1 0) (part-rest rows i) ∙ getD-drop i rows 1 0 ∙ e;
         counts = omega (arith, rest-long, k .counts, k .room .few);
       }
 
@@ -410,7 +407,7 @@ module _ {rules index rows text : List ℕ} {row : ℕ} {out₀ : List ℕ} {w�
     run-high = omega (arith, first .high, rest-long, k .stands .high)
 
     pub run-stop : j + r .text ≤ length text
-    run-stop = omega (arith, first .stop, ap length (rest-rows text j), length-drop j text, k .stands .begun)
+    run-stop = omega (arith, first .stop, ap length (part-rest text j), length-drop j text, k .stands .begun)
 
     pub run-some : r .refusal ≡ 0 → 8 ≤ r .rows
     run-some z = first .some z

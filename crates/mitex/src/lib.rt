@@ -383,35 +383,13 @@ fn command<'a>(
         Command::Array => went(c, at),
         Command::Color => {
             let m = color_model(rows, text);
-            convert_command_color(
-                out,
-                at,
-                rows,
-                text,
-                row,
-                rules,
-                index,
-                c,
-                name,
-                m,
-                body_loop(mode),
-            )
+            let how = body_loop(mode);
+            convert_command_color(out, at, rows, text, row, rules, index, c, name, m, how)
         }
         Command::ColorArguments => {
             let m = argument_model(rows, text);
-            convert_command_color(
-                out,
-                at,
-                rows,
-                text,
-                row,
-                rules,
-                index,
-                c,
-                name,
-                m,
-                arguments_loop(mode),
-            )
+            let how = arguments_loop(mode);
+            convert_command_color(out, at, rows, text, row, rules, index, c, name, m, how)
         }
         Command::Normal => convert_normal_command(out, at, rows, text, row, rules, index, c, name),
     }

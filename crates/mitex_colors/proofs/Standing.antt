@@ -1,6 +1,6 @@
 -- The children of an element that was found: where they stand, and what a Greedy command makes of them.
-use mathlib.Core.Path.{_≡_, refl, sym, ap, subst, _∙_}
-use mathlib.Core.Bool.{Bool, true, false, cond}
+use mathlib.Core.Path.{_≡_, sym, ap, subst, _∙_}
+use mathlib.Core.Bool.{Bool, false}
 use mathlib.Core.Option.{Option}
 use mathlib.Core.Option.Option.{none as nothing, some}
 use mathlib.Core.List.{List, []}
@@ -8,12 +8,12 @@ use Prim.Native.Nat.{ℕ, _+_, _-_, _<_}
 use native.Mathlib.Omega.{arith}
 use lib.ListN.{length, take, drop, getD}
 use lib.Seq.{drop-drop, getD-drop, getD-take, length-take-le}
+use Rattle.mitex_syntax.proofs.Seeking.{first-picked}
 use borrow.Author.Tests.{eqb-true}
 use Rattle.text.specs.Writing.{cap}
 use Rattle.mitex_syntax.specs.Syntax.{isToken}
 use Rattle.mitex_syntax.specs.Tree.{Tree, Forest, size, sizes, kindOf}
 use Rattle.mitex_syntax.specs.Tree.Tree.{node}
-use Rattle.mitex_syntax.specs.Tree.Forest.{none, more}
 use Rattle.mitex_syntax.specs.Views.{firstBy, isOf, childrenOf}
 use Rattle.mitex_syntax.specs.Spells.{Spells, SpellsAll, SomeForest}
 use Rattle.mitex_syntax.specs.Places.{Stands}
@@ -24,18 +24,6 @@ use Rattle.mitex_state.specs.Parts.GreedyFound.{no-greedy, greedy-at}
 use Rattle.mitex_state.specs.declared.GreedyPart.the-variants.{NoGreedy, GreedyAt}
 use Rattle.mitex_colors.specs.Scanning.{Left}
 use Rattle.mitex_colors.proofs.Scans.{drop-take, exact-left, left-some}
-
--- what was found is what was looked for
-picked-or :
-    (p : Tree → Bool) (f : Forest) (t u : Tree) (b : Bool) → p u ≡ b → cond b (some u) (firstBy p f) ≡ some t
-    → (firstBy p f ≡ some t → p t ≡ true) → p t ≡ true
-picked-or p f t u true h q k = let w : t ≡ u = cc in ap p w ∙ h
-picked-or p f t u false h q k = k q
-
-first-picked : (p : Tree → Bool) (f : Forest) (t : Tree) → firstBy p f ≡ some t → p t ≡ true
-unfolding firstBy
-first-picked p none t e = let z : _≡_ {A = ℕ} 0 1 = cc in absurd (omega arith)
-first-picked p (more u f) t e = picked-or p f t u (p u) refl e (first-picked p f t)
 
 module _ {p : Tree → Bool} {f : Forest} {rows text : List ℕ} {a b c d : ℕ} (s : Stands p f rows text 0 a b c d) where
   -- the second byte of its rows
@@ -67,7 +55,7 @@ pub node-there :
     {k : ℕ} {f : Forest} {rows text : List ℕ} {a b c d : ℕ} (s : Stands (isOf k) f rows text 0 a b c d) → isToken k ≡ false
     → (g : Forest) × (s .tree ≡ node k g)
 node-there {k} {f} s h =
-    as-node (s .tree) k (s .spells) (kind-spelt (s .tree) (s .spells) ∙ eqb-true _ k (first-picked (isOf k) f (s .tree) (s .is))) h
+    as-node (s .tree) k (s .spells) (kind-spelt (s .tree) (s .spells) ∙ eqb-true _ k (first-picked (isOf k) f (s .is))) h
 
 -- what looking among its children asks
 pub children-ask :

@@ -1,13 +1,9 @@
 -- Three texts one after the other.
-use mathlib.Core.Path.{sym, subst}
 use mathlib.Core.List.{List, _++_}
 use Prim.Native.Nat.{ℕ, _≤_}
 use lib.ListN.{length}
 use Rattle.text.specs.Writing.{cap, Wrote}
-use Rattle.text.proofs.Writing.{wrote-then, wrote-long}
-
-pub wrote-room : {at : ℕ} {out w : List ℕ} {at′ : ℕ} {out′ : List ℕ} → Wrote at out w at′ out′ → length out ≤ cap → length out′ ≤ cap
-wrote-room p h = subst (λ (n : ℕ). n ≤ cap) (sym (wrote-long p)) h
+use Rattle.text.proofs.Writing.{wrote-then, wrote-room}
 
 pub wrote-three :
     {at : ℕ} {out w : List ℕ} {at₁ : ℕ} {out₁ v : List ℕ} {at₂ : ℕ} {out₂ u : List ℕ} {at₃ : ℕ} {out₃ : List ℕ} → length out ≤ cap

@@ -1,17 +1,17 @@
 -- The children of the first ItemBegin: it is a node, so its rows past the first and its text spell them exactly.
 use mathlib.Core.Path.{_≡_, refl, sym, ap, subst, _∙_}
-use mathlib.Core.Bool.{Bool, true, false, cond}
+use mathlib.Core.Bool.{false}
 use mathlib.Core.Option.Option.{none as nothing, some}
 use mathlib.Core.List.{List, []}
 use Prim.Native.Nat.{ℕ, _+_, _-_, _≤_}
 use native.Mathlib.Omega.{arith}
+use Rattle.mitex_syntax.proofs.Seeking.{first-picked}
 use borrow.Author.Tests.{eqb-true}
 use lib.ListN.{take, drop}
-use Rattle.text.proofs.Compare.{by-test}
 use Rattle.mitex_syntax.specs.Syntax.{ItemBegin, isToken}
 use Rattle.mitex_syntax.specs.Tree.{Tree, Forest, sizes, size, rowsOf, textOf, kindOf}
 use Rattle.mitex_syntax.specs.Tree.Tree.{token, node}
-use Rattle.mitex_syntax.specs.Tree.Forest.{none, more}
+use Rattle.mitex_syntax.specs.Tree.Forest.{none}
 use Rattle.mitex_syntax.specs.Views.{firstBy, offsetOf, isOf, childrenOf, childrenIn, beginOf}
 use Rattle.mitex_syntax.specs.Spells.{Sound, Spells, SpellsAll, Begins}
 use Rattle.mitex_syntax.specs.Places.{Stands}
@@ -22,15 +22,6 @@ use Rattle.mitex_state.specs.Children.{each}
 use Rattle.mitex_state.specs.Parts.{BeginFound}
 use Rattle.mitex_state.proofs.Outcomes.{shift-shift}
 use Rattle.mitex_state.proofs.Loops.{each-at, each-none}
-
--- what was found passes the test
-first-picked : (p : Tree → Bool) (f : Forest) {t : Tree} → firstBy p f ≡ some t → p t ≡ true
-unfolding firstBy
-first-picked p none e = let z : _≡_ {A = ℕ} 0 1 = cc in absurd (omega arith)
-first-picked p (more u g) {t} e =
-    by-test (p u)
-    (λ h. let q : u ≡ t = cc (ap (λ (b : Bool). cond b (some u) (firstBy p g)) h) in ap p (sym q) ∙ h)
-    (λ h. first-picked p g (sym (ap (λ (b : Bool). cond b (some u) (firstBy p g)) h) ∙ e))
 
 -- what the children of a node begin with, they are
 node-exact : (t : Tree) {k : ℕ} {g : Forest} {l v m : List ℕ} → Spells t l v → Begins (childrenOf t) m v → t ≡ node k g → SpellsAll (childrenOf t) m v

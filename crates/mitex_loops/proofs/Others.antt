@@ -2,7 +2,7 @@
 -- those that are left (`Hopped`).
 use mathlib.Core.Path.{_≡_, refl, sym, ap, _∙_}
 use mathlib.Core.Bool.{Bool, true, false, _||_, not}
-use mathlib.Core.List.{List, _++_}
+use mathlib.Core.List.{List}
 use Prim.Native.Nat.{ℕ, _+_, _*_, _≤_, _<_}
 use native.Mathlib.Omega.{arith}
 use borrow.Author.Tests.{eq-eqb, ne-eqb}
@@ -12,10 +12,10 @@ use lib.Seq.{drop-at, drop-drop, getD-drop}
 use Rattle.text.specs.Writing.{cap}
 use Rattle.mitex_syntax.specs.Syntax.{ClauseCommandName}
 use Rattle.mitex_syntax.specs.Tree.{Tree, Forest, size, kindOf, rowsOf, rowsOfs}
-use Rattle.mitex_syntax.specs.Tree.Tree.{token, node}
 use Rattle.mitex_syntax.specs.Tree.Forest.{none, more}
 use Rattle.mitex_syntax.specs.Rows.{extentOf}
 use Rattle.mitex_syntax.proofs.Trees.{length-rows, extent-tree, size-some, no-left}
+use Rattle.mitex_syntax.proofs.Seeking.{kind-first}
 use Rattle.mitex_state.specs.Children.{follows, othersFollow}
 
 -- ---- whether a child follows
@@ -45,11 +45,6 @@ record Next (rows : List ℕ) (rest : Forest) : Type 0 where
   inside : 8 * size tree ≤ length rows
   kind : getD rows 0 0 ≡ kindOf tree
   behind : drop (8 * size tree) rows ≡ rowsOfs others
-
-kind-first : (t : Tree) (r : List ℕ) → getD (rowsOf t ++ r) 0 0 ≡ kindOf t
-unfolding rowsOf
-kind-first (token k s) r = refl
-kind-first (node k f) r = refl
 
 next : (rest : Forest) {rows : List ℕ} → rows ≡ rowsOfs rest → 0 < length rows → length rows < cap → Next rows rest
 unfolding rowsOf

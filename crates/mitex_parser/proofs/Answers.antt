@@ -1,6 +1,6 @@
 -- From the parts of the check to its answer: rows that are lines, lines that grow, a root over its blocks, its depth and its shape.
 use mathlib.Core.Path.{_≡_, refl, sym, ap, subst, _∙_}
-use mathlib.Core.Bool.{Bool, true, false, _&&_, cond}
+use mathlib.Core.Bool.{Bool, true, false, _&&_, cond, true≢false}
 use mathlib.Core.Option.{Option}
 use mathlib.Core.Option.Option.{none as nothing, some}
 use mathlib.Core.List.{List, [], append-nil}
@@ -34,16 +34,13 @@ use Rattle.mitex_parser.proofs.Rows.{Read, lines-sound}
 use Rattle.mitex_parser.proofs.Decode.{Trailed, decode-by, decode-not, bytes-all, text-all, sound-forest}
 use Rattle.mitex_parser.proofs.Shapes.{shape-breaks, shape-right}
 
-no-bool : {A : Type 0} → true ≡ false → A
-no-bool e = absurd (let z : _≡_ {A = ℕ} 0 1 = cc in omega arith)
-
 pub is-some : {A : Type 0} (o : Option A) (b : Bool) → b ≡ isSome o → b ≡ true → (a : A) × (o ≡ some a)
-is-some nothing b e h = no-bool (sym h ∙ e)
+is-some nothing b e h = absurd (true≢false (sym h ∙ e))
 is-some (some a) b e h = (a, refl)
 
 is-none : {A : Type 0} (o : Option A) (b : Bool) → b ≡ isSome o → b ≡ false → o ≡ nothing
 is-none nothing b e h = refl
-is-none (some a) b e h = no-bool (sym e ∙ h)
+is-none (some a) b e h = absurd (true≢false (sym e ∙ h))
 
 -- ---- rows that are lines
 

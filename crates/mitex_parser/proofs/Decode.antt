@@ -1,20 +1,19 @@
 -- `decode` and `fileOf` are each other's inverse: the definition that computes gives t exactly where the file is that of t, within
 -- the limits. Read the trailer, then the rows (Rows), then let them grow (Grow).
 use mathlib.Core.Path.{_≡_, refl, sym, ap, subst, _∙_}
-use mathlib.Core.Bool.{Bool, true, false, _&&_, cond}
+use mathlib.Core.Bool.{Bool, true, false, _&&_, cond, and-eq-true-iff}
 use mathlib.Core.Option.{Option}
 use mathlib.Core.Option.Option.{none as nothing, some}
 use mathlib.Core.List.{List, [], _∷_, _++_, append-assoc, append-nil}
 use Prim.Native.Nat.{ℕ, _+_, _*_, _-_, _≤_, _<_}
 use native.Mathlib.Omega.{arith}
-use native.Mathlib.Decide.{decLt}
 use lib.Dec.{eqb, leb}
 use borrow.Author.Tests.{eq-eqb, le-leb, eqb-true, leb-true}
-use lib.ListN.{length, take, drop, getD, length-append, length-drop, take-append-drop, length-take, drop-of-length-le, List·getD-eq-default}
-use lib.Seq.{take-at, drop-at, take-append-seam, drop-append-seam, drop-drop, getD-take}
+use lib.ListN.{length, take, drop, length-append, length-drop, take-append-drop, length-take}
+use lib.Seq.{take-at, drop-at, take-append-seam, drop-append-seam, drop-drop}
 use Rattle.text.specs.Numbers.{Bytes, four, fourAt}
 use Rattle.text.specs.Writing.{cap}
-use Rattle.text.proofs.Numbers.{bytes-drop, four-says, four-of}
+use Rattle.text.proofs.Numbers.{bytes-take, bytes-drop, four-says, eight-fours}
 use Rattle.mitex_syntax.specs.Syntax.{ScopeRoot}
 use Rattle.mitex_syntax.specs.Tree.{Tree, Forest, size, sizes, rowsOf, rowsOfs, textOf, textsOf, count, fileOf}
 use Rattle.mitex_syntax.specs.Tree.Tree.{token, node}
@@ -24,7 +23,7 @@ use Rattle.mitex_syntax.proofs.Trees.{length-rows}
 use Rattle.mitex_parser.specs.Layout.{fileMost, blocksMost, Line, lines, grow, grows, root, decode, Rooted, Laid, trailed, startOf, countOf, textArea, rowArea}
 use Rattle.mitex_parser.specs.Parts.{bytesOf, textsIn, Fits}
 use Rattle.mitex_parser.proofs.Grow.{no-some, linesOf, linesOfs, grow-sound, grow-complete, length-lines}
-use Rattle.mitex_parser.proofs.Rows.{Read, eight, and-split, lines-sound, lines-complete}
+use Rattle.mitex_parser.proofs.Rows.{Read, lines-sound, lines-complete}
 
 mutual
   unfolding rowsOf linesOf bytesOf
@@ -90,7 +89,7 @@ mutual
 
 -- the root
 root-node : (k : ℕ) (f : Forest) (t : Tree) (b : Bool) → eqb k ScopeRoot && leb (count f) blocksMost ≡ b → cond b (some (node k f)) nothing ≡ some t → (node k f ≡ t) × (k ≡ ScopeRoot) × (count f ≤ blocksMost)
-root-node k f t true e q = let w = and-split _ _ e in (cc, eqb-true k ScopeRoot (w .0), leb-true _ _ (w .1))
+root-node k f t true e q = let w = and-eq-true-iff _ _ .0 e in (cc, eqb-true k ScopeRoot (w .0), leb-true _ _ (w .1))
 root-node k f t false e q = absurd (no-some q)
 
 pub root-sound : (o : Option Forest) (t : Tree) → root o ≡ some t → (o ≡ some (more t none)) × Rooted t
@@ -114,8 +113,8 @@ pub record Trailed (b : List ℕ) : Type 0 where
 
 trailed-sound : (b : List ℕ) → trailed b ≡ true → Trailed b
 trailed-sound b e =
-    let w = and-split (leb 8 (length b)) (leb (length b) fileMost && eqb (startOf b + 8 * countOf b + 8) (length b)) e in
-    let v = and-split (leb (length b) fileMost) (eqb (startOf b + 8 * countOf b + 8) (length b)) (w .1) in
+    let w = and-eq-true-iff (leb 8 (length b)) (leb (length b) fileMost && eqb (startOf b + 8 * countOf b + 8) (length b)) .0 e in
+    let v = and-eq-true-iff (leb (length b) fileMost) (eqb (startOf b + 8 * countOf b + 8) (length b)) .0 (w .1) in
     record { long = leb-true 8 (length b) (w .0); short = leb-true (length b) fileMost (v .0); sum = eqb-true (startOf b + 8 * countOf b + 8) (length b) (v .1) }
 
 trailed-complete : (b : List ℕ) → Trailed b → trailed b ≡ true
@@ -143,15 +142,6 @@ decode-some b t e =
     [ true ↦ λ p q. trailed-sound b p | false ↦ λ p q. absurd (no-some q) ] in
     go (trailed b) refl e
 
--- the last eight bytes are the trailer
-last-eight : (l : List ℕ) → Bytes l → length l ≡ 8 → l ≡ four (fourAt 0 l) (four (fourAt 4 l) [])
-last-eight l by h =
-    let z : drop 8 l ≡ [] = drop-of-length-le l {i = 8} (omega arith) in
-    eight l (omega arith)
-    ∙ ap (λ x. getD l 0 0 ∷ getD l 1 0 ∷ getD l 2 0 ∷ getD l 3 0 ∷ getD l 4 0 ∷ getD l 5 0 ∷ getD l 6 0 ∷ getD l 7 0 ∷ x) z
-    ∙ ap (λ x. getD l 0 0 ∷ getD l 1 0 ∷ getD l 2 0 ∷ getD l 3 0 ∷ x) (sym (four-of (getD l 4 0) (getD l 5 0) (getD l 6 0) (getD l 7 0) [] (by 4) (by 5) (by 6) (by 7)))
-    ∙ sym (four-of (getD l 0 0) (getD l 1 0) (getD l 2 0) (getD l 3 0) (four (fourAt 4 l) []) (by 0) (by 1) (by 2) (by 3))
-
 pub areas : (b : List ℕ) → Bytes b → Trailed b → b ≡ textArea b ++ (rowArea b ++ four (startOf b) (four (countOf b) []))
 areas b by h =
     let s = startOf b in let c = countOf b in
@@ -159,20 +149,13 @@ areas b by h =
     let d : drop (8 * c) (drop s b) ≡ drop (length b - 8) b = drop-drop (8 * c) s b ∙ ap (λ n. drop n b) (let e : s + 8 * c ≡ length b - 8 = omega arith in e) in
     let l8 : length (drop (length b - 8) b) ≡ 8 = length-drop (length b - 8) b ∙ (let q = h .long in omega arith) in
     sym (take-append-drop s b)
-    ∙ ap (λ x. textArea b ++ x) (sym (take-append-drop (8 * c) (drop s b)) ∙ ap (λ x. rowArea b ++ x) (d ∙ last-eight (drop (length b - 8) b) (bytes-drop (length b - 8) b by) l8))
+    ∙ ap (λ x. textArea b ++ x) (sym (take-append-drop (8 * c) (drop s b)) ∙ ap (λ x. rowArea b ++ x) (d ∙ eight-fours (drop (length b - 8) b) (bytes-drop (length b - 8) b by) l8))
 
 pub length-rowArea : (b : List ℕ) → Trailed b → length (rowArea b) ≡ 8 * countOf b
 length-rowArea b h = length-take (8 * countOf b) (drop (startOf b) b) ∙ (let q = h .sum in omega (arith, length-drop (startOf b) b))
 
 pub length-textArea : (b : List ℕ) → Trailed b → length (textArea b) ≡ startOf b
 length-textArea b h = length-take (startOf b) b ∙ (let q = h .sum in omega arith)
-
-pub bytes-take : (n : ℕ) (l : List ℕ) → Bytes l → Bytes (take n l)
-bytes-take n l h i =
-    elim (decLt i n) [
-      | yes lt ↦ subst (λ x. x < 256) (sym (getD-take n l i 0 lt)) (h i)
-      | no ge ↦ subst (λ x. x < 256) (sym (List·getD-eq-default (take n l) 0 {n = i} (let q : n ≤ i = omega arith in omega (arith, length-take n l)))) (omega arith)
-    ]
 
 pub bytes-rows : (b : List ℕ) → Bytes b → Bytes (rowArea b)
 bytes-rows b by = bytes-take (8 * countOf b) (drop (startOf b) b) (bytes-drop (startOf b) b by)

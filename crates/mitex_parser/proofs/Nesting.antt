@@ -8,9 +8,10 @@ use mathlib.Core.List.{List, [], _∷_, _++_}
 use Prim.Native.Nat.{ℕ, zero, suc, _+_, _*_, _-_, _≤_, _<_, max}
 use native.Mathlib.Omega.{arith}
 use native.Mathlib.Decide.{decLe}
+use Rattle.text.proofs.Writing.{part-rest}
 use borrow.Author.Tests.{ne-eqb, le-leb, lt-leb}
 use lib.ListN.{length, take, drop, length-drop, take-append-drop, length-take}
-use lib.Seq.{take-at, drop-at, take-all, drop-drop}
+use lib.Seq.{take-at, drop-at, drop-drop}
 use Rattle.text.specs.Numbers.{four}
 use Rattle.text.proofs.Numbers.{four-says}
 use Rattle.mitex_syntax.specs.Tree.{Tree, Forest, size, sizes}
@@ -205,13 +206,6 @@ at-grows {ls} {left} {rest} {n} a h =
 pub at-broken : {ls : List Line} {left : ℕ} {rest : List ℕ} {n : ℕ} → (a : At ls left rest n) → 8 + 8 * n ≤ length rest → grow (take n (a .ns)) ≡ nothing → grow ls ≡ nothing
 at-broken {ls} {left} {rest} {n} a h e = at-grows a h ∙ ap (λ o. before (a .done) (built (a .line) (pair o (grow (drop n (a .ns)))))) e
 
--- a part up to the end
-pub part-past : (r : List ℕ) (e : ℕ) → take (length r - e) (drop e r) ≡ drop e r
-part-past r e = take-all (length r - e) (drop e r) (omega (arith, length-drop e r))
-
-pub past-length : (r : List ℕ) (e : ℕ) → length (take (length r - e) (drop e r)) ≡ length r - e
-past-length r e = ap length (part-past r e) ∙ length-drop e r
-
 pub child-length : (r : List ℕ) (n : ℕ) → 8 + 8 * n ≤ length r → length (take (8 + 8 * n - 8) (drop 8 r)) ≡ 8 * n
 child-length r n h = length-take (8 + 8 * n - 8) (drop 8 r) ∙ omega (arith, length-drop 8 r)
 
@@ -240,7 +234,7 @@ at-next {ls} {left} {rest} {n} a h one w =
     record {
       ms = drop n (a .ns);
       done = join (a .done) (more t none);
-      spelt = part-past rest (8 + 8 * n) ∙ at-past a h;
+      spelt = part-rest rest (8 + 8 * n) ∙ at-past a h;
       fit = fits-past n (a .ns) (a .fit);
       same = at-grows a h ∙ ap (λ o. before (a .done) (built (a .line) (pair o (grow (drop n (a .ns)))))) (w .1 .0) ∙ over-child (a .line) (a .done) g (grow (drop n (a .ns)));
       low = let p = depth-child (a .line) g left one (w .1 .1) in let q = a .low in omega (arith, depths-join (a .done) (more t none));
@@ -426,7 +420,7 @@ hop-next {n} {f} {left} {rest} {m} a h lt =
     record {
       ms = drop m (a .ns);
       g = t .others;
-      spelt = part-past rest (8 + 8 * m) ∙ sym (drop-drop (8 * m) 8 rest) ∙ ap (λ r. drop (8 * m) (drop 8 r)) (a .spelt) ∙ ap (drop (8 * m)) (bytes-one (a .line) (a .ns)) ∙ bytes-past (a .ns) m (omega arith);
+      spelt = part-rest rest (8 + 8 * m) ∙ sym (drop-drop (8 * m) 8 rest) ∙ ap (λ r. drop (8 * m) (drop 8 r)) (a .spelt) ∙ ap (drop (8 * m)) (bytes-one (a .line) (a .ns)) ∙ bytes-past (a .ns) m (omega arith);
       fit = fits-past m (a .ns) (a .fit);
       grown = ap (λ k. grow (drop k (a .ns))) y ∙ t .grown;
       same = a .same ∙ ap (λ x. isSome (split left x)) (t .is) ∙ split-past (t .tree) (t .others) left (omega arith) (omega arith)
@@ -493,7 +487,7 @@ rest-at {ls} {rest} w h n e b k =
     let go : (ms : List Line) → rest ≡ bytesOf ms → Fits ms → isSome (grow ls) ≡ isSome (grow ms) → RestAt ls rest b = λ ms. elim ms [
       | [] ↦ λ p q r. absurd (omega (arith, ap length p))
       | _∷_ l ns ↦ λ p q r.
-          let d : take (length rest - 8) (drop 8 rest) ≡ bytesOf ns = part-past rest 8 ∙ ap (drop 8) p ∙ bytes-one l ns in
+          let d : take (length rest - 8) (drop 8 rest) ≡ bytesOf ns = part-rest rest 8 ∙ ap (drop 8) p ∙ bytes-one l ns in
           let m : n ≡ below l = e ∙ ap underOf p ∙ under-is l ns q in
           let fit = fits-drop l ns q in
           record { line = l; ns = ns; spelt = d; fit = fit; same = r; landing = λ f g. k ns f d fit g ∙ ap (λ x. isSome (split x f)) m }

@@ -3,6 +3,7 @@ use mathlib.Core.Path.{_≡_, sym, ap, subst, _∙_, refl}
 use mathlib.Core.List.{List, append-nil}
 use Prim.Native.Nat.{ℕ, _+_, _*_, _-_, _≤_, _<_}
 use native.Mathlib.Omega.{arith}
+use Rattle.text.proofs.Writing.{part-rest}
 use borrow.Author.Tests.{eq-eqb, ne-eqb, le-leb, lt-leb}
 use lib.ListN.{length, take, drop, getD, length-append}
 use lib.Seq.{drop-at}
@@ -15,7 +16,6 @@ use Rattle.mitex_syntax.proofs.Trees.{length-rows, size-some, extent-tree}
 use Rattle.mitex_parser.specs.Layout.{fileMost, blocksMost}
 use Rattle.mitex_parser.specs.Parts.{blocksIn}
 use Rattle.mitex_parser.specs.declared.Blocks.the-variants.{Amiss, Are}
-use Rattle.mitex_parser.proofs.Nesting.{part-past}
 
 -- ---- counting
 
@@ -50,7 +50,7 @@ trees-at {f} {rest} {m} w h lo end e =
             inside = omega arith;
             next = record {
               g = u;
-              spelt = part-past rest end ∙ ap (drop end) p ∙ drop-at (rowsOf t) (rowsOfs u) end (omega arith);
+              spelt = part-rest rest end ∙ ap (drop end) p ∙ drop-at (rowsOf t) (rowsOfs u) end (omega arith);
               same = q ∙ omega arith;
             };
           }
@@ -128,7 +128,7 @@ root-of (more (node k c) none) l e h lo kd mk n d q =
     let x = eq-eqb k ScopeRoot (sym (ap (λ x. getD x 0 0) e) ∙ kd) in
     record {
       blocks = c;
-      spelt = part-past l 8 ∙ ap (drop 8) e ∙ append-nil (rowsOfs c);
+      spelt = part-rest l 8 ∙ ap (drop 8) e ∙ append-nil (rowsOfs c);
       few = λ m p le. let y = le-leb (count c) blocksMost (subst (λ v. v ≤ blocksMost) p le) in ap Are p ∙ rw (x, y);
       many = λ m p gt. let y = lt-leb (count c) blocksMost (subst (λ v. blocksMost < v) p gt) in rw (x, y);
     }

@@ -1,7 +1,7 @@
 -- `lines` and `bytesOf` are each other's inverse: rows that are read one by one are the bytes of what was read, and the bytes of
 -- rows that fit are read as these.
 use mathlib.Core.Path.{_≡_, refl, sym, ap, subst, _∙_}
-use mathlib.Core.Bool.{Bool, true, false, _&&_, cond}
+use mathlib.Core.Bool.{Bool, true, false, _&&_, cond, and-eq-true-iff}
 use mathlib.Core.Option.{Option}
 use mathlib.Core.Option.Option.{none as nothing, some}
 use mathlib.Core.List.{List, [], _∷_, _++_}
@@ -13,7 +13,7 @@ use lib.ListN.{length, take, drop, getD, length-append, length-drop, take-append
 use lib.Seq.{take-append-seam, drop-append-seam}
 use Rattle.text.specs.Numbers.{Bytes, four, fourAt}
 use Rattle.text.specs.Writing.{cap}
-use Rattle.text.proofs.Numbers.{bytes-drop, four-says, four-of}
+use Rattle.text.proofs.Numbers.{eight, bytes-drop, four-says, four-of}
 use Rattle.mitex_syntax.specs.Syntax.{isNode}
 use Rattle.mitex_syntax.specs.Spells.{tokenFits}
 use Rattle.mitex_parser.specs.Layout.{Line, lines, rowAt, ahead, after, taken}
@@ -22,18 +22,6 @@ use Rattle.mitex_parser.specs.Parts.{bytesOf, textsIn, Fits}
 use Rattle.mitex_parser.specs.declared.Row.{Row}
 use Rattle.mitex_parser.specs.declared.Row.the-variants.{Bad, Token, Node}
 use Rattle.mitex_parser.proofs.Grow.{no-some}
-
--- the eight bytes of a row
-pub eight : (l : List ℕ) → 8 ≤ length l → l ≡ getD l 0 0 ∷ getD l 1 0 ∷ getD l 2 0 ∷ getD l 3 0 ∷ getD l 4 0 ∷ getD l 5 0 ∷ getD l 6 0 ∷ getD l 7 0 ∷ drop 8 l
-eight [] h = absurd (omega arith)
-eight (k ∷ []) h = absurd (omega arith)
-eight (k ∷ m ∷ []) h = absurd (omega arith)
-eight (k ∷ m ∷ y ∷ []) h = absurd (omega arith)
-eight (k ∷ m ∷ y ∷ z ∷ []) h = absurd (omega arith)
-eight (k ∷ m ∷ y ∷ z ∷ a ∷ []) h = absurd (omega arith)
-eight (k ∷ m ∷ y ∷ z ∷ a ∷ b ∷ []) h = absurd (omega arith)
-eight (k ∷ m ∷ y ∷ z ∷ a ∷ b ∷ c ∷ []) h = absurd (omega arith)
-eight (k ∷ m ∷ y ∷ z ∷ a ∷ b ∷ c ∷ d ∷ l) h = refl
 
 pub four-low : (a b c d : ℕ) → a < 256 → b < 256 → c < 256 → d < 256 → a + 256 * b + 65536 * c + 16777216 * d < cap
 four-low a b c d ha hb hc hd = omega arith
@@ -53,10 +41,6 @@ pub record IsNode (rows : List ℕ) (m : ℕ) : Type 0 where
   pub zero3 : getD rows 3 0 ≡ 0
   pub number : m ≡ fourAt 4 rows
   pub kind : T (isNode (getD rows 0 0))
-
-pub and-split : (a b : Bool) → a && b ≡ true → (a ≡ true) × (b ≡ true)
-and-split true b e = (refl, e)
-and-split false b e = absurd (let z : _≡_ {A = ℕ} 0 1 = cc in omega arith)
 
 is-T : (a : Bool) → a ≡ true → T a
 is-T a e = subst T (sym e) tt
@@ -80,11 +64,11 @@ row-tests : (rows text : List ℕ) (z m f g : Bool)
 row-tests rows text false m f g ez em ef eg = tt
 row-tests rows text true true false g ez em ef eg = tt
 row-tests rows text true true true g ez em ef eg =
-    let z = and-split _ _ ez in let h = and-split _ _ ef in
+    let z = and-eq-true-iff _ _ .0 ez in let h = and-eq-true-iff _ _ .0 ef in
     record { mark = eqb-true _ _ em; zero2 = eqb-true _ _ (z .0); zero3 = eqb-true _ _ (z .1); number = refl; room = leb-true _ _ (h .0); fits = is-T _ (h .1) }
 row-tests rows text true false f false ez em ef eg = tt
 row-tests rows text true false f true ez em ef eg =
-    let z = and-split _ _ ez in let h = and-split _ _ eg in
+    let z = and-eq-true-iff _ _ .0 ez in let h = and-eq-true-iff _ _ .0 eg in
     record { mark = eqb-true _ _ (h .0); zero2 = eqb-true _ _ (z .0); zero3 = eqb-true _ _ (z .1); number = refl; kind = is-T _ (h .1) }
 
 pub row-says : (rows text : List ℕ) (r : Row) → rowAt rows text ≡ r → RowSays rows text r

@@ -7,6 +7,7 @@ use mathlib.Core.List.{List, [], _∷_}
 use Prim.Native.Nat.{ℕ, zero, suc, _*_, _-_, _≤_, _<_}
 use native.Mathlib.Omega.{arith}
 use lib.Dec.{eqb}
+use Rattle.text.proofs.Writing.{part-rest}
 use borrow.Author.Tests.{ne-eqb}
 use lib.ListN.{length, take, drop, length-drop}
 use Rattle.mitex_parser.specs.Layout.{Line, rowAt, taken, ahead, after, lines}
@@ -14,7 +15,6 @@ use Rattle.mitex_parser.specs.Shape.{isSome}
 use Rattle.mitex_parser.specs.Parts.{isBad}
 use Rattle.mitex_parser.specs.declared.Row.{Row}
 use Rattle.mitex_parser.specs.declared.Row.the-variants.{Bad, Token, Node}
-use Rattle.mitex_parser.proofs.Nesting.{part-past}
 use Rattle.mitex_parser.proofs.Rows.{RowSays, row-says}
 
 -- rows read one by one: what is left of them decides
@@ -62,8 +62,8 @@ left-next {n} {rows} {text} {l} {t} w h r e b x ex =
             ∙ ap (λ x. isSome (lines k (drop 8 l) (drop (taken x) t))) (sym e);
       }
     ] in
-    subst (λ y. Left n rows text y (take (length t - x) (drop x t))) (sym (part-past l 8))
-    (subst (λ y. Left n rows text (drop 8 l) y) (ap (λ z. drop z t) (sym ex) ∙ sym (part-past t x))
+    subst (λ y. Left n rows text y (take (length t - x) (drop x t))) (sym (part-rest l 8))
+    (subst (λ y. Left n rows text (drop 8 l) y) (ap (λ z. drop z t) (sym ex) ∙ sym (part-rest t x))
     (go (w .rest) (w .so-many) (w .same)))
 
 pub left-end : {n : ℕ} {rows text l t : List ℕ} → Left n rows text l t → length l < 8 → eqb (length t) 0 ≡ isSome (lines n rows text)

@@ -1,7 +1,7 @@
 -- The scan for shape goes row by row. Behind the row of a node come the rows under it and then those of the elements behind it,
 -- which are elements side by side (`opened`); and what is above a row counts only where it is an ItemBegin or ItemEnd.
 use mathlib.Core.Path.{_≡_, refl, sym, ap, subst, _∙_}
-use mathlib.Core.Bool.{Bool, true, false, _&&_, _||_, cond}
+use mathlib.Core.Bool.{Bool, true, false, _&&_, _||_, cond, true≢false}
 use mathlib.Core.Option.{Option}
 use mathlib.Core.Option.Option.{none as nothing, some}
 use mathlib.Core.List.{List, _++_, append-assoc}
@@ -10,6 +10,7 @@ use native.Mathlib.Omega.{arith}
 use lib.Dec.{T, eqb, leb}
 use native.Mathlib.Decide.{decLe}
 use mathlib.Core.Logic.{dite}
+use Rattle.text.proofs.Writing.{part-rest, rest-length}
 use borrow.Author.Tests.{eq-eqb, ne-eqb, eqb-true, leb-true}
 use lib.ListN.{length, take, drop, getD, length-append, List·getD-append}
 use lib.Seq.{take-at, drop-at}
@@ -30,7 +31,6 @@ use Rattle.mitex_parser.specs.declared.Pass.the-variants.{Broke, Past}
 use Rattle.mitex_parser.specs.declared.Shape.{Shape}
 use Rattle.mitex_parser.specs.declared.Shape.the-variants.{Right, Breaks}
 use Rattle.mitex_parser.proofs.Grow.{join}
-use Rattle.mitex_parser.proofs.Nesting.{part-past, past-length}
 use Rattle.mitex_parser.proofs.Shapes.{token-some, shape-breaks, shape-right}
 
 -- ---- two forests, one after the other
@@ -123,9 +123,6 @@ opened-breaks (node k g) f row e = ap (λ b. orElse (orElse (unless b row) (lowe
 
 -- ---- whether its own row breaks a rule, by its kind
 
-no-truth : {A : Type 0} → true ≡ false → A
-no-truth e = absurd (let z : _≡_ {A = ℕ} 0 1 = cc in omega arith)
-
 kind-first : (t : Tree) (f : Forest) {rows text : List ℕ} → SpellsAll (more t f) rows text → getD rows 0 0 ≡ kindOf t
 unfolding rowsOf
 kind-first (token k s) f sp = ap (λ l. getD l 0 0) (sp .rows-are)
@@ -133,7 +130,7 @@ kind-first (node k g) f sp = ap (λ l. getD l 0 0) (sp .rows-are)
 
 -- a kind without rules is none that has
 unruled : (k m : ℕ) → isRuled k ≡ false → isRuled m ≡ true → eqb k m ≡ false
-unruled k m h r = ne-eqb k m (λ e. no-truth (sym r ∙ ap isRuled (sym e) ∙ h))
+unruled k m h r = ne-eqb k m (λ e. absurd (true≢false (sym r ∙ ap isRuled (sym e) ∙ h)))
 
 unruled-fits : (t : Tree) → isRuled (kindOf t) ≡ false → true ≡ firstFits t
 unruled-fits (token k s) h = rw (unruled k TokenCommandSym h refl)
@@ -158,8 +155,8 @@ ruled-node k h n = go (eqb k ClauseLR) refl
 
     between : (a b : Bool) → leb TokenCommandSym k ≡ a → leb k ItemEnv ≡ b → (a && b) ≡ true → isToken k ≡ false
     between true true p q e = high (leb-true TokenCommandSym k p) (leb-true k ItemEnv q)
-    between true false p q e = no-truth (sym e)
-    between false b p q e = no-truth (sym e)
+    between true false p q e = absurd (true≢false (sym e))
+    between false b p q e = absurd (true≢false (sym e))
 
     go : (a : Bool) → eqb k ClauseLR ≡ a → isToken k ≡ false
     go true p = ap isToken (eqb-true k ClauseLR p)
@@ -369,15 +366,15 @@ module _ {rows text l t : List ℕ} {at : ℕ} (s : Scans rows text l t at) wher
         low = let a = s .asked .few in omega arith;
         next = record {
           asked = s .asked;
-          few = omega (arith, past-length l e);
-          short = omega (arith, past-length t n);
+          few = omega (arith, rest-length l e);
+          short = omega (arith, rest-length t n);
           reach = λ u sp.
               let x = s .reach u sp in
               let y = q .3 (x .forest) (x .spells) in
               record {
                 forest = y .forest;
-                spells = subst (λ a. SpellsAll (y .forest) a (take (length t - n) (drop n t))) (sym (part-past l e))
-                    (subst (λ a. SpellsAll (y .forest) (drop e l) a) (sym (part-past t n)) (y .spells));
+                spells = subst (λ a. SpellsAll (y .forest) a (take (length t - n) (drop n t))) (sym (part-rest l e))
+                    (subst (λ a. SpellsAll (y .forest) (drop e l) a) (sym (part-rest t n)) (y .spells));
                 same = x .same ∙ y .same;
               };
         };

@@ -2,7 +2,7 @@
 -- after the check.
 use mathlib.Core.Path.{_≡_, refl, sym, ap, _∙_}
 use mathlib.Core.Logic.{_⊎_, inl, inr}
-use mathlib.Core.Bool.{Bool, true, false, _&&_}
+use mathlib.Core.Bool.{Bool, true, false, _&&_, and-eq-true-iff}
 use mathlib.Core.Option.{Option}
 use mathlib.Core.Option.Option.{none as nothing, some}
 use mathlib.Core.List.{List}
@@ -18,7 +18,7 @@ use Rattle.mitex_syntax.specs.Tree.Forest.{none, more}
 use Rattle.mitex_syntax.specs.Views.{firstOf, kindIn, textIn, cmdName, beginOf, firstTokens, argumentWith, goodEnds}
 use Rattle.mitex_parser.specs.Shape.{slashed, labelName, includegraphicsName, colorName, symFits, lrFits, isSome, allNodes, endsIn, imageFits, argumentsFit, nodeFits, orElse, unless, lowest, lowests, Shaped, ShapedAll}
 use Rattle.mitex_parser.proofs.Grow.{no-some}
-use Rattle.mitex_parser.proofs.Rows.{and-split, T-is}
+use Rattle.mitex_parser.proofs.Rows.{T-is}
 
 -- ---- no row breaks a rule
 
@@ -140,7 +140,7 @@ lr-shaped up f h = lr-first f (shaped-node up ClauseLR f h)
 
 -- a command has a name that begins with a backslash
 pub cmd-shaped : (up : ℕ) (f : Forest) → Shaped up (node ItemCmd f) → (slashed (cmdName f) ≡ true) × (argumentsFit (cmdName f) f ≡ true)
-cmd-shaped up f h = and-split (slashed (cmdName f)) (argumentsFit (cmdName f) f) (shaped-node up ItemCmd f h)
+cmd-shaped up f h = and-eq-true-iff (slashed (cmdName f)) (argumentsFit (cmdName f) f) .0 (shaped-node up ItemCmd f h)
 
 module _ (up : ℕ) (f : Forest) (h : Shaped up (node ItemCmd f)) where
   pub label-shaped : same (cmdName f) labelName ≡ true → goodEnds (textIn (firstOf ClauseArgument f)) ≡ true
@@ -150,8 +150,8 @@ module _ (up : ℕ) (f : Forest) (h : Shaped up (node ItemCmd f)) where
       → (allNodes f ≡ true) × (goodEnds (textIn (argumentWith ItemCurly f)) ≡ true) × (endsIn (argumentWith ItemBracket f) ≡ true)
   image-shaped a e =
       let i : imageFits f ≡ true = sym (rw (a, e)) ∙ cmd-shaped up f h .1 in
-      let w = and-split (allNodes f) (goodEnds (textIn (argumentWith ItemCurly f)) && endsIn (argumentWith ItemBracket f)) i in
-      let v = and-split (goodEnds (textIn (argumentWith ItemCurly f))) (endsIn (argumentWith ItemBracket f)) (w .1) in
+      let w = and-eq-true-iff (allNodes f) (goodEnds (textIn (argumentWith ItemCurly f)) && endsIn (argumentWith ItemBracket f)) .0 i in
+      let v = and-eq-true-iff (goodEnds (textIn (argumentWith ItemCurly f))) (endsIn (argumentWith ItemBracket f)) .0 (w .1) in
       (w .0, v .0, v .1)
 
   pub color-shaped : same (cmdName f) labelName ≡ false → same (cmdName f) includegraphicsName ≡ false → same (cmdName f) colorName ≡ true

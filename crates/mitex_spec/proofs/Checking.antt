@@ -23,9 +23,6 @@ use Rattle.mitex_spec.specs.Index.{startsFrom, accepted}
 use Rattle.mitex_spec.proofs.RuleFile.{Fits, row-says}
 
 -- what is left of a slice from k on
-pub rest-length : (l : List ℕ) (k : ℕ) → length (take (length l - k) (drop k l)) ≡ length l - k
-rest-length l k = ap length (part-rest l k) ∙ length-drop k l
-
 -- ---- one row
 
 pub alias-absent : (rows : List ℕ) (m : ℕ) → m ≡ twoAt 2 rows → m ≡ noAlias → 0 ≡ aliasLength rows

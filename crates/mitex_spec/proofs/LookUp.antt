@@ -2,7 +2,7 @@
 -- name itself (`get-rank`). Where a rule's row and texts stand in the file follows from `file-rules`: the file is what the
 -- rules before, the rule and the rules after it are written as (`located`).
 use mathlib.Core.Path.{_≡_, refl, sym, ap, subst, _∙_}
-use mathlib.Core.Bool.{Bool, true, false, _&&_, not, cond, true≢false}
+use mathlib.Core.Bool.{Bool, true, false, _&&_, not, cond, true≢false, and-eq-true-iff}
 use mathlib.Core.Option.{Option}
 use mathlib.Core.Option.Option.{none, some}
 use mathlib.Core.List.{List, [], _∷_, _++_, append-assoc}
@@ -22,7 +22,7 @@ use Rattle.mitex_spec.specs.Index.{offsetsFrom, ruleNo, rankOf, SomeRule
 use Rattle.mitex_spec.specs.LookUp.{aliasOf, ruleOf, endOf, isCmd, Finds}
 use Rattle.mitex_spec.specs.declared.Found.{Found}
 use Rattle.mitex_spec.specs.declared.Found.the-variants.{Absent, Plain, Aliased}
-use Rattle.mitex_spec.proofs.RuleFile.{and-split, ruleRow-reads, length-rows, file-rules}
+use Rattle.mitex_spec.proofs.RuleFile.{ruleRow-reads, length-rows, file-rules}
 use Rattle.mitex_spec.proofs.Index.{length-offsets, rules-one}
 
 -- ---- names that rise
@@ -30,14 +30,14 @@ use Rattle.mitex_spec.proofs.Index.{length-offsets, rules-one}
 rises-tail : (r : Rule) (rs : List Rule) → rises (r ∷ rs) ≡ true → rises rs ≡ true
 unfolding risesFrom
 rises-tail r [] e = refl
-rises-tail r (s ∷ rs) e = and-split (precedes (r .name) (s .name)) (risesFrom (s .name) rs) e .1
+rises-tail r (s ∷ rs) e = and-eq-true-iff (precedes (r .name) (s .name)) (risesFrom (s .name) rs) .0 e .1
 
 rises-far : (rs : List Rule) (name : List ℕ) (k : ℕ) → risesFrom name rs ≡ true → k < length rs → precedes name (ruleNo rs k .name) ≡ true
 unfolding risesFrom
 rises-far [] name k e h = absurd (omega arith)
-rises-far (r ∷ rs) name zero e h = and-split (precedes name (r .name)) (risesFrom (r .name) rs) e .0
+rises-far (r ∷ rs) name zero e h = and-eq-true-iff (precedes name (r .name)) (risesFrom (r .name) rs) .0 e .0
 rises-far (r ∷ rs) name (suc k) e h =
-    let p = and-split (precedes name (r .name)) (risesFrom (r .name) rs) e in
+    let p = and-eq-true-iff (precedes name (r .name)) (risesFrom (r .name) rs) .0 e in
     precedes-trans name (r .name) (ruleNo rs k .name) (p .0) (rises-far rs (r .name) k (p .1) (omega arith))
 
 -- ---- the rank of a name
@@ -86,7 +86,7 @@ get-after : (rs : List Rule) (last name : List ℕ) → risesFrom last rs ≡ tr
 unfolding risesFrom get
 get-after [] last name up e = refl
 get-after (r ∷ rs) last name up e =
-    let p = and-split (precedes last (r .name)) (risesFrom (r .name) rs) up in
+    let p = and-eq-true-iff (precedes last (r .name)) (risesFrom (r .name) rs) .0 up in
     get-cons r rs name false
     (same-differ (r .name) name (λ q. true≢false (sym (ap (precedes last) (sym q) ∙ p .0) ∙ e)))
     ∙ get-after rs (r .name) name (p .1)

@@ -6,21 +6,17 @@ use mathlib.Core.Option.{Option}
 use mathlib.Core.Option.Option.{none, some}
 use mathlib.Core.List.{List, [], _∷_, _++_, append-assoc}
 use Prim.Native.Nat.{ℕ, zero, suc, _+_, _*_, _-_, _≤_, _<_}
-use native.Mathlib.Decide.{decLe}
 use native.Mathlib.Omega.{arith}
-use lib.Dec.{eqb, leb, lit<}
+use lib.Dec.{eqb, leb}
 use borrow.Author.Tests.{eqb-true, leb-true, eq-eqb, ne-eqb, le-leb}
-use lib.ListN.{length, take, drop, getD, length-append, length-take, length-drop, take-append-drop, List·getD-eq-default}
-use lib.Seq.{take-append-seam, drop-append-seam, length-take-le, drop-drop, take-at, drop-at, getD-take}
+use lib.ListN.{length, take, drop, getD, length-append, length-drop, take-append-drop}
+use lib.Seq.{take-append-seam, drop-append-seam, length-take-le, drop-drop, take-at, drop-at}
 use Rattle.text.specs.Numbers.{Bytes, two, four, twoAt, fourAt}
-use Rattle.text.proofs.Numbers.{bytes-drop, two-says, two-of, four-says, four-fourAt, fourAt-drop}
+use Rattle.text.proofs.Numbers.{eight, bytes-take, bytes-drop, two-says, two-of, four-says, fourAt-drop, eight-fours}
 use Rattle.text.proofs.Compare.{by-test}
 use Rattle.utf8.specs.Utf8.{valid}
 use Rattle.mitex_spec.specs.Rules.{Rule, rule}
 use Rattle.mitex_spec.specs.RuleFile.{fileMost, classMost, noAlias, padded, validAlias, ruleFits, allFit, rises, nameLength, aliasLength, taken, aliasAt, ruleAt, rowFits, ahead, rulesIn, rising, startOf, countOf, rulesOf, aliasNumber, aliasText, ruleText, ruleRow, textOfRules, rowsOfRules, fileOfRules}
-
-pub and-split : (a b : Bool) → (a && b) ≡ true → (a ≡ true) × (b ≡ true)
-and-split a b e = and-eq-true-iff a b .0 e
 
 pub and-join : (a b : Bool) → a ≡ true → b ≡ true → (a && b) ≡ true
 and-join a b p q = and-eq-true-iff a b .1 (p, q)
@@ -87,7 +83,7 @@ pub rulesIn-written : (rs : List Rule) → allFit rs ≡ true → length (textOf
 unfolding allFit rulesIn rowsOfRules textOfRules
 rulesIn-written [] fit h = refl
 rulesIn-written (r ∷ rs) fit h =
-    let f = and-split (ruleFits r) (allFit rs) fit in
+    let f = and-eq-true-iff (ruleFits r) (allFit rs) .0 fit in
     let long = length-append (ruleText r) (textOfRules rs) in
     let short : length (ruleText r) < noAlias = omega arith in
     let s = ruleRow-reads r (rowsOfRules rs) (textOfRules rs) short in
@@ -98,19 +94,6 @@ rulesIn-written (r ∷ rs) fit h =
     ∙ ap (ahead r) i
 
 -- ---- a row that fits
-
-eight :
-    (l : List ℕ) → 8 ≤ length l
-    → l ≡ getD l 0 0 ∷ getD l 1 0 ∷ getD l 2 0 ∷ getD l 3 0 ∷ getD l 4 0 ∷ getD l 5 0 ∷ getD l 6 0 ∷ getD l 7 0 ∷ drop 8 l
-eight [] h = absurd (omega arith)
-eight (k ∷ []) h = absurd (omega arith)
-eight (k ∷ m ∷ []) h = absurd (omega arith)
-eight (k ∷ m ∷ y ∷ []) h = absurd (omega arith)
-eight (k ∷ m ∷ y ∷ z ∷ []) h = absurd (omega arith)
-eight (k ∷ m ∷ y ∷ z ∷ a ∷ []) h = absurd (omega arith)
-eight (k ∷ m ∷ y ∷ z ∷ a ∷ b ∷ []) h = absurd (omega arith)
-eight (k ∷ m ∷ y ∷ z ∷ a ∷ b ∷ c ∷ []) h = absurd (omega arith)
-eight (k ∷ m ∷ y ∷ z ∷ a ∷ b ∷ c ∷ d ∷ l) h = refl
 
 -- what the test of a row says
 pub record Fits (rows text : List ℕ) : Type 0 where
@@ -124,10 +107,10 @@ pub row-says : (rows text : List ℕ) → rowFits rows text ≡ true → Fits ro
 unfolding rowFits
 row-says rows text e =
     let r = ruleAt rows text in
-    let a = and-split (padded rows) (leb (taken rows) (length text) && ruleFits r) e in
-    let b = and-split (leb (taken rows) (length text)) (ruleFits r) (a .1) in
-    let c = and-split (leb (r .class) classMost) (valid (r .name) && validAlias (r .alias)) (b .1) in
-    let d = and-split (valid (r .name)) (validAlias (r .alias)) (c .1) in
+    let a = and-eq-true-iff (padded rows) (leb (taken rows) (length text) && ruleFits r) .0 e in
+    let b = and-eq-true-iff (leb (taken rows) (length text)) (ruleFits r) .0 (a .1) in
+    let c = and-eq-true-iff (leb (r .class) classMost) (valid (r .name) && validAlias (r .alias)) .0 (b .1) in
+    let d = and-eq-true-iff (valid (r .name)) (validAlias (r .alias)) .0 (c .1) in
     record { pad = a .0; room = leb-true _ _ (b .0); fits = b .1; low = leb-true _ _ (c .0); name = d .0 }
 
 alias-number : (m : ℕ) (t : List ℕ) → cond (eqb m noAlias) 0 m ≤ length t → aliasNumber (aliasAt m t) ≡ m
@@ -154,8 +137,8 @@ row-written rows text by h f =
     let g : aliasNumber (aliasAt m (drop n text)) ≡ m = alias-number m (drop n text) (simp length-drop (omega arith)) in
     let tail = getD rows 4 0 ∷ 0 ∷ 0 ∷ 0 ∷ drop 8 rows in
     let byte : ℕ → ℕ = λ i. getD rows i 0 in
-    let z = and-split _ _ (f .pad) in
-    let z′ = and-split _ _ (z .1) in
+    let z = and-eq-true-iff _ _ .0 (f .pad) in
+    let z′ = and-eq-true-iff _ _ .0 (z .1) in
     eight rows h
     ∙ ap (λ x. byte 0 ∷ byte 1 ∷ byte 2 ∷ byte 3 ∷ byte 4 ∷ x ∷ byte 6 ∷ byte 7 ∷ drop 8 rows) (eqb-true _ _ (z .0))
     ∙ ap (λ x. byte 0 ∷ byte 1 ∷ byte 2 ∷ byte 3 ∷ byte 4 ∷ 0 ∷ x ∷ byte 7 ∷ drop 8 rows) (eqb-true _ _ (z′ .0))
@@ -183,14 +166,6 @@ pub record Written (n : ℕ) (rows text : List ℕ) (rs : List Rule) : Type 0 wh
   pub rows-are : rows ≡ rowsOfRules rs
   pub text-is : text ≡ textOfRules rs
   pub fit : allFit rs ≡ true
-
-bytes-take : (n : ℕ) (l : List ℕ) → Bytes l → Bytes (take n l)
-bytes-take n l by i =
-    elim (decLe n i) [
-      | yes le ↦
-          subst (λ x. x < 256) (sym (List·getD-eq-default (take n l) 0 {n = i} (omega (arith, length-take n l)))) (lit< tt)
-      | no gt ↦ subst (λ x. x < 256) (sym (getD-take n l i 0 (omega arith))) (by i)
-    ]
 
 no-rules : {rs : List Rule} → none ≡ some rs → ⊥
 no-rules e = let z : _≡_ {A = ℕ} 0 1 = cc in omega arith
@@ -273,8 +248,8 @@ pub record Whole (file : List ℕ) : Type 0 where
 
 whole-says : (file : List ℕ) → whole file ≡ true → Whole file
 whole-says file t =
-    let a = and-split _ _ t in
-    let b = and-split _ _ (a .1) in
+    let a = and-eq-true-iff _ _ .0 t in
+    let b = and-eq-true-iff _ _ .0 (a .1) in
     record { low = leb-true _ _ (a .0); most = leb-true _ _ (b .0); sum = eqb-true _ _ (b .1) }
 
 whole-is : (file : List ℕ) → Whole file → whole file ≡ true
@@ -355,13 +330,6 @@ rising-some (some ms) rs e =
     some-is : {xs ys : List Rule} → some xs ≡ some ys → xs ≡ ys
     some-is e = cc
 
-trailer : (d : List ℕ) → Bytes d → length d ≡ 8 → d ≡ four (fourAt 0 d) (four (fourAt 4 d) [])
-trailer d by l =
-    four-fourAt d by (omega arith)
-    ∙ ap (four (fourAt 0 d)) (four-fourAt (drop 4 d) (bytes-drop 4 d by) (simp length-drop (omega arith)))
-    ∙ ap (λ x. four (fourAt 0 d) (four x (drop 4 (drop 4 d)))) (fourAt-drop 4 0 d)
-    ∙ ap (λ x. four (fourAt 0 d) (four (fourAt 4 d) x)) (drop-drop 4 4 d ∙ lib.ListN.drop-of-length-le d {i = 8} (omega arith))
-
 pub file-rules : (file : List ℕ) (rs : List Rule) → Bytes file → rulesOf file ≡ some rs → Decoded file rs
 unfolding fileOfRules
 file-rules file rs by e =
@@ -375,7 +343,7 @@ file-rules file rs by e =
     let k = startOf file + 8 * countOf file in
     let d = drop k file in
     let tr : d ≡ four (startOf file) (four (countOf file) [])
-    = trailer d (bytes-drop k file by) (length-drop k file ∙ omega arith)
+    = eight-fours d (bytes-drop k file by) (length-drop k file ∙ omega arith)
     ∙ ap (λ x. four x (four (fourAt 4 d) [])) (fourAt-drop k 0 file ∙ ap (λ i. fourAt i file) (omega arith))
     ∙ ap (λ x. four (startOf file) (four x [])) (fourAt-drop k 4 file ∙ ap (λ i. fourAt i file) (omega arith)) in
     let start : startOf file ≡ length (textOfRules rs) = sym lt ∙ ap length (v .text-is) in

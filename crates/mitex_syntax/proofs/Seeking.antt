@@ -7,6 +7,7 @@ use mathlib.Core.Option.Option.{none as nothing, some}
 use mathlib.Core.List.{List, [], _++_, append-nil}
 use Prim.Native.Nat.{ℕ, _+_, _*_, _-_, _≤_, _<_}
 use native.Mathlib.Omega.{arith}
+use Rattle.text.proofs.Compare.{by-test}
 use borrow.Author.Tests.{eq-eqb, ne-eqb}
 use lib.Dec.{eqb}
 use lib.ListN.{length, take, drop, getD, length-append, length-drop}
@@ -21,6 +22,15 @@ use Rattle.mitex_syntax.specs.Views.{firstBy, offsetBy, allBy, fromBy, i
 use Rattle.mitex_syntax.specs.Spells.{Begins}
 use Rattle.mitex_syntax.specs.Places.{Stands}
 use Rattle.mitex_syntax.proofs.Trees.{length-rows, size-some, size-more, left, no-left, getD-here, Element, element, rows-e, text-n, part-spells, past}
+
+-- what was found passes the test
+pub first-picked : (p : Tree → Bool) (f : Forest) {t : Tree} → firstBy p f ≡ some t → p t ≡ true
+unfolding firstBy
+first-picked p none e = let z : _≡_ {A = ℕ} 0 1 = cc in absurd (omega arith)
+first-picked p (more u g) {t} e =
+    by-test (p u)
+    (λ h. let q : u ≡ t = cc (ap (λ (b : Bool). cond b (some u) (firstBy p g)) h) in ap p (sym q) ∙ h)
+    (λ h. first-picked p g (sym (ap (λ (b : Bool). cond b (some u) (firstBy p g)) h) ∙ e))
 
 -- ---- the first row of an element
 

@@ -8,13 +8,13 @@ use native.Mathlib.Nat.{add-zero}
 use native.Mathlib.Decide.{decLe}
 use native.Mathlib.Omega.{arith}
 use borrow.Author.Tests.{ne-eqb}
-use lib.Dec.{T, eqb, leb}
+use lib.Dec.{T, leb}
 use lib.ListN.{length, take, drop, getD, length-append, length-drop}
 use lib.Seq.{take-at, drop-drop, getD-drop, length-take-le}
 use Rattle.text.specs.Writing.{cap}
 use Rattle.text.proofs.Writing.{wrote-nil, wrote-then, wrote-low, wrote-long, part-rest}
 use Rattle.utf8.specs.Utf8.{valid}
-use Rattle.mitex_syntax.specs.Syntax.{ClauseArgument, ItemBegin, ItemEnd, isToken}
+use Rattle.mitex_syntax.specs.Syntax.{ItemBegin, ItemEnd, isToken}
 use Rattle.mitex_syntax.specs.Rows.{numOf}
 use Rattle.mitex_syntax.specs.Tree.{Tree, Forest, size, sizes, rowsOf, rowsOfs, textOf, textsOf}
 use Rattle.mitex_syntax.specs.Tree.Tree.{token, node}
@@ -148,26 +148,6 @@ pub steady-next : {l : Loop} → Steady l → (k : ℕ) (a : Act) → nextLoop l
 steady-next plain k a = refl
 steady-next curly k a = refl
 steady-next inside k a = refl
-
--- the number of the next named argument grows by at most one
-pub next-number : (l : Loop) (k : ℕ) (a : Act) → numberOf (nextLoop l k a) ≤ numberOf l + 1
-next-number Plain k a = omega arith
-next-number (Curly blank) k a = omega arith
-next-number Spaced k a = omega arith
-next-number (Attached s) k a = omega arith
-next-number Greedy k a = omega arith
-next-number Separated k a = omega arith
-next-number Bracketed k a = omega arith
-next-number Dollars k a = omega arith
-next-number (Arguments dollars) k a = omega arith
-next-number (Named n) k a = counted (eqb k ClauseArgument) n
-  where
-    counted : (b : Bool) (n : ℕ) → numberOf (cond b (Named (n + 1)) (Named n)) ≤ n + 1
-    counted true n = omega arith
-    counted false n = omega arith
-next-number Inside k a = omega arith
-next-number Figure k a = omega arith
-next-number (Table exterior) k a = omega arith
 
 -- ---- a token in a loop
 

@@ -5,14 +5,11 @@ use Prim.Native.Nat.{ℕ, _≤_, _<_}
 use native.Mathlib.Omega.{arith}
 use lib.ListN.{length, take, drop}
 use Rattle.text.specs.Writing.{cap, Wrote}
-use Rattle.text.proofs.Writing.{wrote-as, wrote-nil, wrote-then, wrote-long}
+use Rattle.text.proofs.Writing.{wrote-as, wrote-nil, wrote-then, wrote-room}
 use Rattle.utf8.specs.Chars.{chars, charLen}
 use Rattle.utf8.proofs.Chars.{charLen-first}
 use Rattle.mitex_state.specs.Texts.{space}
 use Rattle.mitex_state.specs.Tokens.{spaced}
-
-pub wrote-few : {at : ℕ} {out w : List ℕ} {p : ℕ} {out′ : List ℕ} → Wrote at out w p out′ → length out ≤ cap → length out′ ≤ cap
-wrote-few w h = subst (λ (k : ℕ). k ≤ cap) (sym (wrote-long w)) h
 
 -- of the characters of s those before t are written
 pub record Partly (at : ℕ) (out₀ s : List ℕ) (p : ℕ) (out t : List ℕ) : Type 0 where
@@ -36,7 +33,7 @@ module _ {at : ℕ} {out₀ s : List ℕ} {p : ℕ} {out t : List ℕ} (m : Part
   spaced-more {n} {p₁} {p₂} {out₁} {out₂} long some e w v =
       record {
         text = m .text ++ (take n t ++ space);
-        wrote = wrote-then long (m .wrote) (wrote-then (wrote-few (m .wrote) long) w v);
+        wrote = wrote-then long (m .wrote) (wrote-then (wrote-room (m .wrote) long) w v);
         rest =
             m .rest
             ∙ ap (λ (l : List ℕ). m .text ++ l)

@@ -1,12 +1,11 @@
 -- The text of an accepted conversion lies within its buffer: it is what the buffer then begins with.
 use mathlib.Core.Path.{_≡_, sym, ap, _∙_}
-use mathlib.Core.Bool.{true, false}
 use mathlib.Core.List.{List, _++_}
 use Prim.Native.Nat.{ℕ, _≤_}
 use native.Mathlib.Omega.{arith}
 use lib.ListN.{length, drop, length-append}
 use Rattle.text.proofs.Compare.{by-test}
-use Rattle.ledger.specs.Ledger.{Piece, written}
+use Rattle.ledger.specs.Ledger.{written}
 use Rattle.editing.specs.Walk.{Converter, Walk}
 use Rattle.editing.specs.Walk.Walk.{stopped, pieces}
 use Rattle.editing.specs.Edit.{Answer, room, settle, conversion, convertDocument}

@@ -3,9 +3,30 @@ use mathlib.Core.Path.{_≡_, refl, sym, ap, subst, _∙_}
 use mathlib.Core.List.{List, [], _∷_}
 use Prim.Native.Nat.{ℕ, _+_, _*_, _/_, _%_, _≤_, _<_}
 use native.Mathlib.Omega.{arith}
-use lib.ListN.{length, drop, getD}
-use lib.Seq.{getD-drop, drop-drop}
+use native.Mathlib.Decide.{decLt}
+use lib.ListN.{length, take, drop, getD, length-take, length-drop, List·getD-eq-default, drop-of-length-le}
+use lib.Seq.{getD-take, getD-drop, drop-drop}
 use Rattle.text.specs.Numbers.{Bytes, two, four, twoAt, fourAt}
+
+-- the first eight, one by one
+pub eight : (l : List ℕ) → 8 ≤ length l → l ≡ getD l 0 0 ∷ getD l 1 0 ∷ getD l 2 0 ∷ getD l 3 0 ∷ getD l 4 0 ∷ getD l 5 0 ∷ getD l 6 0 ∷ getD l 7 0 ∷ drop 8 l
+eight [] h = absurd (omega arith)
+eight (k ∷ []) h = absurd (omega arith)
+eight (k ∷ m ∷ []) h = absurd (omega arith)
+eight (k ∷ m ∷ y ∷ []) h = absurd (omega arith)
+eight (k ∷ m ∷ y ∷ z ∷ []) h = absurd (omega arith)
+eight (k ∷ m ∷ y ∷ z ∷ a ∷ []) h = absurd (omega arith)
+eight (k ∷ m ∷ y ∷ z ∷ a ∷ b ∷ []) h = absurd (omega arith)
+eight (k ∷ m ∷ y ∷ z ∷ a ∷ b ∷ c ∷ []) h = absurd (omega arith)
+eight (k ∷ m ∷ y ∷ z ∷ a ∷ b ∷ c ∷ d ∷ l) h = refl
+
+-- parts of bytes are bytes
+pub bytes-take : (n : ℕ) (l : List ℕ) → Bytes l → Bytes (take n l)
+bytes-take n l h i =
+    elim (decLt i n) [
+      | yes lt ↦ subst (λ x. x < 256) (sym (getD-take n l i 0 lt)) (h i)
+      | no ge ↦ subst (λ x. x < 256) (sym (List·getD-eq-default (take n l) 0 {n = i} (let q : n ≤ i = omega arith in omega (arith, length-take n l)))) (omega arith)
+    ]
 
 pub bytes-drop : (n : ℕ) (l : List ℕ) → Bytes l → Bytes (drop n l)
 bytes-drop n l h i = subst (λ x. x < 256) (sym (getD-drop n l i 0)) (h (n + i))
@@ -77,3 +98,11 @@ pub fourAt-drop : (n i : ℕ) (l : List ℕ) → fourAt i (drop n l) ≡ fourAt 
 fourAt-drop n i l =
     let g : (k : ℕ) → getD (drop n l) (i + k) 0 ≡ getD l (n + i + k) 0 = λ k. getD-drop n l (i + k) 0 ∙ ap (λ j. getD l j 0) (omega arith) in
     cc (getD-drop n l i 0, g 1, g 2, g 3)
+
+-- eight bytes are two numbers of four
+pub eight-fours : (d : List ℕ) → Bytes d → length d ≡ 8 → d ≡ four (fourAt 0 d) (four (fourAt 4 d) [])
+eight-fours d by l =
+    four-fourAt d by (omega arith)
+    ∙ ap (four (fourAt 0 d)) (four-fourAt (drop 4 d) (bytes-drop 4 d by) (simp length-drop (omega arith)))
+    ∙ ap (λ x. four (fourAt 0 d) (four x (drop 4 (drop 4 d)))) (fourAt-drop 4 0 d)
+    ∙ ap (λ x. four (fourAt 0 d) (four (fourAt 4 d) x)) (drop-drop 4 4 d ∙ drop-of-length-le d {i = 8} (omega arith))

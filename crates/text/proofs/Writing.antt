@@ -65,12 +65,18 @@ wrote-as {at} {out} {w} {v} {at′} {out′} e p = subst (λ x. Wrote at out x a
 pub wrote-long : {at : ℕ} {out w : List ℕ} {at′ : ℕ} {out′ : List ℕ} → Wrote at out w at′ out′ → length out′ ≡ length out
 wrote-long {at} {out} {w} {at′} {out′} p = sets-long out out′ at w (p .over)
 
+pub wrote-room : {at : ℕ} {out w : List ℕ} {at′ : ℕ} {out′ : List ℕ} → Wrote at out w at′ out′ → length out ≤ cap → length out′ ≤ cap
+wrote-room p h = subst (λ (n : ℕ). n ≤ cap) (sym (wrote-long p)) h
+
 pub wrote-low : {at : ℕ} {out w : List ℕ} {at′ : ℕ} {out′ : List ℕ} → Wrote at out w at′ out′ → at′ ≤ cap
 wrote-low {at} {out} {w} {at′} {out′} p = let e = p .next in omega arith
 
 -- what is taken of a text from k on to its end
 pub part-rest : (s : List ℕ) (k : ℕ) → take (length s - k) (drop k s) ≡ drop k s
 part-rest s k = take-all (length s - k) (drop k s) (simp length-drop (omega arith))
+
+pub rest-length : (s : List ℕ) (k : ℕ) → length (take (length s - k) (drop k s)) ≡ length s - k
+rest-length s k = ap length (part-rest s k) ∙ length-drop k s
 
 -- ---- one byte more
 

@@ -1,7 +1,7 @@
 -- Valid text by its characters: it is made of the RFC's characters, which are those of `chars`. So it stays valid where it
 -- is put together, cut before a byte that continues none, and cut at one-byte ends.
 use mathlib.Core.Path.{_≡_, refl, sym, ap, subst, _∙_}
-use mathlib.Core.Bool.{Bool, true, false, _&&_, and-false, cond}
+use mathlib.Core.Bool.{Bool, true, false, _&&_, and-false, cond, and-eq-true-iff}
 use mathlib.Core.List.{List, [], _∷_, _++_}
 use Prim.Native.Nat.{ℕ, zero, suc, _+_, _-_, _≤_, _<_}
 use native.Mathlib.Omega.{arith}
@@ -161,26 +161,22 @@ valid-inside (x ∷ s) n l a z e =
 
 -- ---- characters of one byte
 
-both : (a b : Bool) → (a && b) ≡ true → (a ≡ true) × (b ≡ true)
-both true b e = (refl, e)
-both false b e = absurd (let z : _≡_ {A = ℕ} 0 1 = cc in omega arith)
-
 pub one-valid : (s : List ℕ) → oneByteEach s ≡ true → valid s ≡ true
 unfolding oneByteEach
 one-valid [] e = valid-text [] .1 end
-one-valid (b ∷ s) e = let w = both (leb b 0x7F) (oneByteEach s) e in valid-one b s (leb-true b 0x7F (w .0)) ∙ one-valid s (w .1)
+one-valid (b ∷ s) e = let w = and-eq-true-iff (leb b 0x7F) (oneByteEach s) .0 e in valid-one b s (leb-true b 0x7F (w .0)) ∙ one-valid s (w .1)
 
 pub one-take : (n : ℕ) (s : List ℕ) → oneByteEach s ≡ true → oneByteEach (take n s) ≡ true
 unfolding oneByteEach
 one-take zero s e = refl
 one-take (suc n) [] e = refl
-one-take (suc n) (b ∷ s) e = let w = both (leb b 0x7F) (oneByteEach s) e in rw (w .0) (one-take n s (w .1))
+one-take (suc n) (b ∷ s) e = let w = and-eq-true-iff (leb b 0x7F) (oneByteEach s) .0 e in rw (w .0) (one-take n s (w .1))
 
 pub one-drop : (n : ℕ) (s : List ℕ) → oneByteEach s ≡ true → oneByteEach (drop n s) ≡ true
 unfolding oneByteEach
 one-drop zero s e = e
 one-drop (suc n) [] e = refl
-one-drop (suc n) (b ∷ s) e = one-drop n s (both (leb b 0x7F) (oneByteEach s) e .1)
+one-drop (suc n) (b ∷ s) e = one-drop n s (and-eq-true-iff (leb b 0x7F) (oneByteEach s) .0 e .1)
 
 -- what is left, of one byte more and at the end
 pub one-cons : (s : List ℕ) (i : ℕ) → i < length s → oneByteEach (drop i s) ≡ (leb (getD s i 0) 0x7F && oneByteEach (drop (i + 1) s))

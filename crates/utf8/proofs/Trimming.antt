@@ -5,19 +5,15 @@ use mathlib.Core.List.{List, [], _∷_, _++_, reverse, reverse-cons, reverse-app
 use Prim.Native.Nat.{ℕ, _-_, _≤_, _<_}
 use native.Mathlib.Omega.{arith}
 use lib.ListN.{length, take, drop, length-append, length-drop}
-use lib.Seq.{take-all}
+use Rattle.text.proofs.Writing.{part-rest}
 use Rattle.utf8.specs.Utf8.{valid}
 use Rattle.utf8.specs.Chars.{chars, concat, LastAt, AllChar, isWhite}
 use Rattle.utf8.specs.Trim.{skipWhite, trimStart, trimEnd, trim}
 use Rattle.utf8.proofs.Chars.{concat-chars, concat-append, FirstLen}
 use Rattle.utf8.proofs.Texts.{all-append, all-split, valid-chars, chars-valid}
 
--- the rest of a slice, as the code has it
-pub rest : (t : List ℕ) (n : ℕ) → take (length t - n) (drop n t) ≡ drop n t
-rest t n = take-all (length t - n) (drop n t) (rw length-drop (omega arith))
-
 pub left-less : (t : List ℕ) (n : ℕ) → 1 ≤ n → n ≤ length t → length (take (length t - n) (drop n t)) < length t
-left-less t n h k = rw (rest, length-drop) (omega arith)
+left-less t n h k = rw (part-rest, length-drop) (omega arith)
 
 -- a text whose first character has n bytes
 module _ (t : List ℕ) (n : ℕ) (p : FirstLen t n) where

@@ -9,18 +9,13 @@ use lib.Dec.{leb, eqb}
 use lib.ListN.{length, getD}
 use borrow.Author.Tests.{eqb-true, eqb-false}
 use Rattle.text.specs.Compare.{same}
+use Rattle.text.proofs.Compare.{beq-true}
 use Rattle.utf8.specs.Chars.{isWhite}
 
 -- the test passes at every number below n
 abbrev everyBelow : (ℕ → Bool) → ℕ → Bool
 everyBelow p zero = true
 everyBelow p (suc n) = p n && everyBelow p n
-
-same-bool : (a b : Bool) → Bool·beq a b ≡ true → a ≡ b
-same-bool true true e = refl
-same-bool true false e = absurd (let z : _≡_ {A = ℕ} 0 1 = cc in omega arith)
-same-bool false true e = absurd (let z : _≡_ {A = ℕ} 0 1 = cc in omega arith)
-same-bool false false e = refl
 
 both-first : (a b : Bool) → (a && b) ≡ true → a ≡ true
 both-first true b e = refl
@@ -42,12 +37,12 @@ every-at p (suc n) e k h =
 pub white-one : (a : ℕ) → a < 256 → isWhite (a ∷ []) ≡ cond (leb a 0x0D) (leb 0x09 a) (eqb a 0x20)
 unfolding same
 white-one a h =
-    same-bool _ _ (every-at (λ a. Bool·beq (isWhite (a ∷ [])) (cond (leb a 0x0D) (leb 0x09 a) (eqb a 0x20))) 256 refl a h)
+    beq-true _ _ (every-at (λ a. Bool·beq (isWhite (a ∷ [])) (cond (leb a 0x0D) (leb 0x09 a) (eqb a 0x20))) 256 refl a h)
 
 pub white-20 : (c : ℕ) → c < 256 → isWhite (0xE2 ∷ 0x80 ∷ c ∷ []) ≡ cond (leb c 0x8A) (leb 0x80 c) (cond (leb c 0xA9) (leb 0xA8 c) (eqb c 0xAF))
 unfolding same
 white-20 c h =
-    same-bool _ _
+    beq-true _ _
     (every-at (λ c. Bool·beq (isWhite (0xE2 ∷ 0x80 ∷ c ∷ [])) (cond (leb c 0x8A) (leb 0x80 c) (cond (leb c 0xA9) (leb 0xA8 c) (eqb c 0xAF)))) 256 refl c h)
 
 -- ---- a character by the number of its bytes

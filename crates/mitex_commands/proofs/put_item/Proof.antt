@@ -1,8 +1,8 @@
 -- `mitex_commands::put_item` meets its contract: the four texts one after the other.
 use mathlib.Core.Path.{ap}
 use Rattle.text.specs.Writing.{spaces}
-use Rattle.text.proofs.Writing.{wrote-as, wrote-then}
-use Rattle.mitex_commands.proofs.Putting.{wrote-three, wrote-room}
+use Rattle.text.proofs.Writing.{wrote-as, wrote-then, wrote-room}
+use Rattle.mitex_commands.proofs.Putting.{wrote-three}
 use borrow.Author.Needs.{needs}
 use Rattle.mitex_commands.proofs.put_item.Statement.{statement}
 use Rattle.mitex_commands.proofs.put_item.Tie as tie

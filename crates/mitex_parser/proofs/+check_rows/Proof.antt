@@ -1,6 +1,7 @@
 -- The recursion goes into each child's range; the rows passed grow to a forest no deeper than `left`, and what is left decides
 -- (`Turn`). The measure of a call is how many rows it has, that of the loop what is left of them.
 use native.Mathlib.Omega.{arith}
+use Rattle.text.proofs.Writing.{rest-length}
 use borrow.Author.Needs.{needs}
 use mathlib.Core.Path.{_≡_}
 use mathlib.Core.Logic.{⊎-elim}
@@ -10,7 +11,7 @@ use Rattle.mitex_parser.specs.Layout.{Line, grow}
 use Rattle.mitex_parser.specs.Parts.{bytesOf, Fits, Nested}
 use Rattle.mitex_parser.specs.declared.Nest.{Nest}
 use Rattle.mitex_parser.specs.declared.Nest.the-variants.{Broken, Deep, Fine}
-use Rattle.mitex_parser.proofs.Nesting.{Turn, At, turn-start, turn-deep, turn-end, at-row, at-short, at-broken, at-deep, at-next, at-answer, none-under, past-length, child-length}
+use Rattle.mitex_parser.proofs.Nesting.{Turn, At, turn-start, turn-deep, turn-end, at-row, at-short, at-broken, at-deep, at-next, at-answer, none-under, child-length}
 use Prim.Native.Nat.{ℕ, _+_, _*_, _-_, _≤_, _<_}
 use borrow.Fn.Kinds.{In}
 use borrow.Fn.PlainCycle.{Measures, is, falls, and}
@@ -80,7 +81,7 @@ fine t c ls e h =
 -- what is left after it is shorter
 shorter : (t : ℕ) (c : AtRow t) → 8 + 8 * c .under .result ≤ length (restAt t c)
     → length (take (length (restAt t c) - (8 + 8 * c .under .result)) (drop (8 + 8 * c .under .result) (restAt t c))) < length (restAt t c)
-shorter t c h = omega (arith, past-length (restAt t c) (8 + 8 * c .under .result))
+shorter t c h = omega (arith, rest-length (restAt t c) (8 + 8 * c .under .result))
 
 check-rows-loop-holds : (t : ℕ) → check-rows-lts.Need-loop-holds (check-rows-calls t) (check-rows-at t) check-rows.Post check-rows-Inv-loop check-rows-μ-loop
 check-rows-loop-holds t c = (omega arith, λ ls e h. turn-start ls _ _ e h)

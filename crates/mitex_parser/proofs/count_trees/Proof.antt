@@ -3,9 +3,9 @@ use native.Mathlib.Omega.{arith}
 use mathlib.Core.Path.{_≡_}
 use Prim.Native.Nat.{_+_, _*_, _≤_}
 use lib.ListN.{length}
+use Rattle.text.proofs.Writing.{rest-length}
 use Rattle.mitex_syntax.specs.Tree.{Forest, rowsOfs}
 use Rattle.mitex_parser.specs.Layout.{fileMost}
-use Rattle.mitex_parser.proofs.Nesting.{past-length}
 use Rattle.mitex_parser.proofs.Roots.{Trees, Tree-at, trees-start, trees-at, trees-end}
 use Rattle.mitex_parser.proofs.count_trees.Statement.{statement}
 use Rattle.mitex_parser.proofs.count_trees.Tie as tie
@@ -47,12 +47,12 @@ add-m c = omega (arith, c .before .before .before .loop .inv .0, c .before .befo
 loop-less : tie.Need-loop-less Inv-loop μ-loop
 loop-less c =
     let tree = some-here (c .before) in
-    omega (arith, past-length (c .before .before .before .loop .rest .now) (c .before .extent .result), tree .some)
+    omega (arith, rest-length (c .before .before .before .loop .rest .now) (c .before .extent .result), tree .some)
 
 loop-again : tie.Need-loop-again Inv-loop μ-loop
 loop-again c =
     let tree = some-here (c .before) in
-    let less = past-length (c .before .before .before .loop .rest .now) (c .before .extent .result) in
+    let less = rest-length (c .before .before .before .loop .rest .now) (c .before .extent .result) in
     (omega (arith, less, tree .some, tree .inside, c .before .before .before .loop .inv .0), λ f e. here (c .before) f e .next)
 
 returns : tie.Need-returns Inv-loop μ-loop

@@ -1,4 +1,5 @@
 -- What is left of rows and text decides (`Left`). The measure is what is left of the rows.
+use Rattle.text.proofs.Writing.{part-rest, rest-length}
 use borrow.Author.Needs.{needs}
 use native.Mathlib.Omega.{arith}
 use mathlib.Core.Path.{_≡_, sym, ap, _∙_}
@@ -8,7 +9,6 @@ use lib.ListN.{length}
 use Rattle.utf8.specs.Utf8.{oneByteEach}
 use Rattle.utf8.proofs.Texts.{one-drop}
 use Rattle.mitex_parser.specs.Parts.{isBad}
-use Rattle.mitex_parser.proofs.Nesting.{part-past, past-length}
 use Rattle.mitex_parser.proofs.Runs.{Left, left-start, left-bad, left-next, left-end, taken-room}
 use Rattle.mitex_parser.proofs.lines_fit.Statement.{statement}
 use Rattle.mitex_parser.proofs.lines_fit.Tie as tie
@@ -64,14 +64,14 @@ part-l-end : tie.Need-part-l-end Inv-loop μ-loop
 part-l-end c = search needs
 
 loop-less : tie.Need-loop-less Inv-loop μ-loop
-loop-less c = let row = c .before .before .before .before .before in omega (arith, past-length (row .before .before .loop .l .now) 8)
+loop-less c = let row = c .before .before .before .before .before in omega (arith, rest-length (row .before .before .loop .l .now) 8)
 
 loop-again : tie.Need-loop-again Inv-loop μ-loop
 loop-again c =
     let now = c .before .before in
     let row = now .before .before .before in
     let at = row .before .before .loop in (
-      λ e. ap oneByteEach (part-past (at .t .now) (now .taken .result)) ∙ one-drop (now .taken .result) (at .t .now) (at .inv .0 e),
+      λ e. ap oneByteEach (part-rest (at .t .now) (now .taken .result)) ∙ one-drop (now .taken .result) (at .t .now) (at .inv .0 e),
       λ n e.
           left-next (at .inv .1 n e) (row .before .loop-test .taken) (row .row-at .result) (row .row-at .ensures)
           (sym (now .before .before .is-bad .ensures) ∙ now .before .if1 .left) (now .taken .result) (now .taken .ensures),

@@ -1,9 +1,9 @@
 -- The tests follow `blocksIn`; past them the rows are those of a root (`Root`), whose blocks are counted.
+use Rattle.text.proofs.Writing.{rest-length}
 use borrow.Author.Needs.{needs}
 use native.Mathlib.Omega.{arith}
 use mathlib.Core.Path.{_≡_}
 use Rattle.mitex_syntax.specs.Tree.{Forest, rowsOfs}
-use Rattle.mitex_parser.proofs.Nesting.{past-length}
 use Rattle.mitex_parser.proofs.Roots.{Root, root-none, root-token, root-kind, root-short, root-of}
 use Rattle.mitex_parser.proofs.root_blocks.Statement.{statement}
 use Rattle.mitex_parser.proofs.root_blocks.Tie as tie
@@ -58,7 +58,7 @@ count-trees-requires : tie.Need-count-trees-requires
 count-trees-requires c κs =
     let start = entry (c .before .before .before) in
     let r = root (c .before) (start .pre .forest) (start .pre .spelt) in
-    let less = past-length (start .args .rows .now) 8 in
+    let less = rest-length (start .args .rows .now) 8 in
     record { forest = r .blocks; spelt = r .spelt; few = omega (arith, less, start .pre .few) }
 
 returns-5 : tie.Need-returns-5

@@ -1,8 +1,8 @@
 -- What is left decides (`Scans`). The measure is what is left of the rows.
+use Rattle.text.proofs.Writing.{rest-length}
 use borrow.Author.Needs.{needs}
 use native.Mathlib.Omega.{arith}
 use lib.ListN.{length}
-use Rattle.mitex_parser.proofs.Nesting.{past-length}
 use Rattle.mitex_parser.proofs.Scanning.{Scans, scan-start, scan-asks, scan-breaks, scan-end, Moves, scan-moves}
 use Rattle.mitex_parser.proofs.scan_shape.Statement.{statement}
 use Rattle.mitex_parser.proofs.scan_shape.Tie as tie
@@ -64,7 +64,7 @@ loop-less : tie.Need-loop-less Inv-loop μ-loop
 loop-less c =
     let passed = c .before .before .before in
     let m = moved passed in
-    omega (arith, m .some, m .rows-in, past-length (passed .before .before .before .before .loop .l .now) (passed .e .given .0 .0))
+    omega (arith, m .some, m .rows-in, rest-length (passed .before .before .before .before .loop .l .now) (passed .e .given .0 .0))
 
 loop-again : tie.Need-loop-again Inv-loop μ-loop
 loop-again c = moved (c .before .before .before) .next

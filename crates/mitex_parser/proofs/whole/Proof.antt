@@ -1,4 +1,5 @@
 -- Row by row, each node's rows are whole trees; what is left decides (`Rest`). The measure is what is left of the rows.
+use Rattle.text.proofs.Writing.{rest-length}
 use borrow.Author.Needs.{needs}
 use borrow.Author.Tests.{not-true, not-false}
 use native.Mathlib.Omega.{arith}
@@ -7,7 +8,7 @@ use mathlib.Core.List.{List}
 use lib.ListN.{length}
 use Rattle.mitex_parser.specs.Layout.{Line}
 use Rattle.mitex_parser.specs.Parts.{bytesOf, Fits}
-use Rattle.mitex_parser.proofs.Nesting.{Rest, rest-start, rest-falls, rest-next, rest-end, past-length}
+use Rattle.mitex_parser.proofs.Nesting.{Rest, rest-start, rest-falls, rest-next, rest-end}
 use Rattle.mitex_parser.proofs.whole.Statement.{statement}
 use Rattle.mitex_parser.proofs.whole.Tie as tie
 
@@ -52,7 +53,7 @@ part-rest-end : tie.Need-part-rest-end Inv-loop μ-loop
 part-rest-end c = search needs
 
 loop-less : tie.Need-loop-less Inv-loop μ-loop
-loop-less c = let row = c .before .before .before .before in omega (arith, past-length (row .before .before .loop .rest .now) 8)
+loop-less c = let row = c .before .before .before .before in omega (arith, rest-length (row .before .before .loop .rest .now) 8)
 
 loop-again : tie.Need-loop-again Inv-loop μ-loop
 loop-again c =

@@ -3,7 +3,8 @@ use native.Mathlib.Omega.{arith}
 use mathlib.Core.Path.{_≡_, refl, _∙_, ap}
 use Prim.Native.Nat.{ℕ, _+_, _*_, _≤_}
 use lib.ListN.{length, length-set}
-use Rattle.mitex_spec.proofs.Checking.{rest-length, Filled, filled-start, filled-next, filled-end}
+use Rattle.text.proofs.Writing.{rest-length}
+use Rattle.mitex_spec.proofs.Checking.{Filled, filled-start, filled-next, filled-end}
 use Rattle.mitex_spec.proofs.fill_index.Statement.{statement}
 use Rattle.mitex_spec.proofs.fill_index.Tie as tie
 

@@ -1,5 +1,6 @@
 -- The invariant is `Left`: the answer for all rows is that for the rows that are left, after the last name. The rows left fall.
 use Prim.Native.Nat.{_≤_, ℕ, _*_}
+use Rattle.text.proofs.Writing.{rest-length}
 use Rattle.mitex_spec.specs.RuleFile.{rowFits, taken}
 use mathlib.Core.Bool.{true}
 use Rattle.mitex_spec.proofs.RuleFile.{row-says}
@@ -9,7 +10,7 @@ use mathlib.Core.Path.{_≡_, sym, _∙_}
 use borrow.Author.Tests.{not-true, not-false}
 use lib.ListN.{length}
 use lib.Seq.{length-take-le}
-use Rattle.mitex_spec.proofs.Checking.{rest-length, Left, left-start, left-unfit, left-falls, left-next, left-end}
+use Rattle.mitex_spec.proofs.Checking.{Left, left-start, left-unfit, left-falls, left-next, left-end}
 use Rattle.mitex_spec.proofs.rules_fit.Statement.{statement}
 use Rattle.mitex_spec.proofs.rules_fit.Tie as tie
 

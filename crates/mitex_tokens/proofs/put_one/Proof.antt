@@ -7,8 +7,9 @@ use lib.ListN.{length, take, getD}
 use lib.Seq.{length-take-le}
 use Rattle.text.proofs.Writing.{part-rest}
 use Rattle.mitex_loops.specs.Given.{numberOf}
+use Rattle.mitex_loops.proofs.Acting.{number-next}
 use Rattle.mitex_tokens.specs.Running.{runOf}
-use Rattle.mitex_tokens.proofs.Running.{first-fits, child-given, others-given, next-number, ran-start, runs-as, rows-eight, ran-done}
+use Rattle.mitex_tokens.proofs.Running.{first-fits, child-given, others-given, ran-start, runs-as, rows-eight, ran-done}
 use Rattle.mitex_tokens.proofs.Running.{Meets, ran-refused, ran-next}
 use borrow.Author.Needs.{needs}
 use Rattle.mitex_tokens.proofs.put_one.Statement.{statement}
@@ -118,7 +119,7 @@ returns-2 c =
     (ran-next g (ran-start _ _ _ _ _ _ _ (s .pre .0 .0)) (g .some) (g .token) (met c₂) (s .pre .0 .1) (λ l. c₁ .put-turn .ensures rs l e)
     (c .before .before .if1 .left) l′ next)
     (omega arith)
-    (omega (arith, ap numberOf next, next-number (s .args .how) (getD (s .args .rows .now) 0 0) (c₂ .act-of .result))) refl)
+    (omega (arith, ap numberOf next, number-next (s .args .how) (getD (s .args .rows .now) 0 0) (c₂ .act-of .result))) refl)
 
 pub put-one-spec : {M : Type 1} → statement M
 put-one-spec =

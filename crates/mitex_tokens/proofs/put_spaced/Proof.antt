@@ -2,8 +2,8 @@
 use mathlib.Core.Path.{sym}
 use native.Mathlib.Omega.{arith}
 use lib.ListN.{length}
-use Rattle.text.proofs.Writing.{part-rest, wrote-long, wrote-low}
-use Rattle.mitex_tokens.proofs.Spacing.{Partly, spaced-all, spaced-more, spaced-start, wrote-few}
+use Rattle.text.proofs.Writing.{part-rest, wrote-long, wrote-low, wrote-room}
+use Rattle.mitex_tokens.proofs.Spacing.{Partly, spaced-all, spaced-more, spaced-start}
 use Rattle.utf8.proofs.Chars.{FirstLen, charLen-first}
 use Rattle.utf8.proofs.Trimming.{left-less}
 use borrow.Author.Needs.{needs}
@@ -34,14 +34,14 @@ put-requires : tie.Need-put-requires Inv-loop μ-loop
 put-requires c κs =
     let c₁ = c .before .before .before .before in
     let c₂ = c₁ .before .before .before in
-    (wrote-low (c₁ .loop .inv .wrote), wrote-few (c₁ .loop .inv .wrote) (c₂ .pre .1))
+    (wrote-low (c₁ .loop .inv .wrote), wrote-room (c₁ .loop .inv .wrote) (c₂ .pre .1))
 
 put-byte-requires : tie.Need-put-byte-requires Inv-loop μ-loop
 put-byte-requires c κs =
     let c₁ = c .before .before .before in
     let c₂ = c₁ .before .before .before .before .before in
     let c₃ = c₂ .before .before .before in
-    (wrote-low (c₁ .put .ensures), wrote-few (c₁ .put .ensures) (wrote-few (c₂ .loop .inv .wrote) (c₃ .pre .1)))
+    (wrote-low (c₁ .put .ensures), wrote-room (c₁ .put .ensures) (wrote-room (c₂ .loop .inv .wrote) (c₃ .pre .1)))
 
 sub-t : tie.Need-sub-t Inv-loop μ-loop
 sub-t c =

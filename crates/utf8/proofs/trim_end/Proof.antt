@@ -5,9 +5,10 @@ use borrow.Author.Needs.{needs}
 use borrow.Author.Tests.{not-true, not-false}
 use lib.ListN.{length, drop}
 use lib.Seq.{length-take-le}
+use Rattle.text.proofs.Writing.{part-rest}
 use Rattle.utf8.specs.Chars.{isWhite}
 use Rattle.utf8.specs.Trim.{trimEnd}
-use Rattle.utf8.proofs.Trimming.{rest, trimEnd-white, trimEnd-done, trimEnd-none}
+use Rattle.utf8.proofs.Trimming.{trimEnd-white, trimEnd-done, trimEnd-none}
 use Rattle.utf8.proofs.trim_end.Statement.{statement}
 use Rattle.utf8.proofs.trim_end.Tie as tie
 
@@ -21,7 +22,7 @@ abbrev μ-loop : tie.MeasureT-loop
 tested : (c : tie.After-is-white Inv-loop μ-loop) → isWhite (drop (c .before .before .last-at .result) (c .before .before .before .before .loop .t .now)) ≡ c .is-white .result
 tested c =
     let last = c .before .before in
-    ap isWhite (sym (rest (last .before .before .loop .t .now) (last .last-at .result))) ∙ sym (c .is-white .ensures)
+    ap isWhite (sym (part-rest (last .before .before .loop .t .now) (last .last-at .result))) ∙ sym (c .is-white .ensures)
 
 loop-holds : tie.Need-loop-holds Inv-loop μ-loop
 loop-holds c = refl

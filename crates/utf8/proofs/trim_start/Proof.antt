@@ -4,9 +4,10 @@ use borrow.Author.Needs.{needs}
 use borrow.Author.Tests.{not-true, not-false}
 use lib.ListN.{length}
 use lib.Seq.{length-take-le}
+use Rattle.text.proofs.Writing.{part-rest}
 use Rattle.utf8.specs.Trim.{trimStart}
 use Rattle.utf8.proofs.Chars.{FirstLen, charLen-first}
-use Rattle.utf8.proofs.Trimming.{rest, left-less, trimStart-white, trimStart-done, trimStart-none}
+use Rattle.utf8.proofs.Trimming.{left-less, trimStart-white, trimStart-done, trimStart-none}
 use Rattle.utf8.proofs.trim_start.Statement.{statement}
 use Rattle.utf8.proofs.trim_start.Tie as tie
 
@@ -54,7 +55,7 @@ loop-again : tie.Need-loop-again Inv-loop μ-loop
 loop-again c =
     let white = c .before .before in
     let at = white .before .before in
-    rw rest (trimStart-white _ _ (first at) (sym (white .is-white .ensures) ∙ not-false _ (c .before .if1 .left)) ∙ at .before .before .loop .inv)
+    rw part-rest (trimStart-white _ _ (first at) (sym (white .is-white .ensures) ∙ not-false _ (c .before .if1 .left)) ∙ at .before .before .loop .inv)
 
 returns-2 : tie.Need-returns-2 Inv-loop μ-loop
 returns-2 c = trimStart-none _ (c .loop-test .left) ∙ c .before .loop .inv

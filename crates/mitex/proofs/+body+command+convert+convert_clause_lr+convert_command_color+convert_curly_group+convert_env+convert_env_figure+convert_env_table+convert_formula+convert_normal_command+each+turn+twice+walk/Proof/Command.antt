@@ -18,6 +18,9 @@ use Rattle.mitex_state.specs.declared.Command.{Command}
 use Rattle.mitex_state.specs.declared.Command.the-variants.{Item, Label, IncludeGraphics, Array, Color, ColorArguments, Normal}
 use Rattle.mitex_state.proofs.Agreeing.{agrees-as, agrees-done}
 use Rattle.mitex_loops.specs.Given.{numberOf}
+use Rattle.mitex_state.specs.declared.Loop.{Loop}
+use Rattle.mitex_state.specs.declared.ModelPart.{ModelPart}
+use Rattle.mitex_plans.specs.Plans.{ColorGiven}
 use Rattle.mitex.specs.Walks.{Room, Siblings}
 use Rattle.mitex.proofs.Rooms.{siblings-forest}
 use Rattle.mitex.proofs.Commanding.{body-number, arguments-number, command-is, colors-how}
@@ -46,6 +49,15 @@ given-here :
     × (Room 8 (a .rows .now) (a .text .now) (a .out .now) (a .at) (a .row) (a .c)
     × (SomeRules (a .rules .now) (a .index .now) × Siblings (a .rows .now) (a .text .now)))
 given-here t c k h = let start = entry t c in (omega (arith, start .pre .0), start .pre .1)
+
+-- and a colour command its model
+color-here :
+    (t : ℕ) (c : Here t) {m : ModelPart} {l : Loop} → let a = entry t c .args in
+    ColorGiven (a .rows .now) (a .text .now) m l
+    → (length (a .rows .now) + 5 < t)
+    × (Room 8 (a .rows .now) (a .text .now) (a .out .now) (a .at) (a .row) (a .c)
+    × (SomeRules (a .rules .now) (a .index .now) × (Siblings (a .rows .now) (a .text .now) × ColorGiven (a .rows .now) (a .text .now) m l)))
+color-here t c given = let g = given-here t c 5 (omega arith) in (g .0, (g .1 .0, (g .1 .1 .0, (g .1 .1 .1, given))))
 
 -- what the command comes to, by its arm
 command-here :
@@ -125,29 +137,19 @@ command-body-loop-requires t c κs = search needs
 
 command-convert-command-color-requires : (t : ℕ) → command-lts.Need-convert-command-color-requires (command-calls t) (command-at t) command.Post
 command-convert-command-color-requires t c κs =
-    let at-color-model = c .before .before in
+    let at-body-loop = c .before in
+    let at-color-model = at-body-loop .before in
     let here = at-color-model .before .before .before in
-    let given = given-here t here 5 (omega arith) in
-    let children = given .1 .1 .1 in
-    let model = at-color-model .color-model .ensures (children .forest) (children .spells) in (
-      given .0,
-      (
-        given .1 .0,
-        (
-          given .1 .1 .0,
-          (
-            children,
-            record {
-              model = model .model;
-              forest = children .forest;
-              spells = children .spells;
-              found = model .found;
-              counts = ap numberOf (c .body-loop .ensures) ∙ body-number (entry t here .args .c .mode);
-            },
-          ),
-        ),
-      ),
-    )
+    let children = entry t here .pre .1 .1 .1 in
+    let model = at-color-model .color-model .ensures (children .forest) (children .spells) in
+    color-here t here
+    (record {
+      model = model .model;
+      forest = children .forest;
+      spells = children .spells;
+      found = model .found;
+      counts = ap numberOf (at-body-loop .body-loop .ensures) ∙ body-number (entry t here .args .c .mode);
+    })
 
 command-enum-told-6 : (t : ℕ) → command-lts.Need-enum-told-6 (command-calls t) (command-at t) command.Post
 command-enum-told-6 t c = search needs
@@ -163,28 +165,18 @@ command-arguments-loop-requires t c κs = search needs
 
 command-convert-command-color-requires-2 : (t : ℕ) → command-lts.Need-convert-command-color-requires-2 (command-calls t) (command-at t) command.Post
 command-convert-command-color-requires-2 t c κs =
-    let at-argument-model = c .before .before in
+    let at-arguments-loop = c .before in
+    let at-argument-model = at-arguments-loop .before in
     let here = at-argument-model .before .before .before in
-    let given = given-here t here 5 (omega arith) in
-    let children = given .1 .1 .1 in (
-      given .0,
-      (
-        given .1 .0,
-        (
-          given .1 .1 .0,
-          (
-            children,
-            record {
-              model = argumentModel 1 (children .forest);
-              forest = children .forest;
-              spells = children .spells;
-              found = at-argument-model .argument-model .ensures (children .forest) (children .spells);
-              counts = ap numberOf (c .arguments-loop .ensures) ∙ arguments-number (entry t here .args .c .mode);
-            },
-          ),
-        ),
-      ),
-    )
+    let children = entry t here .pre .1 .1 .1 in
+    color-here t here
+    (record {
+      model = argumentModel 1 (children .forest);
+      forest = children .forest;
+      spells = children .spells;
+      found = at-argument-model .argument-model .ensures (children .forest) (children .spells);
+      counts = ap numberOf (at-arguments-loop .arguments-loop .ensures) ∙ arguments-number (entry t here .args .c .mode);
+    })
 
 command-enum-told-7 : (t : ℕ) → command-lts.Need-enum-told-7 (command-calls t) (command-at t) command.Post
 command-enum-told-7 t c = search needs
@@ -247,8 +239,8 @@ command-same-length-4 t c =
 command-returns-5 : (t : ℕ) → command-lts.Need-returns-5 (command-calls t) (command-at t) command.Post
 command-returns-5 t c =
     let at-convert-command-color = c .before .before in
-    let at-body-loop = at-convert-command-color .before in
-    let at-color-model = at-body-loop .before .before in
+    let at-body-loop = at-convert-command-color .before .before in
+    let at-color-model = at-body-loop .before in
     let at-told = at-color-model .before in
     let here = at-told .before .before in
     let d = entry t here .args .c in
@@ -265,8 +257,8 @@ command-same-length-5 t c =
 command-returns-6 : (t : ℕ) → command-lts.Need-returns-6 (command-calls t) (command-at t) command.Post
 command-returns-6 t c =
     let at-convert-command-color2 = c .before .before in
-    let at-arguments-loop = at-convert-command-color2 .before in
-    let at-argument-model = at-arguments-loop .before .before in
+    let at-arguments-loop = at-convert-command-color2 .before .before in
+    let at-argument-model = at-arguments-loop .before in
     let at-told = at-argument-model .before in
     let here = at-told .before .before in
     λ rs ready f sp n h. agrees-as (command-here t here ColorArguments (at-told .enum-told6 .given .1) rs f sp n)

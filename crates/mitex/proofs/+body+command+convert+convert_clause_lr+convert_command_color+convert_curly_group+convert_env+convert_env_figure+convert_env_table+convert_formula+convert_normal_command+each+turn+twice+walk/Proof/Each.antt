@@ -1,5 +1,5 @@
 -- The needs of `each`.
-use mathlib.Core.Path.{refl, _∙_}
+use mathlib.Core.Path.{_∙_}
 use lib.ListN.{length}
 use Prim.Native.Nat.{ℕ, _+_, _-_, _≤_}
 use Rattle.mitex.proofs.Walking.{Looping, Child, looping-start, loop-room, loop-row, child-spans, child, child-given, child-behind, loop-refused, loop-next, tokens-given, run-high, run-stop, run-some, run-refused, run-next, loop-done}

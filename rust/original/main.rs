@@ -1,0 +1,230 @@
+//! The original converter beside the static library: `compare` feeds both made documents and compares what they answer, `speed` times
+//! both on the benchmark's document. Built by `tools/original.sh`, which puts the original's files beside this one.
+#![allow(dead_code, unused_imports, unexpected_cfgs)]
+
+mod converter;
+pub mod mitex_spec;
+pub mod syntax;
+
+pub mod mitex_parser {
+    pub use crate::mitex_spec as spec;
+    pub use crate::syntax;
+}
+
+/// The original names a set of rules of its own; none of them is used here.
+pub mod mitex_spec_gen {
+    use std::sync::LazyLock;
+
+    pub static DEFAULT_SPEC: LazyLock<crate::mitex_spec::CommandSpec> =
+        LazyLock::new(|| crate::mitex_spec::CommandSpec::new(Default::default()));
+}
+
+use std::collections::BTreeMap;
+use std::hint::black_box;
+use std::panic::catch_unwind;
+use std::time::Instant;
+
+use converter::LaTeXMode;
+use mitex_spec::{
+    ArgPattern, ArgShape, CmdShape, CommandSpec, CommandSpecItem, ContextFeature, EnvShape,
+};
+use reference::made::{tree_file, Maker};
+use syntax::SyntaxKind::{self, *};
+use syntax::SyntaxNode;
+use zaldrume::raw;
+
+/// The kinds by their numbers in a tree file, less one.
+#[rustfmt::skip]
+const KINDS: [SyntaxKind; 45] = [
+    TokenError, ItemLR, ClauseArgument, ScopeRoot, ItemText, ItemBracket, ItemParen, ItemFormula, ItemCurly,
+    ClauseLR, ItemAttachComponent, ClauseCommandName, ItemBegin, ItemEnd, TokenWord, TokenLBrace, TokenRBrace,
+    TokenDollar, TokenBeginMath, TokenEndMath, TokenComment, ItemBlockComment, TokenWhiteSpace, TokenLineBreak,
+    TokenApostrophe, TokenComma, TokenSlash, TokenCaret, TokenUnderscore, TokenHash, TokenAsterisk, TokenAtSign,
+    TokenDitto, TokenSemicolon, TokenLParen, TokenRParen, TokenLBracket, TokenRBracket, TokenTilde,
+    TokenAmpersand, ItemNewLine, TokenCommandSym, ItemCmd, ItemEnv, ItemTypstCode,
+];
+
+fn number(bytes: &[u8]) -> usize {
+    bytes
+        .iter()
+        .rev()
+        .fold(0, |n, byte| n << 8 | usize::from(*byte))
+}
+
+/// The text area and the rows of a file that fits.
+fn areas(file: &[u8]) -> (&str, std::slice::ChunksExact<'_, u8>) {
+    let end = file.len() - 8;
+    let start = number(&file[end..end + 4]);
+    let text = std::str::from_utf8(&file[..start]).expect("valid text");
+    (text, file[start..end].chunks_exact(8))
+}
+
+fn spec_of(rules: &[u8]) -> CommandSpec {
+    let (mut text, rows) = areas(rules);
+    let mut take = |size: usize| {
+        let (taken, rest) = text.split_at(size);
+        text = rest;
+        taken.to_owned()
+    };
+    let command = |alias, pattern| {
+        CommandSpecItem::Cmd(CmdShape {
+            args: ArgShape::Right { pattern },
+            alias,
+        })
+    };
+    let environment = |alias, ctx_feature| {
+        CommandSpecItem::Env(EnvShape {
+            args: ArgPattern::None,
+            ctx_feature,
+            alias,
+        })
+    };
+    let mut items = rustc_hash::FxHashMap::default();
+    for row in rows {
+        let name = take(number(&row[..2]));
+        let alias = match number(&row[2..4]) {
+            65535 => None,
+            size => Some(take(size)),
+        };
+        let item = match row[4] {
+            0 => command(alias, ArgPattern::None),
+            1 => command(alias, ArgPattern::Greedy),
+            2 => command(alias, ArgPattern::FixedLenTerm { len: 1 }),
+            3 => environment(alias, ContextFeature::None),
+            4 => environment(alias, ContextFeature::IsMath),
+            5 => environment(alias, ContextFeature::IsMatrix),
+            6 => environment(alias, ContextFeature::IsCases),
+            7 => environment(alias, ContextFeature::IsFigure),
+            8 => environment(alias, ContextFeature::IsTable),
+            9 => environment(alias, ContextFeature::IsItemize),
+            _ => environment(alias, ContextFeature::IsEnumerate),
+        };
+        items.insert(name, item);
+    }
+    CommandSpec::new(items)
+}
+
+fn node_of(tree: &[u8]) -> SyntaxNode {
+    let (mut text, rows) = areas(tree);
+    let mut builder = rowan::GreenNodeBuilder::new();
+    let mut ends = Vec::new();
+    for (i, row) in rows.enumerate() {
+        while ends.last() == Some(&i) {
+            builder.finish_node();
+            ends.pop();
+        }
+        let kind = KINDS[usize::from(row[0]) - 1].into();
+        let size = number(&row[4..]);
+        if row[1] == 1 {
+            let (taken, rest) = text.split_at(size);
+            builder.token(kind, taken);
+            text = rest;
+        } else {
+            builder.start_node(kind);
+            ends.push(i + 1 + size);
+        }
+    }
+    ends.iter().for_each(|_| builder.finish_node());
+    SyntaxNode::new_root(builder.finish())
+}
+
+fn mode_of(mode: u8) -> LaTeXMode {
+    match mode {
+        0 => LaTeXMode::Text,
+        _ => LaTeXMode::Math,
+    }
+}
+
+/// Past refusals 1 to 5 and apart from 14 and 15 the original gives the same text; an error where the library refuses, and a panic
+/// where that is by 12.
+fn compare(cases: u64, seed: u64) {
+    std::panic::set_hook(Box::new(|_| ()));
+    let mut counts = BTreeMap::<String, u64>::new();
+    let (mut text, mut ledger) = (vec![0; 1 << 20], vec![0; 1 << 16]);
+    for seed in seed..seed + cases {
+        let mut maker = Maker::new(seed);
+        let rules = maker.rules();
+        let (count, depth) = (1 + maker.random.below(12), 1 + maker.random.below(7));
+        let tree = tree_file(&maker.blocks(count, depth));
+        for mode in [0, 1] {
+            let answer = raw::convert(mode, &rules, &tree, &mut text, &mut ledger);
+            let refusal = answer.number;
+            if matches!(refusal, 1..=5 | 14..) {
+                *counts
+                    .entry(format!("refusal {refusal}: not compared"))
+                    .or_default() += 1;
+                continue;
+            }
+            let original =
+                catch_unwind(|| converter::run(node_of(&tree), mode_of(mode), spec_of(&rules)));
+            let (same, told) = match &original {
+                Ok(Ok(written)) => (
+                    refusal == 0 && written.as_bytes() == &text[..answer.place],
+                    "a text",
+                ),
+                Ok(Err(_)) => (matches!(refusal, 7..=11 | 13), "an error"),
+                Err(_) => (refusal == 12, "a panic"),
+            };
+            if !same {
+                println!(
+                    "different: seed {seed}, mode {mode}, library {answer:?}, original {told}"
+                );
+            }
+            let what = if same { "same" } else { "DIFFERENT" };
+            *counts
+                .entry(format!("refusal {refusal}, original {told}: {what}"))
+                .or_default() += 1;
+        }
+    }
+    for (what, count) in counts {
+        println!("{count:>9}  {what}");
+    }
+}
+
+/// The least mean of rounds of five calls.
+fn least(least: &mut f64, mut call: impl FnMut()) {
+    for _ in 0..5 {
+        let start = Instant::now();
+        (0..5).for_each(|_| call());
+        *least = least.min(start.elapsed().as_nanos() as f64 / 5.0);
+    }
+}
+
+fn speed(rules: &[u8], tree: &[u8]) {
+    let rows = areas(tree).1.len() as f64;
+    let (spec, node) = (spec_of(rules), node_of(tree));
+    let run = || converter::run(node.clone(), LaTeXMode::Text, spec.clone()).expect("accepted");
+    let (mut text, mut ledger) = (vec![0; 1 << 20], vec![0; 1 << 16]);
+    let length = raw::convert(0, rules, tree, &mut text, &mut ledger).place;
+    assert_eq!(run().as_bytes(), &text[..length]);
+    let (mut theirs, mut ours) = (f64::INFINITY, f64::INFINITY);
+    for _ in 0..60 {
+        least(&mut theirs, || drop(black_box(run())));
+        least(&mut ours, || {
+            drop(black_box(raw::convert(
+                0,
+                black_box(rules),
+                black_box(tree),
+                &mut text,
+                &mut ledger,
+            )))
+        });
+    }
+    let ratio = ours / theirs;
+    println!("{rows} rows: the original's conversion alone {:.1} ns a row, the library's Convert {:.1}, ratio {ratio:.2}", theirs / rows, ours / rows);
+}
+
+fn main() {
+    let words: Vec<String> = std::env::args().skip(1).collect();
+    match words.iter().map(String::as_str).collect::<Vec<_>>()[..] {
+        ["compare", cases, seed] => compare(
+            cases.parse().expect("a count"),
+            seed.parse().expect("a seed"),
+        ),
+        ["speed", rules, tree] => speed(
+            &std::fs::read(rules).expect("a rule file"),
+            &std::fs::read(tree).expect("a tree file"),
+        ),
+        _ => eprintln!("usage: original compare CASES SEED | original speed RULES TREE"),
+    }
+}
