@@ -6,6 +6,10 @@
 # crates/mitex-spec/src/lib.rs; CRATES is a folder with the sources of rowan, countme, hashbrown, rustc-hash and text-size, each in a
 # folder NAME-VERSION, as a distribution's packages of Rust sources install them. Nothing of theirs is kept in this repository.
 set -eu
+if [ $# -lt 7 ]; then
+    sed -n '2,7s/^# \{0,1\}//p' "$0" >&2
+    exit 2
+fi
 converter=$(realpath "$1") syntax=$(realpath "$2") spec=$(realpath "$3") crates=$(realpath "$4")
 shift 4
 words=("$@")

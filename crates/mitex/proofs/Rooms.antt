@@ -4,7 +4,8 @@ use mathlib.Core.List.{List}
 use Prim.Native.Nat.{ℕ, _+_, _-_, _/_, _≤_}
 use native.Mathlib.Omega.{arith}
 use lib.ListN.{length}
-use Rattle.text.specs.Writing.{cap}
+use Rattle.text.specs.Writing.{cap, Wrote}
+use Rattle.text.proofs.Writing.{wrote-low}
 use Rattle.mitex_syntax.specs.Spells.{SomeForest}
 use Rattle.mitex_syntax.proofs.Trees.{all-begins}
 use Rattle.mitex_syntax.proofs.Places.{some-forest}
@@ -33,6 +34,12 @@ room-on r d h l e p =
       deep = omega (arith, r .deep);
       label = l;
     }
+
+-- and behind a text that was written
+pub room-behind :
+    {slack : ℕ} {rows text out : List ℕ} {at row : ℕ} {c : Converter} {w : List ℕ} {at′ : ℕ} {out′ : List ℕ} → Room slack rows text out at row c
+    → length out′ ≡ length out → Wrote at out w at′ out′ → Room slack rows text out′ at′ row c
+room-behind {c = c} r same wrote = room-on r c refl (r .label) same (wrote-low wrote)
 
 -- a part of the rows and of the text
 pub room-part :

@@ -48,7 +48,22 @@ returns-14 : tie.Need-returns-14
 returns-14 c =
     λ no.
     let rest = c .match .rest in
-    no-escape (c .before .args .kind) no (record { comma = rest .0 .0 .0 .0 .0 .0 .0 .0 .0 .0 .0 .0 .1; slash = rest .0 .0 .0 .0 .0 .0 .0 .0 .0 .0 .0 .1; caret = rest .0 .0 .0 .0 .0 .0 .0 .0 .0 .0 .1; underscore = rest .0 .0 .0 .0 .0 .0 .0 .0 .0 .1; hash = rest .0 .0 .0 .0 .0 .0 .0 .0 .1; asterisk = rest .0 .0 .0 .0 .0 .0 .0 .1; at-sign = rest .0 .0 .0 .0 .0 .0 .1; ditto = rest .0 .0 .0 .0 .0 .1; semicolon = rest .0 .0 .0 .0 .1; lparen = rest .0 .0 .0 .1; rparen = rest .0 .0 .1; lbracket = rest .0 .1; rbracket = rest .1 })
+    no-escape (c .before .args .kind) no
+    (record {
+      comma = rest .0 .0 .0 .0 .0 .0 .0 .0 .0 .0 .0 .0 .1;
+      slash = rest .0 .0 .0 .0 .0 .0 .0 .0 .0 .0 .0 .1;
+      caret = rest .0 .0 .0 .0 .0 .0 .0 .0 .0 .0 .1;
+      underscore = rest .0 .0 .0 .0 .0 .0 .0 .0 .0 .1;
+      hash = rest .0 .0 .0 .0 .0 .0 .0 .0 .1;
+      asterisk = rest .0 .0 .0 .0 .0 .0 .0 .1;
+      at-sign = rest .0 .0 .0 .0 .0 .0 .1;
+      ditto = rest .0 .0 .0 .0 .0 .1;
+      semicolon = rest .0 .0 .0 .0 .1;
+      lparen = rest .0 .0 .0 .1;
+      rparen = rest .0 .0 .1;
+      lbracket = rest .0 .1;
+      rbracket = rest .1;
+    })
 
 pub escaped-spec : {M : Type 1} → statement M
 escaped-spec =

@@ -1,33 +1,32 @@
 -- The needs of `convert_clause_lr`.
-use mathlib.Core.Path.{refl, _∙_}
-use Rattle.text.proofs.Writing.{wrote-low}
+use mathlib.Core.Path.{_∙_}
 use Rattle.mitex_state.specs.Groups.{clauseLr}
-use Rattle.mitex.proofs.Rooms.{siblings-forest, room-on}
+use Rattle.mitex.proofs.Rooms.{siblings-forest, room-behind}
 use Rattle.mitex.proofs.Planning.{plan-agrees, given-in}
 use native.Mathlib.Omega.{arith}
 use Prim.Native.Nat.{ℕ}
-use Rattle.mitex.proofs.convert_clause_lr.Reads as convert-clause-lr
-use Rattle.mitex.proofs.+body+command+convert+convert_clause_lr+convert_command_color+convert_curly_group+convert_env+convert_env_figure+convert_env_table+convert_formula+convert_normal_command+each+turn+twice+walk.Lts-convert_clause_lr as convert-clause-lr-lts
-use Rattle.mitex.proofs.+body+command+convert+convert_clause_lr+convert_command_color+convert_curly_group+convert_env+convert_env_figure+convert_env_table+convert_formula+convert_normal_command+each+turn+twice+walk.Proof.Setup.{convert-clause-lr-at, convert-clause-lr-calls}
+use Rattle.mitex.proofs.convert_clause_lr.Reads as self
+use Rattle.mitex.proofs.+body+command+convert+convert_clause_lr+convert_command_color+convert_curly_group+convert_env+convert_env_figure+convert_env_table+convert_formula+convert_normal_command+each+turn+twice+walk.Lts-convert_clause_lr as lts
+use Rattle.mitex.proofs.+body+command+convert+convert_clause_lr+convert_command_color+convert_curly_group+convert_env+convert_env_figure+convert_env_table+convert_formula+convert_normal_command+each+turn+twice+walk.Proof.Setup.{convert-clause-lr-at as pre-at, convert-clause-lr-calls as calls}
 
-convert-clause-lr-lr-name-requires : (t : ℕ) → convert-clause-lr-lts.Need-lr-name-requires (convert-clause-lr-calls t) (convert-clause-lr-at t) convert-clause-lr.Post
+convert-clause-lr-lr-name-requires : (t : ℕ) → lts.Need-lr-name-requires (calls t) (pre-at t) self.Post
 convert-clause-lr-lr-name-requires t c κs =
     let start = c .before .before .before .before .before in
     siblings-forest (start .pre .1 .0) (start .pre .1 .1 .1)
 
-convert-clause-lr-put-lr-begin-requires : (t : ℕ) → convert-clause-lr-lts.Need-put-lr-begin-requires (convert-clause-lr-calls t) (convert-clause-lr-at t) convert-clause-lr.Post
+convert-clause-lr-put-lr-begin-requires : (t : ℕ) → lts.Need-put-lr-begin-requires (calls t) (pre-at t) self.Post
 convert-clause-lr-put-lr-begin-requires t c κs =
     let at-shared-slice-known = c .before .before .before .before .before in
     let start = at-shared-slice-known .before .before in
     (start .pre .1 .0 .place, start .pre .1 .0 .room)
 
-convert-clause-lr-lr-plan-requires : (t : ℕ) → convert-clause-lr-lts.Need-lr-plan-requires (convert-clause-lr-calls t) (convert-clause-lr-at t) convert-clause-lr.Post
+convert-clause-lr-lr-plan-requires : (t : ℕ) → lts.Need-lr-plan-requires (calls t) (pre-at t) self.Post
 convert-clause-lr-lr-plan-requires t c κs =
     let at-shared-slice-known4 = c .before .before .before .before .before in
     let start = at-shared-slice-known4 .before .before .before .before .before in
     siblings-forest (start .pre .1 .0) (start .pre .1 .1 .1)
 
-convert-clause-lr-walk-requires : (t : ℕ) → convert-clause-lr-lts.Need-walk-requires (convert-clause-lr-calls t) (convert-clause-lr-at t) convert-clause-lr.Post
+convert-clause-lr-walk-requires : (t : ℕ) → lts.Need-walk-requires (calls t) (pre-at t) self.Post
 convert-clause-lr-walk-requires t c κs =
     let at-lr-plan = c .before in
     let at-put-lr-begin = at-lr-plan .before .before .before in
@@ -36,8 +35,7 @@ convert-clause-lr-walk-requires t c κs =
     let start = at-slice-known .before in (
       omega (arith, start .pre .0),
       (
-        room-on (start .pre .1 .0) (start .args .c) refl (start .pre .1 .0 .label)
-            (at-put-lr-begin .put-lr-begin .kept .0) (wrote-low (at-put-lr-begin .put-lr-begin .ensures)),
+        room-behind (start .pre .1 .0) (at-put-lr-begin .put-lr-begin .kept .0) (at-put-lr-begin .put-lr-begin .ensures),
         (
           start .pre .1 .1 .0,
           given-in (start .pre .1 .1 .0) (start .pre .1 .1 .1)
@@ -46,13 +44,13 @@ convert-clause-lr-walk-requires t c κs =
       ),
     )
 
-convert-clause-lr-same-length : (t : ℕ) → convert-clause-lr-lts.Need-same-length (convert-clause-lr-calls t) (convert-clause-lr-at t) convert-clause-lr.Post
+convert-clause-lr-same-length : (t : ℕ) → lts.Need-same-length (calls t) (pre-at t) self.Post
 convert-clause-lr-same-length t c =
     let at-walk = c .before .before in
     let at-put-lr-begin = at-walk .before .before .before .before .before in
     at-walk .walk .kept .0 ∙ at-put-lr-begin .put-lr-begin .kept .0
 
-convert-clause-lr-returns : (t : ℕ) → convert-clause-lr-lts.Need-returns (convert-clause-lr-calls t) (convert-clause-lr-at t) convert-clause-lr.Post
+convert-clause-lr-returns : (t : ℕ) → lts.Need-returns (calls t) (pre-at t) self.Post
 convert-clause-lr-returns t c =
     let at-walk = c .before .before in
     let at-lr-plan = at-walk .before .before in
@@ -64,11 +62,11 @@ convert-clause-lr-returns t c =
     h (at-lr-plan .lr-plan .ensures f sp (at-lr-name .lr-name .ensures f sp) rs) (at-walk .walk .ensures)
 
 -- its code meets what it promises, if those it calls do where less is left
-pub convert-clause-lr-closed : {M : Type 1} (t : ℕ) → convert-clause-lr-lts.Closed (convert-clause-lr-calls t) (convert-clause-lr-at t) convert-clause-lr.Post M
+pub convert-clause-lr-closed : {M : Type 1} (t : ℕ) → lts.Closed (calls t) (pre-at t) self.Post M
 convert-clause-lr-closed t =
-    convert-clause-lr-lts.spec (convert-clause-lr-calls t)
-    (convert-clause-lr-at t)
-    convert-clause-lr.Post
+    lts.spec (calls t)
+    (pre-at t)
+    self.Post
     (convert-clause-lr-lr-name-requires t)
     (convert-clause-lr-put-lr-begin-requires t)
     (convert-clause-lr-lr-plan-requires t)

@@ -25,21 +25,21 @@ use Rattle.mitex.specs.Walks.{Room, Siblings}
 use Rattle.mitex.proofs.Rooms.{siblings-forest}
 use Rattle.mitex.proofs.Commanding.{body-number, arguments-number, command-is, colors-how}
 use borrow.Author.Needs.{needs}
-use Rattle.mitex.proofs.command.Reads as command
-use Rattle.mitex.proofs.+body+command+convert+convert_clause_lr+convert_command_color+convert_curly_group+convert_env+convert_env_figure+convert_env_table+convert_formula+convert_normal_command+each+turn+twice+walk.Lts-command as command-lts
-use Rattle.mitex.proofs.+body+command+convert+convert_clause_lr+convert_command_color+convert_curly_group+convert_env+convert_env_figure+convert_env_table+convert_formula+convert_normal_command+each+turn+twice+walk.Proof.Setup.{command-at, command-calls}
+use Rattle.mitex.proofs.command.Reads as self
+use Rattle.mitex.proofs.+body+command+convert+convert_clause_lr+convert_command_color+convert_curly_group+convert_env+convert_env_figure+convert_env_table+convert_formula+convert_normal_command+each+turn+twice+walk.Lts-command as lts
+use Rattle.mitex.proofs.+body+command+convert+convert_clause_lr+convert_command_color+convert_curly_group+convert_env+convert_env_figure+convert_env_table+convert_formula+convert_normal_command+each+turn+twice+walk.Proof.Setup.{command-at as pre-at, command-calls as calls}
 
 -- a place at which the command is told; where its name was read and cut, and the function's entry
 abbrev Here : ℕ → Type 0
-Here t = command-lts.After-command-of (command-calls t) (command-at t) command.Post
+Here t = lts.After-command-of (calls t) (pre-at t) self.Post
 
-abbrev cut : (t : ℕ) → Here t → command-lts.After-past-first (command-calls t) (command-at t) command.Post
+abbrev cut : (t : ℕ) → Here t → lts.After-past-first (calls t) (pre-at t) self.Post
 cut t c = c .before
 
-abbrev read : (t : ℕ) → Here t → command-lts.After-name-tok (command-calls t) (command-at t) command.Post
+abbrev read : (t : ℕ) → Here t → lts.After-name-tok (calls t) (pre-at t) self.Post
 read t c = cut t c .before
 
-abbrev entry : (t : ℕ) → Here t → command-lts.Start (command-calls t) (command-at t) command.Post
+abbrev entry : (t : ℕ) → Here t → lts.Start (calls t) (pre-at t) self.Post
 entry t c = let known = read t c .before .before .before .before .before in known .before
 
 -- what a helper is given: less to do, and the children as they are here
@@ -70,72 +70,70 @@ command-here t c k q rs f sp n =
     command-is (meaning n) (contextOf rs d) f (carryOf d) _ k
     (cut t c .past-first .ensures ∙ ap (drop 1) (read t c .name-tok .ensures f (all-begins sp))) (sym (c .command-of .ensures) ∙ q)
 
-command-name-tok-requires : (t : ℕ) → command-lts.Need-name-tok-requires (command-calls t) (command-at t) command.Post
+command-name-tok-requires : (t : ℕ) → lts.Need-name-tok-requires (calls t) (pre-at t) self.Post
 command-name-tok-requires t c κs =
     let start = c .before .before .before .before .before in
     siblings-forest (start .pre .1 .0) (start .pre .1 .1 .1)
 
-command-past-first-requires : (t : ℕ) → command-lts.Need-past-first-requires (command-calls t) (command-at t) command.Post
+command-past-first-requires : (t : ℕ) → lts.Need-past-first-requires (calls t) (pre-at t) self.Post
 command-past-first-requires t c κs = search needs
 
-command-command-of-requires : (t : ℕ) → command-lts.Need-command-of-requires (command-calls t) (command-at t) command.Post
+command-command-of-requires : (t : ℕ) → lts.Need-command-of-requires (calls t) (pre-at t) self.Post
 command-command-of-requires t c κs = search needs
 
-command-enum-told : (t : ℕ) → command-lts.Need-enum-told (command-calls t) (command-at t) command.Post
+command-enum-told : (t : ℕ) → lts.Need-enum-told (calls t) (pre-at t) self.Post
 command-enum-told t c = search needs
 
-command-convert-command-item-requires : (t : ℕ) → command-lts.Need-convert-command-item-requires (command-calls t) (command-at t)
-    command.Post
+command-convert-command-item-requires : (t : ℕ) → lts.Need-convert-command-item-requires (calls t) (pre-at t) self.Post
 command-convert-command-item-requires t c κs =
     let at-name-tok = c .before .before .before .before .before in
     let at-slice-known = at-name-tok .before .before .before .before .before in
     let start = at-slice-known .before in
     ((start .pre .1 .0 .place, start .pre .1 .0 .room), start .pre .1 .0 .label)
 
-command-enum-told-2 : (t : ℕ) → command-lts.Need-enum-told-2 (command-calls t) (command-at t) command.Post
+command-enum-told-2 : (t : ℕ) → lts.Need-enum-told-2 (calls t) (pre-at t) self.Post
 command-enum-told-2 t c = search needs
 
-command-convert-command-label-requires : (t : ℕ) → command-lts.Need-convert-command-label-requires (command-calls t) (command-at t)
-    command.Post
+command-convert-command-label-requires : (t : ℕ) → lts.Need-convert-command-label-requires (calls t) (pre-at t) self.Post
 command-convert-command-label-requires t c κs =
     let at-name-tok = c .before .before .before .before .before in
     let at-slice-known = at-name-tok .before .before .before .before .before in
     let start = at-slice-known .before in
     ((start .pre .1 .0 .place, start .pre .1 .0 .room), (siblings-forest (start .pre .1 .0) (start .pre .1 .1 .1), start .pre .1 .0 .label))
 
-command-enum-told-3 : (t : ℕ) → command-lts.Need-enum-told-3 (command-calls t) (command-at t) command.Post
+command-enum-told-3 : (t : ℕ) → lts.Need-enum-told-3 (calls t) (pre-at t) self.Post
 command-enum-told-3 t c = search needs
 
-command-convert-command-includegraphics-requires : (t : ℕ) → command-lts.Need-convert-command-includegraphics-requires (command-calls t)
-    (command-at t) command.Post
+command-convert-command-includegraphics-requires : (t : ℕ) → lts.Need-convert-command-includegraphics-requires (calls t)
+    (pre-at t) self.Post
 command-convert-command-includegraphics-requires t c κs =
     let at-name-tok = c .before .before .before .before .before in
     let at-slice-known = at-name-tok .before .before .before .before .before in
     let start = at-slice-known .before in
     (start .pre .1 .0 .place, start .pre .1 .0 .room, siblings-forest (start .pre .1 .0) (start .pre .1 .1 .1))
 
-command-went-requires : (t : ℕ) → command-lts.Need-went-requires (command-calls t) (command-at t) command.Post
+command-went-requires : (t : ℕ) → lts.Need-went-requires (calls t) (pre-at t) self.Post
 command-went-requires t c κs = search needs
 
-command-enum-told-4 : (t : ℕ) → command-lts.Need-enum-told-4 (command-calls t) (command-at t) command.Post
+command-enum-told-4 : (t : ℕ) → lts.Need-enum-told-4 (calls t) (pre-at t) self.Post
 command-enum-told-4 t c = search needs
 
-command-went-requires-2 : (t : ℕ) → command-lts.Need-went-requires-2 (command-calls t) (command-at t) command.Post
+command-went-requires-2 : (t : ℕ) → lts.Need-went-requires-2 (calls t) (pre-at t) self.Post
 command-went-requires-2 t c κs = search needs
 
-command-enum-told-5 : (t : ℕ) → command-lts.Need-enum-told-5 (command-calls t) (command-at t) command.Post
+command-enum-told-5 : (t : ℕ) → lts.Need-enum-told-5 (calls t) (pre-at t) self.Post
 command-enum-told-5 t c = search needs
 
-command-color-model-requires : (t : ℕ) → command-lts.Need-color-model-requires (command-calls t) (command-at t) command.Post
+command-color-model-requires : (t : ℕ) → lts.Need-color-model-requires (calls t) (pre-at t) self.Post
 command-color-model-requires t c κs =
     let at-shared-slice-known4 = c .before .before .before .before .before in
     let start = at-shared-slice-known4 .before .before .before .before .before in
     siblings-forest (start .pre .1 .0) (start .pre .1 .1 .1)
 
-command-body-loop-requires : (t : ℕ) → command-lts.Need-body-loop-requires (command-calls t) (command-at t) command.Post
+command-body-loop-requires : (t : ℕ) → lts.Need-body-loop-requires (calls t) (pre-at t) self.Post
 command-body-loop-requires t c κs = search needs
 
-command-convert-command-color-requires : (t : ℕ) → command-lts.Need-convert-command-color-requires (command-calls t) (command-at t) command.Post
+command-convert-command-color-requires : (t : ℕ) → lts.Need-convert-command-color-requires (calls t) (pre-at t) self.Post
 command-convert-command-color-requires t c κs =
     let at-body-loop = c .before in
     let at-color-model = at-body-loop .before in
@@ -151,19 +149,19 @@ command-convert-command-color-requires t c κs =
       counts = ap numberOf (at-body-loop .body-loop .ensures) ∙ body-number (entry t here .args .c .mode);
     })
 
-command-enum-told-6 : (t : ℕ) → command-lts.Need-enum-told-6 (command-calls t) (command-at t) command.Post
+command-enum-told-6 : (t : ℕ) → lts.Need-enum-told-6 (calls t) (pre-at t) self.Post
 command-enum-told-6 t c = search needs
 
-command-argument-model-requires : (t : ℕ) → command-lts.Need-argument-model-requires (command-calls t) (command-at t) command.Post
+command-argument-model-requires : (t : ℕ) → lts.Need-argument-model-requires (calls t) (pre-at t) self.Post
 command-argument-model-requires t c κs =
     let at-shared-slice-known4 = c .before .before .before .before .before in
     let start = at-shared-slice-known4 .before .before .before .before .before in
     siblings-forest (start .pre .1 .0) (start .pre .1 .1 .1)
 
-command-arguments-loop-requires : (t : ℕ) → command-lts.Need-arguments-loop-requires (command-calls t) (command-at t) command.Post
+command-arguments-loop-requires : (t : ℕ) → lts.Need-arguments-loop-requires (calls t) (pre-at t) self.Post
 command-arguments-loop-requires t c κs = search needs
 
-command-convert-command-color-requires-2 : (t : ℕ) → command-lts.Need-convert-command-color-requires-2 (command-calls t) (command-at t) command.Post
+command-convert-command-color-requires-2 : (t : ℕ) → lts.Need-convert-command-color-requires-2 (calls t) (pre-at t) self.Post
 command-convert-command-color-requires-2 t c κs =
     let at-arguments-loop = c .before in
     let at-argument-model = at-arguments-loop .before in
@@ -178,42 +176,42 @@ command-convert-command-color-requires-2 t c κs =
       counts = ap numberOf (at-arguments-loop .arguments-loop .ensures) ∙ arguments-number (entry t here .args .c .mode);
     })
 
-command-enum-told-7 : (t : ℕ) → command-lts.Need-enum-told-7 (command-calls t) (command-at t) command.Post
+command-enum-told-7 : (t : ℕ) → lts.Need-enum-told-7 (calls t) (pre-at t) self.Post
 command-enum-told-7 t c = search needs
 
-command-convert-normal-command-requires : (t : ℕ) → command-lts.Need-convert-normal-command-requires (command-calls t) (command-at t) command.Post
+command-convert-normal-command-requires : (t : ℕ) → lts.Need-convert-normal-command-requires (calls t) (pre-at t) self.Post
 command-convert-normal-command-requires t c κs = given-here t (c .before .before .before) 4 (omega arith)
 
-command-same-length : (t : ℕ) → command-lts.Need-same-length (command-calls t) (command-at t) command.Post
+command-same-length : (t : ℕ) → lts.Need-same-length (calls t) (pre-at t) self.Post
 command-same-length t c =
     let at-convert-command-item = c .before .before in
     at-convert-command-item .convert-command-item .kept .0
 
-command-returns : (t : ℕ) → command-lts.Need-returns (command-calls t) (command-at t) command.Post
+command-returns : (t : ℕ) → lts.Need-returns (calls t) (pre-at t) self.Post
 command-returns t c =
     let at-convert-command-item = c .before .before in
     let at-told = at-convert-command-item .before .before in
     λ rs ready f sp n h. agrees-as (command-here t (at-told .before .before) Item (at-told .enum-told .given .1) rs f sp n)
     (at-convert-command-item .convert-command-item .ensures)
 
-command-same-length-2 : (t : ℕ) → command-lts.Need-same-length-2 (command-calls t) (command-at t) command.Post
+command-same-length-2 : (t : ℕ) → lts.Need-same-length-2 (calls t) (pre-at t) self.Post
 command-same-length-2 t c =
     let at-convert-command-label = c .before .before in
     at-convert-command-label .convert-command-label .kept .0
 
-command-returns-2 : (t : ℕ) → command-lts.Need-returns-2 (command-calls t) (command-at t) command.Post
+command-returns-2 : (t : ℕ) → lts.Need-returns-2 (calls t) (pre-at t) self.Post
 command-returns-2 t c =
     let at-convert-command-label = c .before .before in
     let at-told = at-convert-command-label .before .before in
     λ rs ready f sp n h. agrees-as (command-here t (at-told .before .before) Label (at-told .enum-told2 .given .1) rs f sp n)
     (at-convert-command-label .convert-command-label .ensures f sp)
 
-command-same-length-3 : (t : ℕ) → command-lts.Need-same-length-3 (command-calls t) (command-at t) command.Post
+command-same-length-3 : (t : ℕ) → lts.Need-same-length-3 (calls t) (pre-at t) self.Post
 command-same-length-3 t c =
     let at-convert-command-includegraphics = c .before .before .before in
     at-convert-command-includegraphics .convert-command-includegraphics .kept .0
 
-command-returns-3 : (t : ℕ) → command-lts.Need-returns-3 (command-calls t) (command-at t) command.Post
+command-returns-3 : (t : ℕ) → lts.Need-returns-3 (calls t) (pre-at t) self.Post
 command-returns-3 t c =
     let at-convert-command-includegraphics = c .before .before .before in
     let at-told = at-convert-command-includegraphics .before .before in
@@ -223,7 +221,7 @@ command-returns-3 t c =
     (agrees-done (start .args .c) (c .went .ensures) refl refl (start .pre .1 .0 .label)
     (at-convert-command-includegraphics .convert-command-includegraphics .ensures f (all-begins sp)))
 
-command-returns-4 : (t : ℕ) → command-lts.Need-returns-4 (command-calls t) (command-at t) command.Post
+command-returns-4 : (t : ℕ) → lts.Need-returns-4 (calls t) (pre-at t) self.Post
 command-returns-4 t c =
     let at-told = c .before in
     let here = at-told .before .before in
@@ -231,12 +229,12 @@ command-returns-4 t c =
     λ rs ready f sp n h. agrees-as (command-here t here Array (at-told .enum-told4 .given .1) rs f sp n)
     (agrees-done (start .args .c) (c .went2 .ensures) refl refl (start .pre .1 .0 .label) (wrote-nil _ _ (start .pre .1 .0 .place)))
 
-command-same-length-4 : (t : ℕ) → command-lts.Need-same-length-4 (command-calls t) (command-at t) command.Post
+command-same-length-4 : (t : ℕ) → lts.Need-same-length-4 (calls t) (pre-at t) self.Post
 command-same-length-4 t c =
     let at-convert-command-color = c .before .before in
     at-convert-command-color .convert-command-color .kept .0
 
-command-returns-5 : (t : ℕ) → command-lts.Need-returns-5 (command-calls t) (command-at t) command.Post
+command-returns-5 : (t : ℕ) → lts.Need-returns-5 (calls t) (pre-at t) self.Post
 command-returns-5 t c =
     let at-convert-command-color = c .before .before in
     let at-body-loop = at-convert-command-color .before .before in
@@ -249,12 +247,12 @@ command-returns-5 t c =
     (colors-how d (cut t here .past-first .result .now) (at-color-model .color-model .result) (at-body-loop .body-loop .ensures)
     (at-convert-command-color .convert-command-color .ensures) rs ready (q .model) f sp (q .found) n h)
 
-command-same-length-5 : (t : ℕ) → command-lts.Need-same-length-5 (command-calls t) (command-at t) command.Post
+command-same-length-5 : (t : ℕ) → lts.Need-same-length-5 (calls t) (pre-at t) self.Post
 command-same-length-5 t c =
     let at-convert-command-color2 = c .before .before in
     at-convert-command-color2 .convert-command-color2 .kept .0
 
-command-returns-6 : (t : ℕ) → command-lts.Need-returns-6 (command-calls t) (command-at t) command.Post
+command-returns-6 : (t : ℕ) → lts.Need-returns-6 (calls t) (pre-at t) self.Post
 command-returns-6 t c =
     let at-convert-command-color2 = c .before .before in
     let at-arguments-loop = at-convert-command-color2 .before .before in
@@ -266,12 +264,12 @@ command-returns-6 t c =
     (at-arguments-loop .arguments-loop .ensures) (at-convert-command-color2 .convert-command-color2 .ensures) rs ready (argumentModel 1 f) f sp
     (at-argument-model .argument-model .ensures f sp) n h)
 
-command-same-length-6 : (t : ℕ) → command-lts.Need-same-length-6 (command-calls t) (command-at t) command.Post
+command-same-length-6 : (t : ℕ) → lts.Need-same-length-6 (calls t) (pre-at t) self.Post
 command-same-length-6 t c =
     let at-convert-normal-command = c .before .before in
     at-convert-normal-command .convert-normal-command .kept .0
 
-command-returns-7 : (t : ℕ) → command-lts.Need-returns-7 (command-calls t) (command-at t) command.Post
+command-returns-7 : (t : ℕ) → lts.Need-returns-7 (calls t) (pre-at t) self.Post
 command-returns-7 t c =
     let at-convert-normal-command = c .before .before in
     let at-told = at-convert-normal-command .before .before in
@@ -279,11 +277,11 @@ command-returns-7 t c =
     (at-convert-normal-command .convert-normal-command .ensures rs ready f sp n h)
 
 -- its code meets what it promises, if those it calls do where less is left
-pub command-closed : {M : Type 1} (t : ℕ) → command-lts.Closed (command-calls t) (command-at t) command.Post M
+pub command-closed : {M : Type 1} (t : ℕ) → lts.Closed (calls t) (pre-at t) self.Post M
 command-closed t =
-    command-lts.spec (command-calls t)
-    (command-at t)
-    command.Post
+    lts.spec (calls t)
+    (pre-at t)
+    self.Post
     (command-name-tok-requires t)
     (command-past-first-requires t)
     (command-command-of-requires t)

@@ -1,26 +1,24 @@
 -- The needs of `convert_command_color`.
-use mathlib.Core.Path.{refl, _∙_}
+use mathlib.Core.Path.{_∙_}
 use Rattle.text.proofs.Writing.{wrote-nil, wrote-low, wrote-as}
 use Rattle.mitex_state.proofs.Agreeing.{agrees-after}
 use Rattle.mitex_plans.specs.Plans.{coloredBy}
-use Rattle.mitex.proofs.Rooms.{room-on}
+use Rattle.mitex.proofs.Rooms.{room-behind}
 use Rattle.mitex.proofs.Planning.{both-agree}
 use Rattle.mitex.proofs.Commanding.{color-head}
 use native.Mathlib.Omega.{arith}
 use Prim.Native.Nat.{ℕ}
-use Rattle.mitex.proofs.convert_command_color.Reads as convert-command-color
-use Rattle.mitex.proofs.+body+command+convert+convert_clause_lr+convert_command_color+convert_curly_group+convert_env+convert_env_figure+convert_env_table+convert_formula+convert_normal_command+each+turn+twice+walk.Lts-convert_command_color as convert-command-color-lts
-use Rattle.mitex.proofs.+body+command+convert+convert_clause_lr+convert_command_color+convert_curly_group+convert_env+convert_env_figure+convert_env_table+convert_formula+convert_normal_command+each+turn+twice+walk.Proof.Setup.{convert-command-color-at, convert-command-color-calls}
+use Rattle.mitex.proofs.convert_command_color.Reads as self
+use Rattle.mitex.proofs.+body+command+convert+convert_clause_lr+convert_command_color+convert_curly_group+convert_env+convert_env_figure+convert_env_table+convert_formula+convert_normal_command+each+turn+twice+walk.Lts-convert_command_color as lts
+use Rattle.mitex.proofs.+body+command+convert+convert_clause_lr+convert_command_color+convert_curly_group+convert_env+convert_env_figure+convert_env_table+convert_formula+convert_normal_command+each+turn+twice+walk.Proof.Setup.{convert-command-color-at as pre-at, convert-command-color-calls as calls}
 
-convert-command-color-get-cmd-requires : (t : ℕ) → convert-command-color-lts.Need-get-cmd-requires (convert-command-color-calls t) (convert-command-color-at t)
-    convert-command-color.Post
+convert-command-color-get-cmd-requires : (t : ℕ) → lts.Need-get-cmd-requires (calls t) (pre-at t) self.Post
 convert-command-color-get-cmd-requires t c κs =
     let at-slice-known = c .before .before .before .before .before in
     let start = at-slice-known .before in
     start .pre .1 .1 .0
 
-convert-command-color-put-color-head-requires : (t : ℕ) → convert-command-color-lts.Need-put-color-head-requires (convert-command-color-calls t)
-    (convert-command-color-at t) convert-command-color.Post
+convert-command-color-put-color-head-requires : (t : ℕ) → lts.Need-put-color-head-requires (calls t) (pre-at t) self.Post
 convert-command-color-put-color-head-requires t c κs =
     let at-get-cmd = c .before in
     let at-shared-slice-known = at-get-cmd .before .before .before .before .before in
@@ -33,16 +31,14 @@ convert-command-color-put-color-head-requires t c κs =
       ),
     )
 
-convert-command-color-color-plans-requires : (t : ℕ) → convert-command-color-lts.Need-color-plans-requires (convert-command-color-calls t) (convert-command-color-at t)
-    convert-command-color.Post
+convert-command-color-color-plans-requires : (t : ℕ) → lts.Need-color-plans-requires (calls t) (pre-at t) self.Post
 convert-command-color-color-plans-requires t c κs =
     let at-shared-slice-known5 = c .before .before .before .before .before in
     let at-slice-known = at-shared-slice-known5 .before .before .before .before .before in
     let start = at-slice-known .before in
     (start .pre .1 .1 .1 .1, start .pre .1 .0 .few, start .pre .1 .0 .short)
 
-convert-command-color-twice-requires : (t : ℕ) → convert-command-color-lts.Need-twice-requires (convert-command-color-calls t) (convert-command-color-at t)
-    convert-command-color.Post
+convert-command-color-twice-requires : (t : ℕ) → lts.Need-twice-requires (calls t) (pre-at t) self.Post
 convert-command-color-twice-requires t c κs =
     let at-color-plans = c .before in
     let at-put-color-head = at-color-plans .before .before .before in
@@ -52,20 +48,19 @@ convert-command-color-twice-requires t c κs =
     (start .pre .1 .1 .0 .rules) in (
       omega (arith, start .pre .0),
       (
-        room-on (start .pre .1 .0) (start .args .c) refl
-            (start .pre .1 .0 .label) (at-put-color-head .put-color-head .kept .0)
-            (wrote-low (at-put-color-head .put-color-head .ensures (start .args .name .now))),
+        room-behind (start .pre .1 .0) (at-put-color-head .put-color-head .kept .0)
+            (at-put-color-head .put-color-head .ensures (start .args .name .now)),
         (start .pre .1 .1 .0, (m .first, m .second)),
       ),
     )
 
-convert-command-color-same-length : (t : ℕ) → convert-command-color-lts.Need-same-length (convert-command-color-calls t) (convert-command-color-at t) convert-command-color.Post
+convert-command-color-same-length : (t : ℕ) → lts.Need-same-length (calls t) (pre-at t) self.Post
 convert-command-color-same-length t c =
     let at-twice = c .before .before in
     let at-put-color-head = at-twice .before .before .before .before .before in
     at-twice .twice .kept .0 ∙ at-put-color-head .put-color-head .kept .0
 
-convert-command-color-returns : (t : ℕ) → convert-command-color-lts.Need-returns (convert-command-color-calls t) (convert-command-color-at t) convert-command-color.Post
+convert-command-color-returns : (t : ℕ) → lts.Need-returns (calls t) (pre-at t) self.Post
 convert-command-color-returns t c =
     let at-twice = c .before .before in
     let at-color-plans = at-twice .before .before in
@@ -82,11 +77,11 @@ convert-command-color-returns t c =
     (at-color-plans .color-plans .ensures m f sp found rs) (at-twice .twice .ensures))
 
 -- its code meets what it promises, if those it calls do where less is left
-pub convert-command-color-closed : {M : Type 1} (t : ℕ) → convert-command-color-lts.Closed (convert-command-color-calls t) (convert-command-color-at t) convert-command-color.Post M
+pub convert-command-color-closed : {M : Type 1} (t : ℕ) → lts.Closed (calls t) (pre-at t) self.Post M
 convert-command-color-closed t =
-    convert-command-color-lts.spec (convert-command-color-calls t)
-    (convert-command-color-at t)
-    convert-command-color.Post
+    lts.spec (calls t)
+    (pre-at t)
+    self.Post
     (convert-command-color-get-cmd-requires t)
     (convert-command-color-put-color-head-requires t)
     (convert-command-color-color-plans-requires t)

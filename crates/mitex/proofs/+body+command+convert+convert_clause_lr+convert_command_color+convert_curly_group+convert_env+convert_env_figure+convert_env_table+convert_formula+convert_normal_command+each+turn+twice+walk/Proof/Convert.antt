@@ -25,18 +25,18 @@ use Rattle.mitex.specs.Walks.{Room, Siblings, Converts, Walks, Planned}
 use Rattle.mitex.proofs.Nodes.{below, below-length, at-node, at-token, at-unexpected, given-below, room-below, converts-arm}
 use Rattle.mitex.proofs.Planning.{plan-agrees, given-in}
 use borrow.Author.Needs.{needs}
-use Rattle.mitex.proofs.convert.Reads as convert
-use Rattle.mitex.proofs.+body+command+convert+convert_clause_lr+convert_command_color+convert_curly_group+convert_env+convert_env_figure+convert_env_table+convert_formula+convert_normal_command+each+turn+twice+walk.Lts-convert as convert-lts
-use Rattle.mitex.proofs.+body+command+convert+convert_clause_lr+convert_command_color+convert_curly_group+convert_env+convert_env_figure+convert_env_table+convert_formula+convert_normal_command+each+turn+twice+walk.Proof.Setup.{convert-at, convert-calls}
+use Rattle.mitex.proofs.convert.Reads as self
+use Rattle.mitex.proofs.+body+command+convert+convert_clause_lr+convert_command_color+convert_curly_group+convert_env+convert_env_figure+convert_env_table+convert_formula+convert_normal_command+each+turn+twice+walk.Lts-convert as lts
+use Rattle.mitex.proofs.+body+command+convert+convert_clause_lr+convert_command_color+convert_curly_group+convert_env+convert_env_figure+convert_env_table+convert_formula+convert_normal_command+each+turn+twice+walk.Proof.Setup.{convert-at as pre-at, convert-calls as calls}
 
 -- a place behind the clearing of the flag; where the element was told, and the function's entry
 abbrev Here : ℕ → Type 0
-Here t = convert-lts.After-with-flag (convert-calls t) (convert-at t) convert.Post
+Here t = lts.After-with-flag (calls t) (pre-at t) self.Post
 
-abbrev told : (t : ℕ) → Here t → convert-lts.After-element-of (convert-calls t) (convert-at t) convert.Post
+abbrev told : (t : ℕ) → Here t → lts.After-element-of (calls t) (pre-at t) self.Post
 told t c = c .before .before
 
-abbrev entry : (t : ℕ) → Here t → convert-lts.Start (convert-calls t) (convert-at t) convert.Post
+abbrev entry : (t : ℕ) → Here t → lts.Start (calls t) (pre-at t) self.Post
 entry t c = let known = told t c .before .before .before .before .before in known .before .before
 
 -- the kind of the element that was told
@@ -87,49 +87,49 @@ plan-here t c {arm} means planned =
     λ rs ready f sp n h.
     plan-agrees (c .with-flag .result) arm (start .pre .1 .0 .room) (wrote-nil _ _ (start .pre .1 .0 .place)) ready n h (means f sp rs) planned
 
-convert-shared-slice-read-kind : (t : ℕ) → convert-lts.Need-shared-slice-read-kind (convert-calls t) (convert-at t) convert.Post
+convert-shared-slice-read-kind : (t : ℕ) → lts.Need-shared-slice-read-kind (calls t) (pre-at t) self.Post
 convert-shared-slice-read-kind t c =
     let at-slice-known = c .before .before .before .before .before in
     let start = at-slice-known .before in
     omega (arith, rows-some (start .pre .1 .1 .1 .spells))
 
-convert-element-of-requires : (t : ℕ) → convert-lts.Need-element-of-requires (convert-calls t) (convert-at t) convert.Post
+convert-element-of-requires : (t : ℕ) → lts.Need-element-of-requires (calls t) (pre-at t) self.Post
 convert-element-of-requires t c κs = search needs
 
-convert-sub-below : (t : ℕ) → convert-lts.Need-sub-below (convert-calls t) (convert-at t) convert.Post
+convert-sub-below : (t : ℕ) → lts.Need-sub-below (calls t) (pre-at t) self.Post
 convert-sub-below t c =
     let at-shared-slice-known = c .before .before .before .before .before in
     let start = at-shared-slice-known .before .before in
     omega (arith, rows-some (start .pre .1 .1 .1 .spells))
 
-convert-part-below-start : (t : ℕ) → convert-lts.Need-part-below-start (convert-calls t) (convert-at t) convert.Post
+convert-part-below-start : (t : ℕ) → lts.Need-part-below-start (calls t) (pre-at t) self.Post
 convert-part-below-start t c =
     let at-shared-slice-known = c .before .before .before .before .before in
     let start = at-shared-slice-known .before .before in
     omega (arith, rows-some (start .pre .1 .1 .1 .spells))
 
-convert-part-below-end : (t : ℕ) → convert-lts.Need-part-below-end (convert-calls t) (convert-at t) convert.Post
+convert-part-below-end : (t : ℕ) → lts.Need-part-below-end (calls t) (pre-at t) self.Post
 convert-part-below-end t c =
     let at-shared-slice-known = c .before .before .before .before .before in
     let start = at-shared-slice-known .before .before in
     omega (arith, rows-some (start .pre .1 .1 .1 .spells))
 
-convert-with-flag-requires : (t : ℕ) → convert-lts.Need-with-flag-requires (convert-calls t) (convert-at t) convert.Post
+convert-with-flag-requires : (t : ℕ) → lts.Need-with-flag-requires (calls t) (pre-at t) self.Post
 convert-with-flag-requires t c κs = search needs
 
-convert-enum-told : (t : ℕ) → convert-lts.Need-enum-told (convert-calls t) (convert-at t) convert.Post
+convert-enum-told : (t : ℕ) → lts.Need-enum-told (calls t) (pre-at t) self.Post
 convert-enum-told t c = search needs
 
-convert-refuse-requires : (t : ℕ) → convert-lts.Need-refuse-requires (convert-calls t) (convert-at t) convert.Post
+convert-refuse-requires : (t : ℕ) → lts.Need-refuse-requires (calls t) (pre-at t) self.Post
 convert-refuse-requires t c κs = search needs
 
-convert-enum-told-2 : (t : ℕ) → convert-lts.Need-enum-told-2 (convert-calls t) (convert-at t) convert.Post
+convert-enum-told-2 : (t : ℕ) → lts.Need-enum-told-2 (calls t) (pre-at t) self.Post
 convert-enum-told-2 t c = search needs
 
-convert-children-plan-requires : (t : ℕ) → convert-lts.Need-children-plan-requires (convert-calls t) (convert-at t) convert.Post
+convert-children-plan-requires : (t : ℕ) → lts.Need-children-plan-requires (calls t) (pre-at t) self.Post
 convert-children-plan-requires t c κs = search needs
 
-convert-walk-requires : (t : ℕ) → convert-lts.Need-walk-requires (convert-calls t) (convert-at t) convert.Post
+convert-walk-requires : (t : ℕ) → lts.Need-walk-requires (calls t) (pre-at t) self.Post
 convert-walk-requires t c κs =
     let at-told2 = c .before .before in
     let here = at-told2 .before .before in
@@ -137,31 +137,31 @@ convert-walk-requires t c κs =
     let children = children-here t here Children (at-told2 .enum-told2 .given .1) refl in
     (falls-here t here 3 (omega arith), (room-here t here, (some-rules, given-in some-rules children (c .before .children-plan .ensures))))
 
-convert-enum-told-3 : (t : ℕ) → convert-lts.Need-enum-told-3 (convert-calls t) (convert-at t) convert.Post
+convert-enum-told-3 : (t : ℕ) → lts.Need-enum-told-3 (calls t) (pre-at t) self.Post
 convert-enum-told-3 t c = search needs
 
-convert-convert-formula-requires : (t : ℕ) → convert-lts.Need-convert-formula-requires (convert-calls t) (convert-at t) convert.Post
+convert-convert-formula-requires : (t : ℕ) → lts.Need-convert-formula-requires (calls t) (pre-at t) self.Post
 convert-convert-formula-requires t c κs = given-here t (c .before .before .before) 4 (omega arith) Formula (c .before .enum-told3 .given .1) refl
 
-convert-enum-told-4 : (t : ℕ) → convert-lts.Need-enum-told-4 (convert-calls t) (convert-at t) convert.Post
+convert-enum-told-4 : (t : ℕ) → lts.Need-enum-told-4 (calls t) (pre-at t) self.Post
 convert-enum-told-4 t c = search needs
 
-convert-convert-curly-group-requires : (t : ℕ) → convert-lts.Need-convert-curly-group-requires (convert-calls t) (convert-at t) convert.Post
+convert-convert-curly-group-requires : (t : ℕ) → lts.Need-convert-curly-group-requires (calls t) (pre-at t) self.Post
 convert-convert-curly-group-requires t c κs = given-here t (c .before .before .before) 4 (omega arith) CurlyGroup (c .before .enum-told4 .given .1) refl
 
-convert-enum-told-5 : (t : ℕ) → convert-lts.Need-enum-told-5 (convert-calls t) (convert-at t) convert.Post
+convert-enum-told-5 : (t : ℕ) → lts.Need-enum-told-5 (calls t) (pre-at t) self.Post
 convert-enum-told-5 t c = search needs
 
-convert-convert-clause-lr-requires : (t : ℕ) → convert-lts.Need-convert-clause-lr-requires (convert-calls t) (convert-at t) convert.Post
+convert-convert-clause-lr-requires : (t : ℕ) → lts.Need-convert-clause-lr-requires (calls t) (pre-at t) self.Post
 convert-convert-clause-lr-requires t c κs = given-here t (c .before .before .before) 4 (omega arith) ClauseLr (c .before .enum-told5 .given .1) refl
 
-convert-enum-told-6 : (t : ℕ) → convert-lts.Need-enum-told-6 (convert-calls t) (convert-at t) convert.Post
+convert-enum-told-6 : (t : ℕ) → lts.Need-enum-told-6 (calls t) (pre-at t) self.Post
 convert-enum-told-6 t c = search needs
 
-convert-attach-plan-requires : (t : ℕ) → convert-lts.Need-attach-plan-requires (convert-calls t) (convert-at t) convert.Post
+convert-attach-plan-requires : (t : ℕ) → lts.Need-attach-plan-requires (calls t) (pre-at t) self.Post
 convert-attach-plan-requires t c κs = search needs
 
-convert-walk-requires-2 : (t : ℕ) → convert-lts.Need-walk-requires-2 (convert-calls t) (convert-at t) convert.Post
+convert-walk-requires-2 : (t : ℕ) → lts.Need-walk-requires-2 (calls t) (pre-at t) self.Post
 convert-walk-requires-2 t c κs =
     let at-told6 = c .before .before in
     let here = at-told6 .before .before in
@@ -169,62 +169,61 @@ convert-walk-requires-2 t c κs =
     let children = children-here t here AttachComponent (at-told6 .enum-told6 .given .1) refl in
     (falls-here t here 3 (omega arith), (room-here t here, (some-rules, given-in some-rules children (c .before .attach-plan .ensures))))
 
-convert-enum-told-7 : (t : ℕ) → convert-lts.Need-enum-told-7 (convert-calls t) (convert-at t) convert.Post
+convert-enum-told-7 : (t : ℕ) → lts.Need-enum-told-7 (calls t) (pre-at t) self.Post
 convert-enum-told-7 t c = search needs
 
-convert-went-requires : (t : ℕ) → convert-lts.Need-went-requires (convert-calls t) (convert-at t) convert.Post
+convert-went-requires : (t : ℕ) → lts.Need-went-requires (calls t) (pre-at t) self.Post
 convert-went-requires t c κs = search needs
 
-convert-enum-told-8 : (t : ℕ) → convert-lts.Need-enum-told-8 (convert-calls t) (convert-at t) convert.Post
+convert-enum-told-8 : (t : ℕ) → lts.Need-enum-told-8 (calls t) (pre-at t) self.Post
 convert-enum-told-8 t c = search needs
 
-convert-command-requires : (t : ℕ) → convert-lts.Need-command-requires (convert-calls t) (convert-at t) convert.Post
+convert-command-requires : (t : ℕ) → lts.Need-command-requires (calls t) (pre-at t) self.Post
 convert-command-requires t c κs = given-here t (c .before .before .before) 6 (omega arith) Command (c .before .enum-told8 .given .1) refl
 
-convert-enum-told-9 : (t : ℕ) → convert-lts.Need-enum-told-9 (convert-calls t) (convert-at t) convert.Post
+convert-enum-told-9 : (t : ℕ) → lts.Need-enum-told-9 (calls t) (pre-at t) self.Post
 convert-enum-told-9 t c = search needs
 
-convert-convert-env-requires : (t : ℕ) → convert-lts.Need-convert-env-requires (convert-calls t) (convert-at t) convert.Post
+convert-convert-env-requires : (t : ℕ) → lts.Need-convert-env-requires (calls t) (pre-at t) self.Post
 convert-convert-env-requires t c κs = given-here t (c .before .before .before) 7 (omega arith) Environment (c .before .enum-told9 .given .1) refl
 
-convert-enum-told-10 : (t : ℕ) → convert-lts.Need-enum-told-10 (convert-calls t) (convert-at t) convert.Post
+convert-enum-told-10 : (t : ℕ) → lts.Need-enum-told-10 (calls t) (pre-at t) self.Post
 convert-enum-told-10 t c = search needs
 
-convert-put-requires : (t : ℕ) → convert-lts.Need-put-requires (convert-calls t) (convert-at t) convert.Post
+convert-put-requires : (t : ℕ) → lts.Need-put-requires (calls t) (pre-at t) self.Post
 convert-put-requires t c κs =
     let at-element-of = c .before .before .before .before .before in
     let at-shared-slice-known = at-element-of .before .before .before .before .before in
     let start = at-shared-slice-known .before .before in
     (start .pre .1 .0 .place, start .pre .1 .0 .room)
 
-convert-went-requires-2 : (t : ℕ) → convert-lts.Need-went-requires-2 (convert-calls t) (convert-at t) convert.Post
+convert-went-requires-2 : (t : ℕ) → lts.Need-went-requires-2 (calls t) (pre-at t) self.Post
 convert-went-requires-2 t c κs = search needs
 
-convert-enum-told-11 : (t : ℕ) → convert-lts.Need-enum-told-11 (convert-calls t) (convert-at t) convert.Post
+convert-enum-told-11 : (t : ℕ) → lts.Need-enum-told-11 (calls t) (pre-at t) self.Post
 convert-enum-told-11 t c = search needs
 
-convert-convert-token-requires : (t : ℕ) → convert-lts.Need-convert-token-requires (convert-calls t) (convert-at t) convert.Post
+convert-convert-token-requires : (t : ℕ) → lts.Need-convert-token-requires (calls t) (pre-at t) self.Post
 convert-convert-token-requires t c κs =
     let at-element-of = c .before .before .before .before .before in
     let at-shared-slice-known = at-element-of .before .before .before .before .before in
     let start = at-shared-slice-known .before .before in
     ((start .pre .1 .0 .place, start .pre .1 .0 .room, start .pre .1 .0 .label), start .pre .1 .1 .0)
 
-convert-returns : (t : ℕ) → convert-lts.Need-returns (convert-calls t) (convert-at t) convert.Post
+convert-returns : (t : ℕ) → lts.Need-returns (calls t) (pre-at t) self.Post
 convert-returns t c =
-    let at-enum-told = c .before in
-    let at-element-of = at-enum-told .before .before .before .before in
-    let at-shared-slice-known = at-element-of .before .before .before .before .before in
-    let start = at-shared-slice-known .before .before in
-    λ rs ready u sp n h. agrees-as (at-unexpected (contextOf rs (start .args .c)) u (carryOf (start .args .c)) sp n h
-    (sym (at-element-of .element-of .ensures) ∙ at-enum-told .enum-told .given .1)) (agrees-here (omega arith) (c .refuse .ensures))
+    let at-told = c .before in
+    let here = at-told .before .before in
+    let d = entry t here .args .c in
+    λ rs ready u sp n h. agrees-as (at-unexpected (contextOf rs d) u (carryOf d) sp n h (kind-here t here (at-told .enum-told .given .1)))
+    (agrees-here (omega arith) (c .refuse .ensures))
 
-convert-same-length : (t : ℕ) → convert-lts.Need-same-length (convert-calls t) (convert-at t) convert.Post
+convert-same-length : (t : ℕ) → lts.Need-same-length (calls t) (pre-at t) self.Post
 convert-same-length t c =
     let at-walk = c .before .before in
     at-walk .walk .kept .0
 
-convert-returns-2 : (t : ℕ) → convert-lts.Need-returns-2 (convert-calls t) (convert-at t) convert.Post
+convert-returns-2 : (t : ℕ) → lts.Need-returns-2 (calls t) (pre-at t) self.Post
 convert-returns-2 t c =
     let at-walk = c .before .before in
     let at-plan = at-walk .before .before in
@@ -232,45 +231,45 @@ convert-returns-2 t c =
     let here = at-told .before .before in
     arm-here t here Children (at-told .enum-told2 .given .1) refl (plan-here t here (at-plan .children-plan .ensures) (at-walk .walk .ensures))
 
-convert-same-length-2 : (t : ℕ) → convert-lts.Need-same-length-2 (convert-calls t) (convert-at t) convert.Post
+convert-same-length-2 : (t : ℕ) → lts.Need-same-length-2 (calls t) (pre-at t) self.Post
 convert-same-length-2 t c =
     let at-convert-formula = c .before .before in
     at-convert-formula .convert-formula .kept .0
 
-convert-returns-3 : (t : ℕ) → convert-lts.Need-returns-3 (convert-calls t) (convert-at t) convert.Post
+convert-returns-3 : (t : ℕ) → lts.Need-returns-3 (calls t) (pre-at t) self.Post
 convert-returns-3 t c =
     let at-convert-formula = c .before .before in
     let at-told = at-convert-formula .before .before in
     arm-here t (at-told .before .before) Formula (at-told .enum-told3 .given .1) refl (at-convert-formula .convert-formula .ensures)
 
-convert-same-length-3 : (t : ℕ) → convert-lts.Need-same-length-3 (convert-calls t) (convert-at t) convert.Post
+convert-same-length-3 : (t : ℕ) → lts.Need-same-length-3 (calls t) (pre-at t) self.Post
 convert-same-length-3 t c =
     let at-convert-curly-group = c .before .before in
     at-convert-curly-group .convert-curly-group .kept .0
 
-convert-returns-4 : (t : ℕ) → convert-lts.Need-returns-4 (convert-calls t) (convert-at t) convert.Post
+convert-returns-4 : (t : ℕ) → lts.Need-returns-4 (calls t) (pre-at t) self.Post
 convert-returns-4 t c =
     let at-convert-curly-group = c .before .before in
     let at-told = at-convert-curly-group .before .before in
     arm-here t (at-told .before .before) CurlyGroup (at-told .enum-told4 .given .1) refl (at-convert-curly-group .convert-curly-group .ensures)
 
-convert-same-length-4 : (t : ℕ) → convert-lts.Need-same-length-4 (convert-calls t) (convert-at t) convert.Post
+convert-same-length-4 : (t : ℕ) → lts.Need-same-length-4 (calls t) (pre-at t) self.Post
 convert-same-length-4 t c =
     let at-convert-clause-lr = c .before .before in
     at-convert-clause-lr .convert-clause-lr .kept .0
 
-convert-returns-5 : (t : ℕ) → convert-lts.Need-returns-5 (convert-calls t) (convert-at t) convert.Post
+convert-returns-5 : (t : ℕ) → lts.Need-returns-5 (calls t) (pre-at t) self.Post
 convert-returns-5 t c =
     let at-convert-clause-lr = c .before .before in
     let at-told = at-convert-clause-lr .before .before in
     arm-here t (at-told .before .before) ClauseLr (at-told .enum-told5 .given .1) refl (at-convert-clause-lr .convert-clause-lr .ensures)
 
-convert-same-length-5 : (t : ℕ) → convert-lts.Need-same-length-5 (convert-calls t) (convert-at t) convert.Post
+convert-same-length-5 : (t : ℕ) → lts.Need-same-length-5 (calls t) (pre-at t) self.Post
 convert-same-length-5 t c =
     let at-walk2 = c .before .before in
     at-walk2 .walk2 .kept .0
 
-convert-returns-6 : (t : ℕ) → convert-lts.Need-returns-6 (convert-calls t) (convert-at t) convert.Post
+convert-returns-6 : (t : ℕ) → lts.Need-returns-6 (calls t) (pre-at t) self.Post
 convert-returns-6 t c =
     let at-walk = c .before .before in
     let at-plan = at-walk .before .before in
@@ -278,80 +277,74 @@ convert-returns-6 t c =
     let here = at-told .before .before in
     arm-here t here AttachComponent (at-told .enum-told6 .given .1) refl (plan-here t here (at-plan .attach-plan .ensures) (at-walk .walk2 .ensures))
 
-convert-returns-7 : (t : ℕ) → convert-lts.Need-returns-7 (convert-calls t) (convert-at t) convert.Post
+convert-returns-7 : (t : ℕ) → lts.Need-returns-7 (calls t) (pre-at t) self.Post
 convert-returns-7 t c =
-    let at-enum-told7 = c .before in
-    let at-with-flag = at-enum-told7 .before .before in
-    let at-element-of = at-with-flag .before .before in
-    let at-shared-slice-known = at-element-of .before .before .before .before .before in
-    let start = at-shared-slice-known .before .before in
-    λ rs ready u sp n h. let y = at-node (contextOf rs (start .args .c)) u (carryOf (start .args .c)) sp n h Silent
-    (sym (at-element-of .element-of .ensures) ∙ at-enum-told7 .enum-told7 .given .1) refl in agrees-as (y .is)
-    (agrees-carried (at-with-flag .with-flag .result) (c .went .ensures) (at-with-flag .with-flag .ensures) refl
-    (start .pre .1 .0 .label) (wrote-nil _ _ (start .pre .1 .0 .place)))
+    let at-told = c .before in
+    let here = at-told .before .before in
+    let start = entry t here in
+    let d = start .args .c in
+    λ rs ready u sp n h. let y = at-node (contextOf rs d) u (carryOf d) sp n h Silent (kind-here t here (at-told .enum-told7 .given .1)) refl in
+    agrees-as (y .is) (agrees-carried (here .with-flag .result) (c .went .ensures) (here .with-flag .ensures) refl (start .pre .1 .0 .label)
+    (wrote-nil _ _ (start .pre .1 .0 .place)))
 
-convert-same-length-6 : (t : ℕ) → convert-lts.Need-same-length-6 (convert-calls t) (convert-at t) convert.Post
+convert-same-length-6 : (t : ℕ) → lts.Need-same-length-6 (calls t) (pre-at t) self.Post
 convert-same-length-6 t c =
     let at-command = c .before .before in
     at-command .command .kept .0
 
-convert-returns-8 : (t : ℕ) → convert-lts.Need-returns-8 (convert-calls t) (convert-at t) convert.Post
+convert-returns-8 : (t : ℕ) → lts.Need-returns-8 (calls t) (pre-at t) self.Post
 convert-returns-8 t c =
     let at-command = c .before .before in
     let at-told = at-command .before .before in
     arm-here t (at-told .before .before) Command (at-told .enum-told8 .given .1) refl (at-command .command .ensures)
 
-convert-same-length-7 : (t : ℕ) → convert-lts.Need-same-length-7 (convert-calls t) (convert-at t) convert.Post
+convert-same-length-7 : (t : ℕ) → lts.Need-same-length-7 (calls t) (pre-at t) self.Post
 convert-same-length-7 t c =
     let at-convert-env = c .before .before in
     at-convert-env .convert-env .kept .0
 
-convert-returns-9 : (t : ℕ) → convert-lts.Need-returns-9 (convert-calls t) (convert-at t) convert.Post
+convert-returns-9 : (t : ℕ) → lts.Need-returns-9 (calls t) (pre-at t) self.Post
 convert-returns-9 t c =
     let at-convert-env = c .before .before in
     let at-told = at-convert-env .before .before in
     arm-here t (at-told .before .before) Environment (at-told .enum-told9 .given .1) refl (at-convert-env .convert-env .ensures)
 
-convert-same-length-8 : (t : ℕ) → convert-lts.Need-same-length-8 (convert-calls t) (convert-at t) convert.Post
+convert-same-length-8 : (t : ℕ) → lts.Need-same-length-8 (calls t) (pre-at t) self.Post
 convert-same-length-8 t c =
     let at-put = c .before .before .before in
     at-put .put .kept .0
 
-convert-returns-10 : (t : ℕ) → convert-lts.Need-returns-10 (convert-calls t) (convert-at t) convert.Post
+convert-returns-10 : (t : ℕ) → lts.Need-returns-10 (calls t) (pre-at t) self.Post
 convert-returns-10 t c =
     let at-put = c .before .before .before in
-    let at-enum-told10 = at-put .before .before in
-    let at-with-flag = at-enum-told10 .before .before in
-    let at-element-of = at-with-flag .before .before in
-    let at-shared-slice-known = at-element-of .before .before .before .before .before in
-    let start = at-shared-slice-known .before .before in
-    λ rs ready u sp n h. let y = at-node (contextOf rs (start .args .c)) u (carryOf (start .args .c)) sp n h TypstCode
-    (sym (at-element-of .element-of .ensures) ∙ at-enum-told10 .enum-told10 .given .1) refl in agrees-as (y .is)
-    (agrees-carried (at-with-flag .with-flag .result) (c .went2 .ensures) (at-with-flag .with-flag .ensures) refl
-    (start .pre .1 .0 .label) (wrote-as (y .spells .text-is) (at-put .put .ensures)))
+    let at-told = at-put .before .before in
+    let here = at-told .before .before in
+    let start = entry t here in
+    let d = start .args .c in
+    λ rs ready u sp n h. let y = at-node (contextOf rs d) u (carryOf d) sp n h TypstCode (kind-here t here (at-told .enum-told10 .given .1)) refl in
+    agrees-as (y .is) (agrees-carried (here .with-flag .result) (c .went2 .ensures) (here .with-flag .ensures) refl (start .pre .1 .0 .label)
+    (wrote-as (y .spells .text-is) (at-put .put .ensures)))
 
-convert-same-length-9 : (t : ℕ) → convert-lts.Need-same-length-9 (convert-calls t) (convert-at t) convert.Post
+convert-same-length-9 : (t : ℕ) → lts.Need-same-length-9 (calls t) (pre-at t) self.Post
 convert-same-length-9 t c =
     let at-convert-token = c .before .before in
     at-convert-token .convert-token .kept .0
 
-convert-returns-11 : (t : ℕ) → convert-lts.Need-returns-11 (convert-calls t) (convert-at t) convert.Post
+convert-returns-11 : (t : ℕ) → lts.Need-returns-11 (calls t) (pre-at t) self.Post
 convert-returns-11 t c =
     let at-convert-token = c .before .before in
-    let at-enum-told11 = at-convert-token .before .before in
-    let at-element-of = at-enum-told11 .before .before .before .before in
-    let at-shared-slice-known = at-element-of .before .before .before .before .before in
-    let start = at-shared-slice-known .before .before in
-    λ rs ready u sp n h. agrees-as (at-token (contextOf rs (start .args .c)) u (carryOf (start .args .c)) sp n h
-    (sym (at-element-of .element-of .ensures) ∙ at-enum-told11 .enum-told11 .given .1))
+    let at-told = at-convert-token .before .before in
+    let here = at-told .before .before in
+    let d = entry t here .args .c in
+    λ rs ready u sp n h. agrees-as (at-token (contextOf rs d) u (carryOf d) sp n h (kind-here t here (at-told .enum-told11 .given .1)))
     (at-convert-token .convert-token .ensures rs (ready .decodes))
 
 -- its code meets what it promises, if those it calls do where less is left
-pub convert-closed : {M : Type 1} (t : ℕ) → convert-lts.Closed (convert-calls t) (convert-at t) convert.Post M
+pub convert-closed : {M : Type 1} (t : ℕ) → lts.Closed (calls t) (pre-at t) self.Post M
 convert-closed t =
-    convert-lts.spec (convert-calls t)
-    (convert-at t)
-    convert.Post
+    lts.spec (calls t)
+    (pre-at t)
+    self.Post
     (convert-shared-slice-read-kind t)
     (convert-element-of-requires t)
     (convert-sub-below t)

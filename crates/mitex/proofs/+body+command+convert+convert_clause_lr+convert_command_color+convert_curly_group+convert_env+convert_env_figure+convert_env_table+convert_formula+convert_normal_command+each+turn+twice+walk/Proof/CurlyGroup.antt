@@ -5,15 +5,14 @@ use Rattle.mitex.proofs.Planning.{plan-agrees, given-in}
 use native.Mathlib.Omega.{arith}
 use borrow.Author.Needs.{needs}
 use Prim.Native.Nat.{ℕ}
-use Rattle.mitex.proofs.convert_curly_group.Reads as convert-curly-group
-use Rattle.mitex.proofs.+body+command+convert+convert_clause_lr+convert_command_color+convert_curly_group+convert_env+convert_env_figure+convert_env_table+convert_formula+convert_normal_command+each+turn+twice+walk.Lts-convert_curly_group as convert-curly-group-lts
-use Rattle.mitex.proofs.+body+command+convert+convert_clause_lr+convert_command_color+convert_curly_group+convert_env+convert_env_figure+convert_env_table+convert_formula+convert_normal_command+each+turn+twice+walk.Proof.Setup.{convert-curly-group-at, convert-curly-group-calls}
+use Rattle.mitex.proofs.convert_curly_group.Reads as self
+use Rattle.mitex.proofs.+body+command+convert+convert_clause_lr+convert_command_color+convert_curly_group+convert_env+convert_env_figure+convert_env_table+convert_formula+convert_normal_command+each+turn+twice+walk.Lts-convert_curly_group as lts
+use Rattle.mitex.proofs.+body+command+convert+convert_clause_lr+convert_command_color+convert_curly_group+convert_env+convert_env_figure+convert_env_table+convert_formula+convert_normal_command+each+turn+twice+walk.Proof.Setup.{convert-curly-group-at as pre-at, convert-curly-group-calls as calls}
 
-convert-curly-group-curly-plan-requires : (t : ℕ) → convert-curly-group-lts.Need-curly-plan-requires (convert-curly-group-calls t) (convert-curly-group-at t)
-    convert-curly-group.Post
+convert-curly-group-curly-plan-requires : (t : ℕ) → lts.Need-curly-plan-requires (calls t) (pre-at t) self.Post
 convert-curly-group-curly-plan-requires t c κs = search needs
 
-convert-curly-group-walk-requires : (t : ℕ) → convert-curly-group-lts.Need-walk-requires (convert-curly-group-calls t) (convert-curly-group-at t) convert-curly-group.Post
+convert-curly-group-walk-requires : (t : ℕ) → lts.Need-walk-requires (calls t) (pre-at t) self.Post
 convert-curly-group-walk-requires t c κs =
     let at-curly-plan = c .before in
     let at-slice-known = at-curly-plan .before .before .before .before .before in
@@ -29,12 +28,12 @@ convert-curly-group-walk-requires t c κs =
       ),
     )
 
-convert-curly-group-same-length : (t : ℕ) → convert-curly-group-lts.Need-same-length (convert-curly-group-calls t) (convert-curly-group-at t) convert-curly-group.Post
+convert-curly-group-same-length : (t : ℕ) → lts.Need-same-length (calls t) (pre-at t) self.Post
 convert-curly-group-same-length t c =
     let at-walk = c .before .before in
     at-walk .walk .kept .0
 
-convert-curly-group-returns : (t : ℕ) → convert-curly-group-lts.Need-returns (convert-curly-group-calls t) (convert-curly-group-at t) convert-curly-group.Post
+convert-curly-group-returns : (t : ℕ) → lts.Need-returns (calls t) (pre-at t) self.Post
 convert-curly-group-returns t c =
     let at-walk = c .before .before in
     let at-curly-plan = at-walk .before .before in
@@ -44,11 +43,11 @@ convert-curly-group-returns t c =
     ready n h (at-curly-plan .curly-plan .ensures f sp rs) (at-walk .walk .ensures)
 
 -- its code meets what it promises, if those it calls do where less is left
-pub convert-curly-group-closed : {M : Type 1} (t : ℕ) → convert-curly-group-lts.Closed (convert-curly-group-calls t) (convert-curly-group-at t) convert-curly-group.Post M
+pub convert-curly-group-closed : {M : Type 1} (t : ℕ) → lts.Closed (calls t) (pre-at t) self.Post M
 convert-curly-group-closed t =
-    convert-curly-group-lts.spec (convert-curly-group-calls t)
-    (convert-curly-group-at t)
-    convert-curly-group.Post
+    lts.spec (calls t)
+    (pre-at t)
+    self.Post
     (convert-curly-group-curly-plan-requires t)
     (convert-curly-group-walk-requires t)
     (convert-curly-group-same-length t)

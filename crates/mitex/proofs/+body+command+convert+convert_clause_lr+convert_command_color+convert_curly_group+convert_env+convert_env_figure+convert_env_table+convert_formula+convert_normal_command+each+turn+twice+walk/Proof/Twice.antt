@@ -7,22 +7,22 @@ use Rattle.mitex.proofs.Rooms.{room-on}
 use Rattle.mitex.proofs.Planning.{planned-good, agrees-in}
 use native.Mathlib.Omega.{arith}
 use Prim.Native.Nat.{ℕ}
-use Rattle.mitex.proofs.twice.Reads as twice
-use Rattle.mitex.proofs.+body+command+convert+convert_clause_lr+convert_command_color+convert_curly_group+convert_env+convert_env_figure+convert_env_table+convert_formula+convert_normal_command+each+turn+twice+walk.Lts-twice as twice-lts
-use Rattle.mitex.proofs.+body+command+convert+convert_clause_lr+convert_command_color+convert_curly_group+convert_env+convert_env_figure+convert_env_table+convert_formula+convert_normal_command+each+turn+twice+walk.Proof.Setup.{twice-at, twice-calls}
+use Rattle.mitex.proofs.twice.Reads as self
+use Rattle.mitex.proofs.+body+command+convert+convert_clause_lr+convert_command_color+convert_curly_group+convert_env+convert_env_figure+convert_env_table+convert_formula+convert_normal_command+each+turn+twice+walk.Lts-twice as lts
+use Rattle.mitex.proofs.+body+command+convert+convert_clause_lr+convert_command_color+convert_curly_group+convert_env+convert_env_figure+convert_env_table+convert_formula+convert_normal_command+each+turn+twice+walk.Proof.Setup.{twice-at as pre-at, twice-calls as calls}
 
-twice-walk-requires : (t : ℕ) → twice-lts.Need-walk-requires (twice-calls t) (twice-at t) twice.Post
+twice-walk-requires : (t : ℕ) → lts.Need-walk-requires (calls t) (pre-at t) self.Post
 twice-walk-requires t c κs =
     let at-shared-slice-known2 = c .before .before .before .before .before in
     let start = at-shared-slice-known2 .before .before .before in
     (omega (arith, start .pre .0), (start .pre .1 .0, (start .pre .1 .1 .0, start .pre .1 .1 .1 .0)))
 
-twice-same-length : (t : ℕ) → twice-lts.Need-same-length (twice-calls t) (twice-at t) twice.Post
+twice-same-length : (t : ℕ) → lts.Need-same-length (calls t) (pre-at t) self.Post
 twice-same-length t c =
     let at-walk = c .before .before .before .before in
     at-walk .walk .kept .0
 
-twice-returns : (t : ℕ) → twice-lts.Need-returns (twice-calls t) (twice-at t) twice.Post
+twice-returns : (t : ℕ) → lts.Need-returns (calls t) (pre-at t) self.Post
 twice-returns t c =
     let at-walk = c .before .before .before .before in
     let at-shared-slice-known3 = at-walk .before .before .before .before .before in
@@ -30,7 +30,7 @@ twice-returns t c =
     λ rs ready g h sg sh n kg kh. then-refused (planned (meaning n) rs (start .args .plans .second) h)
     (at-walk .walk .ensures rs ready g sg n kg) (c .if1 .taken)
 
-twice-walk-requires-2 : (t : ℕ) → twice-lts.Need-walk-requires-2 (twice-calls t) (twice-at t) twice.Post
+twice-walk-requires-2 : (t : ℕ) → lts.Need-walk-requires-2 (calls t) (pre-at t) self.Post
 twice-walk-requires-2 t c κs =
     let at-if1 = c .before .before in
     let at-walk = at-if1 .before .before .before .before in
@@ -50,14 +50,14 @@ twice-walk-requires-2 t c κs =
       ),
     )
 
-twice-same-length-2 : (t : ℕ) → twice-lts.Need-same-length-2 (twice-calls t) (twice-at t) twice.Post
+twice-same-length-2 : (t : ℕ) → lts.Need-same-length-2 (calls t) (pre-at t) self.Post
 twice-same-length-2 t c =
     let at-walk2 = c .before .before in
     let at-slice-known2 = at-walk2 .before .before .before .before .before in
     let at-walk = at-slice-known2 .before .before in
     at-walk2 .walk2 .kept .0 ∙ at-walk .walk .kept .0
 
-twice-returns-2 : (t : ℕ) → twice-lts.Need-returns-2 (twice-calls t) (twice-at t) twice.Post
+twice-returns-2 : (t : ℕ) → lts.Need-returns-2 (calls t) (pre-at t) self.Post
 twice-returns-2 t c =
     let at-walk2 = c .before .before in
     let at-if1 = at-walk2 .before .before .before in
@@ -70,11 +70,11 @@ twice-returns-2 t c =
     (at-if1 .if1 .left) .placed-so) (at-walk2 .walk2 .ensures rs ready h sh n kh))
 
 -- its code meets what it promises, if those it calls do where less is left
-pub twice-closed : {M : Type 1} (t : ℕ) → twice-lts.Closed (twice-calls t) (twice-at t) twice.Post M
+pub twice-closed : {M : Type 1} (t : ℕ) → lts.Closed (calls t) (pre-at t) self.Post M
 twice-closed t =
-    twice-lts.spec (twice-calls t)
-    (twice-at t)
-    twice.Post
+    lts.spec (calls t)
+    (pre-at t)
+    self.Post
     (twice-walk-requires t)
     (twice-same-length t)
     (twice-returns t)
