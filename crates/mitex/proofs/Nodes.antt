@@ -1,20 +1,24 @@
 -- From an element to its children: what the rows of a node spell, and what its arm comes to.
 use mathlib.Core.Path.{_≡_, refl, sym, ap, subst, _∙_}
 use mathlib.Core.Bool.{true, false}
-use mathlib.Core.List.{List}
+use mathlib.Core.List.{List, append-nil}
 use Prim.Native.Nat.{ℕ, zero, suc, _-_, _≤_}
 use native.Mathlib.Omega.{arith}
 use lib.ListN.{length, take, drop, getD, length-drop}
 use Rattle.text.proofs.Writing.{part-rest}
-use Rattle.mitex_syntax.specs.Tree.{Tree, Forest, size, sizes}
+use Rattle.mitex_syntax.specs.Tree.{Tree, Forest, size, sizes, rowsOf, textOf}
 use Rattle.mitex_syntax.specs.Tree.Tree.{node}
-use Rattle.mitex_syntax.specs.Spells.{Spells, SpellsAll, SomeTree}
+use Rattle.mitex_syntax.specs.Tree.Forest.{none, more}
+use Rattle.mitex_syntax.specs.Spells.{Sound, Spells, SpellsAll, SomeTree}
 use Rattle.mitex_syntax.proofs.Trees.{under, size-node, size-some}
-use Rattle.mitex_state.specs.Outcome.{Context, Carry, Outcome, flagged}
+use Rattle.mitex_state.specs.Outcome.{Context, Carry, Outcome, Conv, flagged, shift}
 use Rattle.mitex_state.specs.Outcome.Outcome.{refused}
 use Rattle.mitex_state.specs.State.{contextOf, carryOf, Carried}
 use Rattle.mitex_state.specs.Contract.{Place, placeOf, Agrees}
 use Rattle.mitex_state.specs.Tokens.{tokenOut}
+use Rattle.mitex_state.specs.Children.{each}
+use Rattle.mitex_state.specs.Groups.{children}
+use Rattle.mitex_state.specs.declared.Loop.the-variants.{Plain}
 use Rattle.mitex_state.specs.Conversion.{elementOf, armBy, step, convert}
 use Rattle.mitex_state.specs.declared.Element.{Element}
 use Rattle.mitex_state.specs.declared.Element.the-variants.{Unexpected, Token}
@@ -22,6 +26,9 @@ use Rattle.mitex_state.specs.declared.Converter.{Converter}
 use Rattle.mitex_state.specs.declared.Walked.{Walked}
 use Rattle.mitex.specs.Walks.{Room, Siblings, Converts, Walks}
 use Rattle.mitex_state.proofs.Agreeing.{agrees-as}
+use Rattle.mitex_state.proofs.Loops.{each-at}
+use Rattle.mitex_plans.specs.Plans.{Single}
+use Rattle.mitex_plans.proofs.Wholes.{each-one}
 use Rattle.mitex_commands.proofs.Elements.{ofNode, element-node, element-token, element-unexpected}
 use Rattle.mitex.proofs.Rooms.{room-part}
 
@@ -118,3 +125,26 @@ converts-arm {c = c} {d = d} e m q z w rs ready t sp n h =
     (λ (p : Place) (k : Carry).
     armBy e (convert (y .lower)) (record { rules = rs; mode = p .mode; env = p .env; indent = p .indent }) (y .forest) k)
     (w rs ready (y .forest) (y .spells) (y .lower) (y .fits)))
+
+-- ---- a node with one child
+
+pub only-spells : {f : Forest} (s : Single f) {rows text : List ℕ} → SpellsAll f rows text → Spells (s .tree) rows text
+unfolding rowsOf textOf Sound
+only-spells s {rows} {text} sp =
+    let one : SpellsAll (more (s .tree) none) rows text = subst (λ (g : Forest). SpellsAll g rows text) (s .is) sp in
+    record {
+      rows-are = one .rows-are ∙ append-nil (rowsOf (s .tree));
+      text-is = one .text-is ∙ append-nil (textOf (s .tree));
+      sound = one .sound .0;
+    }
+
+pub only-fits : {f : Forest} (s : Single f) {n : ℕ} → sizes f ≤ n → size (s .tree) ≤ n
+unfolding size
+only-fits s h = omega (arith, ap sizes (s .is))
+
+-- comes to what the child comes to
+pub only-child : {f : Forest} (s : Single f) (conv : Conv) (x : Context) (c : Carry) → children conv x f c ≡ shift 1 (conv x (s .tree) c)
+only-child {f} s conv x c =
+    each-at (conv x) 1 Plain f c
+    ∙ ap (λ (g : Forest). shift 1 (each (conv x) 0 Plain g c)) (s .is)
+    ∙ ap (shift 1) (each-one (conv x) (s .tree) c)

@@ -53,6 +53,7 @@ use mitex_plans::env_plan;
 use mitex_plans::figure_plans;
 use mitex_plans::formula_plan;
 use mitex_plans::is_bare;
+use mitex_plans::is_single;
 use mitex_plans::lr_name;
 use mitex_plans::lr_plan;
 use mitex_plans::math_plans;
@@ -101,6 +102,9 @@ pub fn convert<'a>(
     match element {
         Element::Unexpected => refuse(c, 7, row),
         Element::Children => {
+            if is_single(below) {
+                return convert(out, at, below, text, row + 1, rules, index, d);
+            }
             let plan = children_plan(below, text, d);
             walk(out, at, below, text, row, rules, index, d, plan)
         }

@@ -3,7 +3,7 @@ use mathlib.Core.Path.{_≡_, refl, sym, ap, subst, _∙_}
 use mathlib.Core.List.{List, append-nil}
 use Prim.Native.Nat.{ℕ, _+_, _-_, _≤_, _<_}
 use native.Mathlib.Omega.{arith}
-use lib.ListN.{length, take, drop, length-take, length-drop}
+use lib.ListN.{length, take, drop, length-take, length-drop, length-append}
 use lib.Seq.{drop-drop}
 use Rattle.text.specs.Writing.{cap}
 use Rattle.text.proofs.Writing.{part-rest}
@@ -12,11 +12,11 @@ use Rattle.mitex_syntax.specs.Tree.Forest.{none, more}
 use Rattle.mitex_syntax.specs.Spells.{Spells, SpellsAll, SomeForest}
 use Rattle.mitex_syntax.specs.Rows.{extentOf, tokenSum, Spans}
 use Rattle.mitex_syntax.specs.declared.Span.{Span}
-use Rattle.mitex_syntax.proofs.Trees.{Element, element, all-begins, spells-alone, no-left, spans, rows-e, text-n, part-spells, past-exact}
+use Rattle.mitex_syntax.proofs.Trees.{length-rows, length-rowss, extent-tree, size-some, Element, element, all-begins, spells-alone, no-left, spans, rows-e, text-n, part-spells, past-exact}
 use Rattle.mitex_state.specs.Parts.{between, rowsIn, textIn, Inside}
 use Rattle.mitex_state.specs.declared.Part.{Part}
 use Rattle.mitex_colors.proofs.Scans.{between-take}
-use Rattle.mitex_plans.specs.Plans.{lrName}
+use Rattle.mitex_plans.specs.Plans.{Single, lrName}
 use Rattle.mitex_plans.specs.Making.{firstOnly, behindFirst, FirstApart, Halved}
 use Rattle.mitex_plans.proofs.Wholes.{whole-spells, none-spells}
 
@@ -158,3 +158,16 @@ pub name-apart : {f : Forest} {rows text : List ℕ} {s : Span} → FirstApart f
 name-apart {f} {rows} {text} {s} a =
     let z : s .text ≡ s .text - 0 = omega arith in
     ap (drop 1) (ap (λ (m : ℕ). take m text) z ∙ a .first .text-is) ∙ first-name f
+
+-- rows that are those of their first element
+pub single-rows :
+    (f : Forest) {rows text : List ℕ} → SpellsAll f rows text → 8 ≤ length rows → length rows < cap → extentOf rows ≡ length rows → Single f
+unfolding rowsOf sizes
+single-rows none sp h few e = absurd (omega (arith, ap length (sp .rows-are)))
+single-rows (more t none) sp h few e = record { tree = t; is = refl }
+single-rows (more t (more u g)) {rows} sp h few e =
+    let l = ap length (sp .rows-are) ∙ length-append (rowsOf t) (rowsOfs (more u g)) in
+    let a = length-rows t in
+    let b = length-rowss (more u g) in
+    let x = ap extentOf (sp .rows-are) ∙ extent-tree t (rowsOfs (more u g)) (omega arith) in
+    absurd (omega (arith, size-some u))

@@ -6,7 +6,7 @@ use mathlib.Core.List.{List, [], _++_}
 use Prim.Native.Nat.{ℕ, _+_, _/_, _≤_}
 use lib.ListN.{drop}
 use Rattle.mitex_spec.specs.Rules.{Rule}
-use Rattle.mitex_syntax.specs.Tree.{Forest, sizes, textOf}
+use Rattle.mitex_syntax.specs.Tree.{Tree, Forest, sizes, textOf}
 use Rattle.mitex_syntax.specs.Tree.Forest.{none, more}
 use Rattle.mitex_syntax.specs.Spells.{SpellsAll}
 use Rattle.mitex_state.specs.Outcome.{Context, Carry, Outcome, Conv, Arm, after, andThen, closing, shift, inEnv}
@@ -82,6 +82,11 @@ pub record MeansBoth (arm : Arm) (w : List ℕ) (c : Converter) (rs : List Rule)
   pub is :
       (conv : Conv) (k : Carry) → arm conv (contextOf rs c) f k
       ≡ after w (andThen (planned conv rs (p .first) (first .forest) k) (planned conv rs (p .second) (second .forest)))
+
+-- just one element
+pub record Single (f : Forest) : Type 0 where
+  pub tree : Tree
+  pub is : f ≡ more tree none
 
 -- ---- the arms by their parts
 

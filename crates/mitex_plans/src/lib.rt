@@ -19,7 +19,7 @@ ghost use Rattle.mitex_state.specs.Commands.{typstName};
 ghost use Rattle.mitex_state.specs.Environments.{envBegin, envEnd, plainEnv, mathEnv, figureEnv};
 ghost use Rattle.mitex_state.specs.Tables.{tableHead};
 ghost use Rattle.mitex_state.specs.Parts.{Inside, rowsIn, textIn, ModelFound, CaptionFound};
-ghost use Rattle.mitex_plans.specs.Plans.{endText, Means, MeansBoth, lrName, opening, ArgumentsMean, ColorGiven, coloredBy, isBare, bareRow, captionText, tableCells};
+ghost use Rattle.mitex_plans.specs.Plans.{endText, Single, Means, MeansBoth, lrName, opening, ArgumentsMean, ColorGiven, coloredBy, isBare, bareRow, captionText, tableCells};
 ghost use Rattle.mitex_plans.specs.Making.{noPart, wholePart, planHere, stackIn, greedyPlan, captionIn, captionPlan, FirstApart, Halved};
 use mitex_colors::greedy_node;
 use mitex_commands::put_typst_name;
@@ -164,6 +164,17 @@ fn whole_plan(rows: &[u8], text: &[u8], c: Converter, how: Loop, end: End) -> Pl
 }
 
 // ---- groups
+
+// Whether there is just one element.
+pub fn is_single(rows: &[u8]) -> bool
+    requires { ⌜ length (now rows) < cap ⌝ }
+    ensures { λ r. ⌜ ((f : Forest) (text : List ℕ) → SpellsAll f (now (rows .entry)) text → r ≡ true → Single f) ⌝ }
+{
+    if rows.len() < 8 {
+        return false;
+    }
+    mitex_syntax::extent(rows, 0) == rows.len()
+}
 
 // The children alone.
 pub fn children_plan(rows: &[u8], text: &[u8], c: Converter) -> Plan

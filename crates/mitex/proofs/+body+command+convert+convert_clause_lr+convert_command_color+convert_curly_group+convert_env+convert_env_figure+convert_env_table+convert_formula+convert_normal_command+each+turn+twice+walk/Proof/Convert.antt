@@ -13,16 +13,17 @@ use Rattle.mitex_syntax.specs.Spells.{SpellsAll}
 use Rattle.mitex_syntax.proofs.Trees.{rows-some}
 use Rattle.mitex_state.specs.Outcome.{Arm}
 use Rattle.mitex_state.specs.State.{contextOf, carryOf}
-use Rattle.mitex_state.specs.Conversion.{elementOf, armBy}
+use Rattle.mitex_state.specs.Conversion.{elementOf, armBy, convert as meaning}
 use Rattle.mitex_state.specs.declared.Element.{Element}
 use Rattle.mitex_state.specs.declared.Element.the-variants.{Children, Formula, CurlyGroup, ClauseLr, AttachComponent, Silent, Command, Environment, TypstCode}
 use Rattle.mitex_state.specs.declared.Walked.{Walked}
-use Rattle.mitex_state.proofs.Agreeing.{agrees-as, agrees-here, agrees-carried}
+use Rattle.mitex_state.proofs.Agreeing.{agrees-as, agrees-here, agrees-shift, agrees-carried}
 use Rattle.mitex_commands.proofs.Elements.{ofNode}
-use Rattle.mitex_plans.specs.Plans.{Means}
+use Rattle.mitex_plans.specs.Plans.{Single, Means}
 use Rattle.mitex_plans.specs.declared.Plan.{Plan}
 use Rattle.mitex.specs.Walks.{Room, Siblings, Converts, Walks, Planned}
-use Rattle.mitex.proofs.Nodes.{below, below-length, at-node, at-token, at-unexpected, given-below, room-below, converts-arm}
+use Rattle.mitex.proofs.Nodes.{below, below-length, at-node, at-token, at-unexpected, given-below, room-below, converts-arm, only-spells, only-fits, only-child}
+use Rattle.mitex.proofs.Rooms.{room-part}
 use Rattle.mitex.proofs.Planning.{plan-agrees, given-in}
 use borrow.Author.Needs.{needs}
 use Rattle.mitex.proofs.convert.Reads as self
@@ -87,6 +88,18 @@ plan-here t c {arm} means planned =
     λ rs ready f sp n h.
     plan-agrees (c .with-flag .result) arm (start .pre .1 .0 .room) (wrote-nil _ _ (start .pre .1 .0 .place)) ready n h (means f sp rs) planned
 
+-- a place where a node's children were counted; it is one
+abbrev Counted : ℕ → Type 0
+Counted t = lts.After-is-single (calls t) (pre-at t) self.Post
+
+abbrev counted : (t : ℕ) → Counted t → Here t
+counted t c = let at-told = c .before in at-told .before .before
+
+only-here :
+    (t : ℕ) (c : Counted t) → c .is-single .result ≡ true → let a = entry t (counted t c) .args in
+    (f : Forest) → SpellsAll f (below (a .rows .now)) (a .text .now) → Single f
+only-here t c q f sp = c .is-single .ensures f (entry t (counted t c) .args .text .now) sp q
+
 convert-shared-slice-read-kind : (t : ℕ) → lts.Need-shared-slice-read-kind (calls t) (pre-at t) self.Post
 convert-shared-slice-read-kind t c =
     let at-slice-known = c .before .before .before .before .before in
@@ -126,12 +139,51 @@ convert-refuse-requires t c κs = search needs
 convert-enum-told-2 : (t : ℕ) → lts.Need-enum-told-2 (calls t) (pre-at t) self.Post
 convert-enum-told-2 t c = search needs
 
+convert-is-single-requires : (t : ℕ) → lts.Need-is-single-requires (calls t) (pre-at t) self.Post
+convert-is-single-requires t c κs = room-here t (c .before .before) .few
+
+convert-add-convert : (t : ℕ) → lts.Need-add-convert (calls t) (pre-at t) self.Post
+convert-add-convert t c = omega (arith, room-here t (counted t (c .before .before)) .low)
+
+convert-convert-requires : (t : ℕ) → lts.Need-convert-requires (calls t) (pre-at t) self.Post
+convert-convert-requires t c κs =
+    let at-if1 = c .before in
+    let at-count = at-if1 .before in
+    let here = counted t at-count in
+    let start = entry t here in
+    let r = room-here t here in
+    let children = children-here t here Children (at-count .before .enum-told2 .given .1) refl in
+    let only = only-here t at-count (at-if1 .if1 .taken) (children .forest) (children .spells) in (
+      falls-here t here 0 (omega arith),
+      (
+        room-part r 0 (start .args .row + 1) (here .with-flag .result) (omega arith) (omega arith) (omega arith) (omega arith) (r .label) refl
+            (r .place),
+        (start .pre .1 .1 .0, record { tree = only .tree; spells = only-spells only (children .spells) }),
+      ),
+    )
+
+convert-same-length : (t : ℕ) → lts.Need-same-length (calls t) (pre-at t) self.Post
+convert-same-length t c =
+    let at-convert = c .before .before in
+    at-convert .convert .kept .0
+
+convert-returns : (t : ℕ) → lts.Need-returns (calls t) (pre-at t) self.Post
+convert-returns t c =
+    let at-convert = c .before .before in
+    let at-if1 = at-convert .before .before in
+    let at-count = at-if1 .before in
+    let here = counted t at-count in
+    arm-here t here Children (at-count .before .enum-told2 .given .1) refl
+    (λ rs ready f sp n h. let only = only-here t at-count (at-if1 .if1 .taken) f sp in
+    agrees-as (only-child only (meaning n) (contextOf rs (here .with-flag .result)) (carryOf (here .with-flag .result)))
+    (agrees-shift 1 (at-convert .convert .ensures rs ready (only .tree) (only-spells only sp) n (only-fits only h))))
+
 convert-children-plan-requires : (t : ℕ) → lts.Need-children-plan-requires (calls t) (pre-at t) self.Post
 convert-children-plan-requires t c κs = search needs
 
 convert-walk-requires : (t : ℕ) → lts.Need-walk-requires (calls t) (pre-at t) self.Post
 convert-walk-requires t c κs =
-    let at-told2 = c .before .before in
+    let at-told2 = c .before .before .before .before in
     let here = at-told2 .before .before in
     let some-rules = entry t here .pre .1 .1 .0 in
     let children = children-here t here Children (at-told2 .enum-told2 .given .1) refl in
@@ -210,75 +262,75 @@ convert-convert-token-requires t c κs =
     let start = at-shared-slice-known .before .before in
     ((start .pre .1 .0 .place, start .pre .1 .0 .room, start .pre .1 .0 .label), start .pre .1 .1 .0)
 
-convert-returns : (t : ℕ) → lts.Need-returns (calls t) (pre-at t) self.Post
-convert-returns t c =
+convert-returns-2 : (t : ℕ) → lts.Need-returns-2 (calls t) (pre-at t) self.Post
+convert-returns-2 t c =
     let at-told = c .before in
     let here = at-told .before .before in
     let d = entry t here .args .c in
     λ rs ready u sp n h. agrees-as (at-unexpected (contextOf rs d) u (carryOf d) sp n h (kind-here t here (at-told .enum-told .given .1)))
     (agrees-here (omega arith) (c .refuse .ensures))
 
-convert-same-length : (t : ℕ) → lts.Need-same-length (calls t) (pre-at t) self.Post
-convert-same-length t c =
+convert-same-length-2 : (t : ℕ) → lts.Need-same-length-2 (calls t) (pre-at t) self.Post
+convert-same-length-2 t c =
     let at-walk = c .before .before in
     at-walk .walk .kept .0
 
-convert-returns-2 : (t : ℕ) → lts.Need-returns-2 (calls t) (pre-at t) self.Post
-convert-returns-2 t c =
+convert-returns-3 : (t : ℕ) → lts.Need-returns-3 (calls t) (pre-at t) self.Post
+convert-returns-3 t c =
     let at-walk = c .before .before in
     let at-plan = at-walk .before .before in
-    let at-told = at-plan .before in
+    let at-told = at-plan .before .before .before in
     let here = at-told .before .before in
     arm-here t here Children (at-told .enum-told2 .given .1) refl (plan-here t here (at-plan .children-plan .ensures) (at-walk .walk .ensures))
 
-convert-same-length-2 : (t : ℕ) → lts.Need-same-length-2 (calls t) (pre-at t) self.Post
-convert-same-length-2 t c =
+convert-same-length-3 : (t : ℕ) → lts.Need-same-length-3 (calls t) (pre-at t) self.Post
+convert-same-length-3 t c =
     let at-convert-formula = c .before .before in
     at-convert-formula .convert-formula .kept .0
 
-convert-returns-3 : (t : ℕ) → lts.Need-returns-3 (calls t) (pre-at t) self.Post
-convert-returns-3 t c =
+convert-returns-4 : (t : ℕ) → lts.Need-returns-4 (calls t) (pre-at t) self.Post
+convert-returns-4 t c =
     let at-convert-formula = c .before .before in
     let at-told = at-convert-formula .before .before in
     arm-here t (at-told .before .before) Formula (at-told .enum-told3 .given .1) refl (at-convert-formula .convert-formula .ensures)
 
-convert-same-length-3 : (t : ℕ) → lts.Need-same-length-3 (calls t) (pre-at t) self.Post
-convert-same-length-3 t c =
+convert-same-length-4 : (t : ℕ) → lts.Need-same-length-4 (calls t) (pre-at t) self.Post
+convert-same-length-4 t c =
     let at-convert-curly-group = c .before .before in
     at-convert-curly-group .convert-curly-group .kept .0
 
-convert-returns-4 : (t : ℕ) → lts.Need-returns-4 (calls t) (pre-at t) self.Post
-convert-returns-4 t c =
+convert-returns-5 : (t : ℕ) → lts.Need-returns-5 (calls t) (pre-at t) self.Post
+convert-returns-5 t c =
     let at-convert-curly-group = c .before .before in
     let at-told = at-convert-curly-group .before .before in
     arm-here t (at-told .before .before) CurlyGroup (at-told .enum-told4 .given .1) refl (at-convert-curly-group .convert-curly-group .ensures)
 
-convert-same-length-4 : (t : ℕ) → lts.Need-same-length-4 (calls t) (pre-at t) self.Post
-convert-same-length-4 t c =
+convert-same-length-5 : (t : ℕ) → lts.Need-same-length-5 (calls t) (pre-at t) self.Post
+convert-same-length-5 t c =
     let at-convert-clause-lr = c .before .before in
     at-convert-clause-lr .convert-clause-lr .kept .0
 
-convert-returns-5 : (t : ℕ) → lts.Need-returns-5 (calls t) (pre-at t) self.Post
-convert-returns-5 t c =
+convert-returns-6 : (t : ℕ) → lts.Need-returns-6 (calls t) (pre-at t) self.Post
+convert-returns-6 t c =
     let at-convert-clause-lr = c .before .before in
     let at-told = at-convert-clause-lr .before .before in
     arm-here t (at-told .before .before) ClauseLr (at-told .enum-told5 .given .1) refl (at-convert-clause-lr .convert-clause-lr .ensures)
 
-convert-same-length-5 : (t : ℕ) → lts.Need-same-length-5 (calls t) (pre-at t) self.Post
-convert-same-length-5 t c =
+convert-same-length-6 : (t : ℕ) → lts.Need-same-length-6 (calls t) (pre-at t) self.Post
+convert-same-length-6 t c =
     let at-walk2 = c .before .before in
     at-walk2 .walk2 .kept .0
 
-convert-returns-6 : (t : ℕ) → lts.Need-returns-6 (calls t) (pre-at t) self.Post
-convert-returns-6 t c =
+convert-returns-7 : (t : ℕ) → lts.Need-returns-7 (calls t) (pre-at t) self.Post
+convert-returns-7 t c =
     let at-walk = c .before .before in
     let at-plan = at-walk .before .before in
     let at-told = at-plan .before in
     let here = at-told .before .before in
     arm-here t here AttachComponent (at-told .enum-told6 .given .1) refl (plan-here t here (at-plan .attach-plan .ensures) (at-walk .walk2 .ensures))
 
-convert-returns-7 : (t : ℕ) → lts.Need-returns-7 (calls t) (pre-at t) self.Post
-convert-returns-7 t c =
+convert-returns-8 : (t : ℕ) → lts.Need-returns-8 (calls t) (pre-at t) self.Post
+convert-returns-8 t c =
     let at-told = c .before in
     let here = at-told .before .before in
     let start = entry t here in
@@ -287,35 +339,35 @@ convert-returns-7 t c =
     agrees-as (y .is) (agrees-carried (here .with-flag .result) (c .went .ensures) (here .with-flag .ensures) refl (start .pre .1 .0 .label)
     (wrote-nil _ _ (start .pre .1 .0 .place)))
 
-convert-same-length-6 : (t : ℕ) → lts.Need-same-length-6 (calls t) (pre-at t) self.Post
-convert-same-length-6 t c =
+convert-same-length-7 : (t : ℕ) → lts.Need-same-length-7 (calls t) (pre-at t) self.Post
+convert-same-length-7 t c =
     let at-command = c .before .before in
     at-command .command .kept .0
 
-convert-returns-8 : (t : ℕ) → lts.Need-returns-8 (calls t) (pre-at t) self.Post
-convert-returns-8 t c =
+convert-returns-9 : (t : ℕ) → lts.Need-returns-9 (calls t) (pre-at t) self.Post
+convert-returns-9 t c =
     let at-command = c .before .before in
     let at-told = at-command .before .before in
     arm-here t (at-told .before .before) Command (at-told .enum-told8 .given .1) refl (at-command .command .ensures)
 
-convert-same-length-7 : (t : ℕ) → lts.Need-same-length-7 (calls t) (pre-at t) self.Post
-convert-same-length-7 t c =
+convert-same-length-8 : (t : ℕ) → lts.Need-same-length-8 (calls t) (pre-at t) self.Post
+convert-same-length-8 t c =
     let at-convert-env = c .before .before in
     at-convert-env .convert-env .kept .0
 
-convert-returns-9 : (t : ℕ) → lts.Need-returns-9 (calls t) (pre-at t) self.Post
-convert-returns-9 t c =
+convert-returns-10 : (t : ℕ) → lts.Need-returns-10 (calls t) (pre-at t) self.Post
+convert-returns-10 t c =
     let at-convert-env = c .before .before in
     let at-told = at-convert-env .before .before in
     arm-here t (at-told .before .before) Environment (at-told .enum-told9 .given .1) refl (at-convert-env .convert-env .ensures)
 
-convert-same-length-8 : (t : ℕ) → lts.Need-same-length-8 (calls t) (pre-at t) self.Post
-convert-same-length-8 t c =
+convert-same-length-9 : (t : ℕ) → lts.Need-same-length-9 (calls t) (pre-at t) self.Post
+convert-same-length-9 t c =
     let at-put = c .before .before .before in
     at-put .put .kept .0
 
-convert-returns-10 : (t : ℕ) → lts.Need-returns-10 (calls t) (pre-at t) self.Post
-convert-returns-10 t c =
+convert-returns-11 : (t : ℕ) → lts.Need-returns-11 (calls t) (pre-at t) self.Post
+convert-returns-11 t c =
     let at-put = c .before .before .before in
     let at-told = at-put .before .before in
     let here = at-told .before .before in
@@ -325,13 +377,13 @@ convert-returns-10 t c =
     agrees-as (y .is) (agrees-carried (here .with-flag .result) (c .went2 .ensures) (here .with-flag .ensures) refl (start .pre .1 .0 .label)
     (wrote-as (y .spells .text-is) (at-put .put .ensures)))
 
-convert-same-length-9 : (t : ℕ) → lts.Need-same-length-9 (calls t) (pre-at t) self.Post
-convert-same-length-9 t c =
+convert-same-length-10 : (t : ℕ) → lts.Need-same-length-10 (calls t) (pre-at t) self.Post
+convert-same-length-10 t c =
     let at-convert-token = c .before .before in
     at-convert-token .convert-token .kept .0
 
-convert-returns-11 : (t : ℕ) → lts.Need-returns-11 (calls t) (pre-at t) self.Post
-convert-returns-11 t c =
+convert-returns-12 : (t : ℕ) → lts.Need-returns-12 (calls t) (pre-at t) self.Post
+convert-returns-12 t c =
     let at-convert-token = c .before .before in
     let at-told = at-convert-token .before .before in
     let here = at-told .before .before in
@@ -354,6 +406,11 @@ convert-closed t =
     (convert-enum-told t)
     (convert-refuse-requires t)
     (convert-enum-told-2 t)
+    (convert-is-single-requires t)
+    (convert-add-convert t)
+    (convert-convert-requires t)
+    (convert-same-length t)
+    (convert-returns t)
     (convert-children-plan-requires t)
     (convert-walk-requires t)
     (convert-enum-told-3 t)
@@ -376,8 +433,6 @@ convert-closed t =
     (convert-went-requires-2 t)
     (convert-enum-told-11 t)
     (convert-convert-token-requires t)
-    (convert-returns t)
-    (convert-same-length t)
     (convert-returns-2 t)
     (convert-same-length-2 t)
     (convert-returns-3 t)
@@ -387,8 +442,8 @@ convert-closed t =
     (convert-returns-5 t)
     (convert-same-length-5 t)
     (convert-returns-6 t)
-    (convert-returns-7 t)
     (convert-same-length-6 t)
+    (convert-returns-7 t)
     (convert-returns-8 t)
     (convert-same-length-7 t)
     (convert-returns-9 t)
@@ -396,3 +451,5 @@ convert-closed t =
     (convert-returns-10 t)
     (convert-same-length-9 t)
     (convert-returns-11 t)
+    (convert-same-length-10 t)
+    (convert-returns-12 t)

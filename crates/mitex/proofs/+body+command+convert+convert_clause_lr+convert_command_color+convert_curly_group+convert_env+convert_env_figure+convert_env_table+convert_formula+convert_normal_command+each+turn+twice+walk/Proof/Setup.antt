@@ -88,6 +88,7 @@ use Rattle.mitex_plans.proofs.env_plan.Reads as env-plan-reads
 use Rattle.mitex_plans.proofs.figure_plans.Reads as figure-plans-reads
 use Rattle.mitex_plans.proofs.formula_plan.Reads as formula-plan-reads
 use Rattle.mitex_plans.proofs.is_bare.Reads as is-bare-reads
+use Rattle.mitex_plans.proofs.is_single.Reads as is-single-reads
 use Rattle.mitex_plans.proofs.lr_name.Reads as lr-name-reads
 use Rattle.mitex_plans.proofs.lr_plan.Reads as lr-plan-reads
 use Rattle.mitex_plans.proofs.math_plans.Reads as math-plans-reads
@@ -262,7 +263,7 @@ abbrev pub convert-command-color-calls : ℕ → convert-command-color-lts.Claim
 convert-command-color-calls t = (get-cmd-reads.Asked, get-cmd-reads.Learnt, put-color-head-reads.Asked, put-color-head-reads.Learnt, color-plans-reads.Asked, color-plans-reads.Learnt, twice-below t, twice.Post)
 
 abbrev pub convert-calls : ℕ → convert-lts.Claims
-convert-calls t = (element-of-reads.Asked, element-of-reads.Learnt, with-flag-reads.Asked, with-flag-reads.Learnt, refuse-reads.Asked, refuse-reads.Learnt, children-plan-reads.Asked, children-plan-reads.Learnt, walk-below t, walk.Post, convert-formula-below t, convert-formula.Post, convert-curly-group-below t, convert-curly-group.Post, convert-clause-lr-below t, convert-clause-lr.Post, attach-plan-reads.Asked, attach-plan-reads.Learnt, went-reads.Asked, went-reads.Learnt, command-below t, command.Post, convert-env-below t, convert-env.Post, put-reads.Asked, put-reads.Learnt, convert-token-reads.Asked, convert-token-reads.Learnt)
+convert-calls t = (element-of-reads.Asked, element-of-reads.Learnt, with-flag-reads.Asked, with-flag-reads.Learnt, refuse-reads.Asked, refuse-reads.Learnt, is-single-reads.Asked, is-single-reads.Learnt, convert-below t, convert.Post, children-plan-reads.Asked, children-plan-reads.Learnt, walk-below t, walk.Post, convert-formula-below t, convert-formula.Post, convert-curly-group-below t, convert-curly-group.Post, convert-clause-lr-below t, convert-clause-lr.Post, attach-plan-reads.Asked, attach-plan-reads.Learnt, went-reads.Asked, went-reads.Learnt, command-below t, command.Post, convert-env-below t, convert-env.Post, put-reads.Asked, put-reads.Learnt, convert-token-reads.Asked, convert-token-reads.Learnt)
 
 abbrev pub convert-curly-group-calls : ℕ → convert-curly-group-lts.Claims
 convert-curly-group-calls t = (curly-plan-reads.Asked, curly-plan-reads.Learnt, walk-below t, walk.Post)
