@@ -20,15 +20,18 @@ use Rattle.mitex.proofs.convert_env.Reads as self
 use Rattle.mitex.proofs.+body+command+convert+convert_clause_lr+convert_command_color+convert_curly_group+convert_env+convert_env_figure+convert_env_table+convert_formula+convert_normal_command+each+turn+twice+walk.Lts-convert_env as lts
 use Rattle.mitex.proofs.+body+command+convert+convert_clause_lr+convert_command_color+convert_curly_group+convert_env+convert_env_figure+convert_env_table+convert_formula+convert_normal_command+each+turn+twice+walk.Proof.Setup.{convert-env-at as pre-at, convert-env-calls as calls}
 
--- a place where the rule was looked up; where the name was trimmed, and the function's entry
+-- a place where the rule was looked up; where the name was read and trimmed, and the function's entry
 abbrev Found : ℕ → Type 0
 Found t = lts.After-get-env (calls t) (pre-at t) self.Post
 
 abbrev trimmed : (t : ℕ) → Found t → lts.After-trim (calls t) (pre-at t) self.Post
 trimmed t c = c .before
 
+abbrev read : (t : ℕ) → Found t → lts.After-env-name (calls t) (pre-at t) self.Post
+read t c = trimmed t c .before
+
 abbrev entry : (t : ℕ) → Found t → lts.Start (calls t) (pre-at t) self.Post
-entry t c = let known = trimmed t c .before .before .before .before .before .before in known .before
+entry t c = let known = read t c .before .before .before .before .before in known .before
 
 -- the environment goes by that rule
 named-here :
@@ -39,7 +42,7 @@ named-here :
 named-here t c rs f sp n =
     let d = entry t c .args .c in
     env-named (meaning n) (contextOf rs d) f (carryOf d) _
-    (trimmed t c .trim .ensures ∙ ap trim (trimmed t c .before .env-name .ensures f (all-begins sp)))
+    (trimmed t c .trim .ensures ∙ ap trim (read t c .env-name .ensures f (all-begins sp)))
 
 convert-env-env-name-requires : (t : ℕ) → lts.Need-env-name-requires (calls t) (pre-at t) self.Post
 convert-env-env-name-requires t c κs =
