@@ -112,7 +112,7 @@ pub data Steady : Loop → Type 0 where
   curly : Steady (Curly false)
   inside : Steady Inside
 
-never : {X : Type 0} → false ≡ true → X
+pub never : {X : Type 0} → false ≡ true → X
 never e = absurd (subst T (sym e) tt)
 
 pub steady : (l : Loop) → isSteady l ≡ true → Steady l
@@ -157,7 +157,7 @@ unfolding turn convert step textOf
 turn-token zero x a k s c h = absurd (omega arith)
 turn-token (suc n) x a k s c h = refl
 
-each-token :
+pub each-token :
     (n : ℕ) (x : Context) (o : ℕ) (l : Loop) (k : ℕ) (s : List ℕ) (f : Forest) (c : Carry) (a : Act) → 1 ≤ n → a ≡ actOf l (token k s) f
     → each (convert n x) o l (more (token k s) f) c ≡ andThen (shift o (tokenTurn x a k s c)) (each (convert n x) (o + 1) (nextLoop l k a) f)
 unfolding size
@@ -220,6 +220,23 @@ module _ {x : Context} {flag : Bool} {how : Loop} {rows text : List ℕ} {at : �
   row-fits h =
       let l = length-drop (r .rows) rows in
       omega (arith, rows-eight (gone-given .spells) (omega arith))
+
+  -- what a further run is given, as a part of the rows and of the text
+  pub rest-given :
+      r .rows < length rows → getD rows (r .rows + 1) 0 ≡ 1
+      → TokensGiven (take (length rows - r .rows) (drop (r .rows) rows)) (take (length text - r .text) (drop (r .text) text)) how
+  rest-given h mark =
+      subst (λ (y : List ℕ). TokensGiven y (take (length text - r .text) (drop (r .text) text)) how) (sym (part-rest rows (r .rows)))
+      (subst (λ (y : List ℕ). TokensGiven (drop (r .rows) rows) y how) (sym (part-rest text (r .text)))
+      (record {
+        forest = gone-given .forest;
+        spells = gone-given .spells;
+        few = omega (arith, given .few, length-drop (r .rows) rows);
+        short = omega (arith, given .short, length-drop (r .text) text);
+        some = omega (arith, length-drop (r .rows) rows);
+        token = getD-drop (r .rows) rows 1 0 ∙ mark;
+        counts = omega (arith, given .counts, length-drop (r .rows) rows);
+      }))
 
   -- behind the last token: at a node, or at the end
   pub ran-done : 8 ≤ r .rows → numberOf (r .how) ≤ numberOf how + r .rows → r .refusal ≡ 0 → Runs x flag how rows text at out r out′

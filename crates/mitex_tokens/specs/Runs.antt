@@ -1,9 +1,9 @@
 -- Tokens that stand one behind the other, as children in a loop: they are worked out together, without the converter, whose label none
 -- of them touches.
 use mathlib.Core.Path.{_≡_}
-use mathlib.Core.Bool.{Bool}
+use mathlib.Core.Bool.{Bool, false}
 use mathlib.Core.List.{List}
-use Prim.Native.Nat.{ℕ, _+_, _/_, _≤_, _<_}
+use Prim.Native.Nat.{ℕ, _+_, _*_, _/_, _≤_, _<_}
 use lib.ListN.{length, getD, drop}
 use Rattle.text.specs.Writing.{cap, Wrote}
 use Rattle.mitex_syntax.specs.Tree.{Forest, sizes}
@@ -14,7 +14,9 @@ use Rattle.mitex_state.specs.Children.{each}
 use Rattle.mitex_state.specs.Conversion.{convert}
 use Rattle.mitex_loops.specs.Given.{numberOf}
 use Rattle.mitex_state.specs.declared.Loop.{Loop}
+use Rattle.mitex_state.specs.declared.LaTeXMode.the-variants.{Text}
 use Rattle.mitex_tokens.specs.Puts.{carrying}
+use Rattle.mitex_tokens.specs.Running.{runOf}
 use Rattle.mitex_tokens.specs.declared.Run.{Run}
 
 -- what is asked: some elements are spelt, of which the first is a token, in bytes that are few enough to be counted
@@ -37,6 +39,17 @@ pub record Gone (x : Context) (flag : Bool) (how : Loop) (f : Forest) (n : ℕ) 
   pub is :
       (l : Label) (o : ℕ) → each (convert n x) o how f (carrying flag l)
       ≡ after written (each (convert n x) (o + r .rows / 8) (r .how) forest (carrying (r .flag) l))
+
+-- the same where the tokens are words and white space in Text, with the flag not set: the loop's state and the flag stay
+pub record Copies (how : Loop) (rows text : List ℕ) (at : ℕ) (out : List ℕ) (r : Run) (out′ : List ℕ) : Type 0 where
+  pub stays : r ≡ runOf (r .rows) (r .text) (r .at) false how 0
+  pub some : 8 ≤ r .rows
+  pub high : r .rows ≤ length rows
+  pub stop : r .text ≤ length text
+  pub whole : r .rows ≡ 8 * (r .rows / 8)
+  pub goes :
+      (x : Context) → x .mode ≡ Text → (f : Forest) (n : ℕ) → SpellsAll f rows text → sizes f ≤ n
+      → Gone x false how f n rows text at out r out′
 
 -- what is promised: a run of at least one token, or the refusal of the token behind the run; whatever elements are spelt, at every level
 -- that is high enough

@@ -3,8 +3,8 @@ ghost use mathlib.Core.Path.{_≡_};
 ghost use mathlib.Core.Bool.{true, false};
 ghost use mathlib.Core.Option.Option.{some};
 ghost use mathlib.Core.List.{List, _++_};
-ghost use Prim.Native.Nat.{_≤_};
-ghost use lib.ListN.{length};
+ghost use Prim.Native.Nat.{_+_, _≤_, _<_};
+ghost use lib.ListN.{length, getD};
 ghost use Rattle.text.specs.Writing.{cap, Wrote, spaces};
 ghost use Rattle.utf8.specs.Chars.{chars};
 ghost use Rattle.mitex_spec.specs.Rules.{Rule};
@@ -19,8 +19,9 @@ ghost use Rattle.mitex_state.specs.Texts.{escape, tilde, ampersand, newLine};
 ghost use Rattle.mitex_state.specs.Tokens.{spaced, word, tokenText, whiteSpace, commandSym, tokenOut};
 ghost use Rattle.mitex_tokens.specs.Escapes.{escapeOf};
 ghost use Rattle.mitex_tokens.specs.Puts.{inside, carrying, tokenTurn, Puts, Settles};
-ghost use Rattle.mitex_tokens.specs.Running.{isSteady, runOf};
-ghost use Rattle.mitex_tokens.specs.Runs.{TokensGiven, Runs};
+ghost use Rattle.mitex_tokens.specs.Running.{isSteady, isCopied, runOf};
+ghost use Rattle.mitex_tokens.specs.Runs.{TokensGiven, Copies, Runs};
+ghost use Rattle.mitex_state.specs.declared.LaTeXMode.the-variants.{Text};
 use mitex_loops::act_of;
 use mitex_loops::converts;
 use mitex_loops::next_loop;
@@ -465,6 +466,63 @@ fn ran(rows: usize, text: usize, at: usize, flag: bool, how: Loop, refusal: u8) 
     }
 }
 
+// Whether a token of this kind writes its text as it is, in Text and while the flag is not set.
+fn is_copied(kind: u8) -> bool
+    ensures { λ r. ⌜ r ≡ isCopied kind ⌝ }
+{
+    match kind {
+        TOKEN_WORD => true,
+        TOKEN_WHITE_SPACE => true,
+        _ => false,
+    }
+}
+
+// The same by the mode and the flag.
+fn copies(mode: LaTeXMode, flag: bool, kind: u8) -> bool
+    ensures { λ r. ⌜ (r ≡ true → (mode ≡ Text) × (flag ≡ false) × (isCopied kind ≡ true)) ⌝ }
+{
+    match mode {
+        LaTeXMode::Text => {
+            if flag {
+                return false;
+            }
+            is_copied(kind)
+        }
+        LaTeXMode::Math => false,
+    }
+}
+
+// Whether the row at `i` is such a token's.
+fn copied_at(rows: &[u8], i: usize) -> bool
+    requires { ⌜ (i ≤ length (now rows)) × (i < length (now rows) → i + 8 ≤ length (now rows)) ⌝ }
+    ensures { λ r. ⌜ (r ≡ true → (i < length (now (rows .entry))) × (getD (now (rows .entry)) (i + 1) 0 ≡ 1) × (isCopied (getD (now (rows .entry)) i 0) ≡ true)) ⌝ }
+{
+    if rows.len() <= i {
+        return false;
+    }
+    if rows[i + 1] != 1 {
+        return false;
+    }
+    is_copied(rows[i])
+}
+
+// Words and white space in Text, in a steady loop: their texts stand one behind the other, and are copied at once.
+fn put_copied(out: &mut [u8], at: usize, rows: &[u8], text: &[u8], how: Loop) -> Run
+    requires { ⌜ (at ≤ cap) × (length (now out) ≤ cap) ⌝ }
+    requires { ⌜ TokensGiven (now rows) (now text) how ⌝ }
+    requires { ⌜ (isSteady how ≡ true) × (isCopied (getD (now rows) 0 0) ≡ true) ⌝ }
+    ensures { λ r. ⌜ Copies how (now (rows .entry)) (now (text .entry)) at (now (out .entry)) r (now (out .exit)) ⌝ }
+{
+    let mut i = 8;
+    let mut j = mitex_syntax::number(rows, 0);
+    while copied_at(rows, i) {
+        j += mitex_syntax::number(rows, i);
+        i += 8;
+    }
+    let p = text::put(out, at, &text[..j]);
+    ran(i, j, p, false, how, 0)
+}
+
 // Tokens up to the next node, in a steady loop.
 fn put_run(
     out: &mut [u8],
@@ -494,6 +552,14 @@ fn put_run(
             return ran(i, j, w, f, how, 0);
         }
         let kind = rows[i];
+        if copies(mode, f, kind) {
+            let r = put_copied(out, w, &rows[i..], &text[j..], how);
+            w = r.at;
+            f = false;
+            i += r.rows;
+            j += r.text;
+            continue;
+        }
         let u = j + mitex_syntax::number(rows, i);
         let s = &text[j..u];
         let t = put_next(out, w, kind, s, rules, index, mode, env, indent, f);

@@ -1,18 +1,24 @@
 -- `mitex_tokens::put_run` meets its contract. The invariant: how far the loop has gone (`Ran`). The measure is the rows left.
-use mathlib.Core.Path.{_≡_, refl, sym, ap, _∙_}
+use mathlib.Core.Path.{_≡_, refl, sym, ap, subst, _∙_}
+use mathlib.Core.Bool.{Bool, true, false}
 use mathlib.Core.List.{List}
 use mathlib.Core.Option.Option.{some}
 use Prim.Native.Nat.{ℕ, _+_, _-_, _≤_}
 use native.Mathlib.Omega.{arith}
-use lib.ListN.{length, take, drop, getD}
+use lib.ListN.{length, take, drop, getD, length-drop}
+use Rattle.text.proofs.Writing.{part-rest}
 use Rattle.mitex_spec.specs.Rules.{Rule}
 use Rattle.mitex_spec.specs.RuleFile.{rulesOf}
+use Rattle.mitex_syntax.proofs.Trees.{getD-here}
+use Rattle.mitex_state.specs.declared.LaTeXMode.the-variants.{Text}
 use Rattle.mitex_state.specs.declared.Act.the-variants.{Convert}
 use Rattle.mitex_tokens.specs.Puts.{inside}
-use Rattle.mitex_tokens.specs.Running.{runOf}
+use Rattle.mitex_tokens.specs.Running.{isCopied, runOf}
+use Rattle.mitex_tokens.specs.Runs.{Copies}
 use Rattle.mitex_tokens.proofs.Putting.{puts-as, turn-plain}
-use Rattle.mitex_tokens.proofs.Running.{steady, steady-act, steady-next, Ran, ran-start, runs-as, ran-low, ran-long, row-fits, ran-node, ran-end}
+use Rattle.mitex_tokens.proofs.Running.{steady, steady-act, steady-next, Ran, ran-start, runs-as, ran-low, ran-long, row-fits, rest-given, ran-node, ran-end}
 use Rattle.mitex_tokens.proofs.Running.{Meets, text-fits, ran-refused, ran-next}
+use Rattle.mitex_tokens.proofs.Copying.{copies-part, ran-copied}
 use borrow.Author.Needs.{needs}
 use Rattle.mitex_tokens.proofs.put_run.Statement.{statement}
 use Rattle.mitex_tokens.proofs.put_run.Tie as tie
@@ -24,14 +30,17 @@ Inv-loop out₀ at rows text rules index mode env indent flag how w₀ f₀ i₀
 abbrev μ-loop : tie.MeasureT-loop
 μ-loop out₀ at rows text rules index mode env indent flag how w₀ f₀ i₀ j₀ out w f i j = length rows - i
 
--- the function's entry, and the turn in which a number was read
+-- the function's entry, and the turn in which a token was looked at, and its number read
 abbrev start : tie.At-loop Inv-loop μ-loop → tie.Start Inv-loop μ-loop
 start c =
     let c₁ = c .before .before .before in
     c₁ .before .before .before
 
+abbrev looked : tie.After-copies Inv-loop μ-loop → tie.In-loop Inv-loop μ-loop
+looked c = c .before .before .before .before
+
 abbrev turn : tie.After-number Inv-loop μ-loop → tie.In-loop Inv-loop μ-loop
-turn c = c .before .before .before .before
+turn c = looked (c .before .before)
 
 -- how far the loop has gone, by the rules that are given
 abbrev Here : tie.At-loop Inv-loop μ-loop → Type 0
@@ -50,6 +59,11 @@ here c =
 row-here : (c : tie.In-loop Inv-loop μ-loop) → c .before .loop .i + 8 ≤ length (start (c .before) .args .rows .now)
 row-here c = row-fits (start (c .before) .pre .1 .1 .0) (here (c .before)) (c .loop-test .taken)
 
+-- it is a token's
+mark : (c : tie.After-copies Inv-loop μ-loop) → let l = looked c .before in
+    getD (start l .args .rows .now) (l .loop .i + 1) 0 ≡ 1
+mark c = c .before .before .if1 .left
+
 -- and the text of its token
 text-here :
     (c : tie.After-number Inv-loop μ-loop)
@@ -59,7 +73,7 @@ text-here c =
     omega (
       arith,
       c .number .ensures .0,
-      text-fits (start (c₁ .before) .pre .1 .1 .0) (here (c₁ .before)) (c₁ .loop-test .taken) (c .before .before .if1 .left),
+      text-fits (start (c₁ .before) .pre .1 .1 .0) (here (c₁ .before)) (c₁ .loop-test .taken) (mark (c .before .before)),
     )
 
 -- the token, which a steady loop converts
@@ -80,6 +94,26 @@ met c =
       part = ap (λ (n : ℕ). take n (drop (l .loop .j) (s .args .text .now))) z;
       acts = λ f sp sb. sym (steady-act (steady (s .args .how) (s .pre .1 .1 .1)) _ _ f (sp .sound));
     }
+
+-- a token that is copied: the mode, the flag and the kind
+said :
+    (c : tie.Then2 Inv-loop μ-loop) → let l = looked (c .before) .before in
+    let a = start l .args in
+    (a .mode ≡ Text) × (l .loop .f ≡ false) × (isCopied (getD (a .rows .now) (l .loop .i) 0) ≡ true)
+said c = c .before .copies .ensures (c .if2 .taken)
+
+-- the place at which it was, and what it came to
+abbrev copying : tie.After-put-copied Inv-loop μ-loop → tie.Then2 Inv-loop μ-loop
+copying c = c .before .before .before .before
+
+copied :
+    (c : tie.After-put-copied Inv-loop μ-loop) → let l = looked (copying c .before) .before in
+    let a = start l .args in
+    Copies (a .how) (drop (l .loop .i) (a .rows .now)) (drop (l .loop .j) (a .text .now)) (l .loop .w) (l .loop .out) (c .put-copied .result)
+    (c .put-copied .last .0)
+copied c =
+    let l = looked (copying c .before) .before in
+    copies-part (start l .args .rows .now) (start l .args .text .now) (l .loop .i) (l .loop .j) (c .put-copied .ensures)
 
 loop-holds : tie.Need-loop-holds Inv-loop μ-loop
 loop-holds c =
@@ -108,8 +142,86 @@ returns c =
 shared-slice-read-kind : tie.Need-shared-slice-read-kind Inv-loop μ-loop
 shared-slice-read-kind c = omega (arith, row-here (c .before .before .before))
 
+copies-requires : tie.Need-copies-requires Inv-loop μ-loop
+copies-requires c κs = search needs
+
+sub-put-copied : tie.Need-sub-put-copied Inv-loop μ-loop
+sub-put-copied c = omega (arith, row-here (looked (c .before .before)))
+
+part-put-copied-start : tie.Need-part-put-copied-start Inv-loop μ-loop
+part-put-copied-start c = omega (arith, row-here (looked (c .before .before)))
+
+part-put-copied-end : tie.Need-part-put-copied-end Inv-loop μ-loop
+part-put-copied-end c = omega arith
+
+sub-put-copied-2 : tie.Need-sub-put-copied-2 Inv-loop μ-loop
+sub-put-copied-2 c = here (looked (c .before .before .before) .before) .stop
+
+part-put-copied-start-2 : tie.Need-part-put-copied-start-2 Inv-loop μ-loop
+part-put-copied-start-2 c = omega (arith, here (looked (c .before .before .before) .before) .stop)
+
+part-put-copied-end-2 : tie.Need-part-put-copied-end-2 Inv-loop μ-loop
+part-put-copied-end-2 c = omega arith
+
+put-copied-requires : tie.Need-put-copied-requires Inv-loop μ-loop
+put-copied-requires c κs =
+    let known = c .before .before .before in
+    let turn = looked (known .before) in
+    let l = turn .before in
+    let rows = start l .args .rows .now in
+    let p = start l .pre in
+    let g = p .1 .1 .0 in (
+      (ran-low g (here l), omega (arith, ran-long g (here l), p .0 .1)),
+      (
+        rest-given g (here l) (turn .loop-test .taken) (mark (known .before)),
+        (p .1 .1 .1, ap isCopied (ap (λ (y : List ℕ). getD y 0 0) (part-rest rows (l .loop .i)) ∙ getD-here rows (l .loop .i)) ∙ said known .2),
+      ),
+    )
+
+add-i : tie.Need-add-i Inv-loop μ-loop
+add-i c =
+    let l = looked (copying (c .before .before .before) .before) .before in
+    let a = start l .args in
+    omega (
+      arith,
+      copied (c .before .before .before) .high,
+      length-drop (l .loop .i) (a .rows .now),
+      here l .high,
+      start l .pre .1 .1 .0 .few,
+    )
+
+add-j : tie.Need-add-j Inv-loop μ-loop
+add-j c =
+    let l = looked (copying (c .before .before .before .before) .before) .before in
+    let a = start l .args in
+    omega (
+      arith,
+      copied (c .before .before .before .before) .stop,
+      length-drop (l .loop .j) (a .text .now),
+      here l .stop,
+      start l .pre .1 .1 .0 .short,
+    )
+
+loop-less : tie.Need-loop-less Inv-loop μ-loop
+loop-less c =
+    let put = c .before .before .before .before in
+    omega (arith, copied put .some, looked (copying put .before) .loop-test .taken)
+
+loop-again : tie.Need-loop-again Inv-loop μ-loop
+loop-again c =
+    let put = c .before .before .before .before in
+    let known = copying put in
+    let l = looked (known .before) .before in
+    let a = start l .args in
+    λ rs e.
+    ran-copied (said known .0) (start l .pre .0 .1)
+    (subst
+    (λ (b : Bool). Ran (inside rs (a .mode) (a .env) (a .indent)) (a .flag) (a .how) (a .rows .now) (a .text .now) (a .at) (a .out .now) (runOf (l .loop .i) (l .loop .j) (l .loop .w) b (a .how) 0) (l .loop .out))
+    (said known .1) (l .loop .inv rs e))
+    (copied put)
+
 number-requires : tie.Need-number-requires Inv-loop μ-loop
-number-requires c κs = row-here (c .before .before .before)
+number-requires c κs = row-here (looked (c .before))
 
 add-u : tie.Need-add-u Inv-loop μ-loop
 add-u c = omega (arith, text-here c, start (turn c .before) .pre .1 .1 .0 .short)
@@ -146,29 +258,29 @@ returns-2 c =
     let p = start (c₃ .before) .pre in
     λ rs e.
     runs-as (c .ran2 .ensures)
-    (ran-refused (p .1 .1 .0) (c₃ .before .loop .inv rs e) (c₃ .loop-test .taken) (c₂ .before .before .if1 .left) (met c₂) (p .0 .1)
-    (λ l. puts-as (turn-plain _ _ _ _) (c₁ .put-next .ensures rs l e)) (c .before .if2 .taken) (omega arith))
+    (ran-refused (p .1 .1 .0) (c₃ .before .loop .inv rs e) (c₃ .loop-test .taken) (mark (c₂ .before .before)) (met c₂) (p .0 .1)
+    (λ l. puts-as (turn-plain _ _ _ _) (c₁ .put-next .ensures rs l e)) (c .before .if3 .taken) (omega arith))
 
-add-i : tie.Need-add-i Inv-loop μ-loop
-add-i c =
+add-i-2 : tie.Need-add-i-2 Inv-loop μ-loop
+add-i-2 c =
     let c₁ = c .before .before .before .before in
     let c₂ = turn (c₁ .before .before .before) in
     omega (arith, row-here c₂, start (c₂ .before) .pre .1 .1 .0 .few)
 
-loop-less : tie.Need-loop-less Inv-loop μ-loop
-loop-less c =
+loop-less-2 : tie.Need-loop-less-2 Inv-loop μ-loop
+loop-less-2 c =
     let c₁ = c .before .before .before .before in
     omega (arith, row-here (turn (c₁ .before .before .before)))
 
-loop-again : tie.Need-loop-again Inv-loop μ-loop
-loop-again c =
+loop-again-2 : tie.Need-loop-again-2 Inv-loop μ-loop
+loop-again-2 c =
     let c₁ = c .before .before .before .before in
     let c₂ = c₁ .before .before .before in
     let c₃ = turn c₂ in
     let p = start (c₃ .before) .pre in
     λ rs e.
-    ran-next (p .1 .1 .0) (c₃ .before .loop .inv rs e) (c₃ .loop-test .taken) (c₂ .before .before .if1 .left) (met c₂) (p .0 .1)
-    (λ l. puts-as (turn-plain _ _ _ _) (c₁ .put-next .ensures rs l e)) (c .if2 .left) _ (sym (steady-next (steady _ (p .1 .1 .1)) _ Convert))
+    ran-next (p .1 .1 .0) (c₃ .before .loop .inv rs e) (c₃ .loop-test .taken) (mark (c₂ .before .before)) (met c₂) (p .0 .1)
+    (λ l. puts-as (turn-plain _ _ _ _) (c₁ .put-next .ensures rs l e)) (c .if3 .left) _ (sym (steady-next (steady _ (p .1 .1 .1)) _ Convert))
 
 ran-requires-3 : tie.Need-ran-requires-3 Inv-loop μ-loop
 ran-requires-3 c κs = search needs
@@ -194,6 +306,18 @@ put-run-spec =
     same-length
     returns
     shared-slice-read-kind
+    copies-requires
+    sub-put-copied
+    part-put-copied-start
+    part-put-copied-end
+    sub-put-copied-2
+    part-put-copied-start-2
+    part-put-copied-end-2
+    put-copied-requires
+    add-i
+    add-j
+    loop-less
+    loop-again
     number-requires
     add-u
     sub-s
@@ -203,9 +327,9 @@ put-run-spec =
     ran-requires-2
     same-length-2
     returns-2
-    add-i
-    loop-less
-    loop-again
+    add-i-2
+    loop-less-2
+    loop-again-2
     ran-requires-3
     same-length-3
     returns-3)

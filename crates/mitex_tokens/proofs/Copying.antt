@@ -1,0 +1,226 @@
+-- Words and white space that are copied: how far the loop over what is spelt has gone, with their texts as they are (`Copied`), and what
+-- comes of it within a run (`ran-copied`).
+use mathlib.Core.Path.{_≡_, refl, sym, ap, subst, _∙_}
+use mathlib.Core.Bool.{Bool, true, false, _||_}
+use mathlib.Core.List.{List, [], _++_}
+use Prim.Native.Nat.{ℕ, _+_, _-_, _*_, _/_, _≤_, _<_}
+use native.Mathlib.Nat.{add-zero}
+use native.Mathlib.Omega.{arith}
+use borrow.Author.Tests.{eqb-true}
+use lib.Dec.{eqb}
+use lib.ListN.{length, take, drop, getD, length-drop}
+use lib.Seq.{take-add, drop-drop, getD-drop}
+use Rattle.text.specs.Writing.{cap, Wrote}
+use Rattle.text.proofs.Writing.{wrote-then, part-rest}
+use Rattle.mitex_syntax.specs.Syntax.{TokenWord, TokenWhiteSpace}
+use Rattle.mitex_syntax.specs.Rows.{numOf}
+use Rattle.mitex_syntax.specs.Tree.{Forest, size, sizes}
+use Rattle.mitex_syntax.specs.Spells.{SpellsAll}
+use Rattle.mitex_syntax.proofs.Trees.{getD-here}
+use Rattle.mitex_state.specs.Outcome.{Context, Label, Outcome, after, andThen, shift}
+use Rattle.mitex_state.specs.Outcome.Outcome.{done}
+use Rattle.mitex_state.specs.Tokens.{word, tokenOut}
+use Rattle.mitex_state.specs.Children.{nextLoop, each}
+use Rattle.mitex_state.specs.Conversion.{convert, startContext}
+use Rattle.mitex_state.specs.declared.LaTeXMode.{LaTeXMode}
+use Rattle.mitex_state.specs.declared.LaTeXMode.the-variants.{Text}
+use Rattle.mitex_state.specs.declared.Loop.{Loop}
+use Rattle.mitex_state.specs.declared.Act.the-variants.{Convert}
+use Rattle.mitex_state.proofs.Outcomes.{after-nil, after-after}
+use Rattle.mitex_tokens.specs.Puts.{carrying, tokenTurn}
+use Rattle.mitex_tokens.specs.Running.{isCopied, runOf}
+use Rattle.mitex_tokens.specs.Runs.{Gone, Copies}
+use Rattle.mitex_tokens.specs.declared.Run.{Run}
+use Rattle.mitex_tokens.proofs.Tokens.{token-space, token-word}
+use Rattle.mitex_tokens.proofs.Putting.{turn-plain}
+use Rattle.mitex_tokens.proofs.Running.{headOf, Head, head, Steady, steady-act, steady-next, each-token, Ran, rows-eight}
+
+-- such a token writes its text
+copied-out :
+    (x : Context) (k : ℕ) (s : List ℕ) (l : Label) → x .mode ≡ Text → isCopied k ≡ true
+    → tokenOut x k s (carrying false l) ≡ done (carrying false l) s
+copied-out x k s l t e = on (eqb k TokenWord) refl
+  where
+    on : (b : Bool) → eqb k TokenWord ≡ b → tokenOut x k s (carrying false l) ≡ done (carrying false l) s
+    on true q = token-word x s (carrying false l) k (eqb-true k TokenWord q) ∙ ap (λ (m : LaTeXMode). done (carrying false l) (word m s)) t
+    on false q =
+        token-space x s (carrying false l) k (eqb-true k TokenWhiteSpace (ap (λ (b : Bool). b || eqb k TokenWhiteSpace) (sym q) ∙ e))
+
+-- the loop over f goes on behind i bytes of rows and j of text, which is written
+pub record CopiedTo (x : Context) (how : Loop) (f : Forest) (n : ℕ) (rows text : List ℕ) (i j : ℕ) : Type 0 where
+  pub forest : Forest
+  pub spells : SpellsAll forest (drop i rows) (drop j text)
+  pub fits : sizes forest ≤ sizes f
+  pub is :
+      (l : Label) (o : ℕ) → each (convert n x) o how f (carrying false l)
+      ≡ after (take j text) (each (convert n x) (o + i / 8) how forest (carrying false l))
+
+pub record Copied (x : Context) (how : Loop) (rows text : List ℕ) (i j : ℕ) : Type 0 where
+  pub stop : j ≤ length text
+  pub whole : i ≡ 8 * (i / 8)
+  pub goes : (f : Forest) (n : ℕ) → SpellsAll f rows text → sizes f ≤ n → CopiedTo x how f n rows text i j
+
+pub copied-start : (x : Context) (how : Loop) (rows text : List ℕ) → Copied x how rows text 0 0
+copied-start x how rows text =
+    record {
+      stop = omega arith;
+      whole = refl;
+      goes =
+          λ f n sp q. record {
+            forest = f;
+            spells = sp;
+            fits = omega arith;
+            is =
+                λ l o. sym (after-nil (each (convert n x) (o + 0) how f (carrying false l))
+                ∙ ap (λ (m : ℕ). each (convert n x) m how f (carrying false l)) (add-zero o));
+          };
+    }
+
+-- the next token
+module _ {x : Context} {how : Loop} {rows text : List ℕ} {i j : ℕ} (p : Copied x how rows text i j) (st : Steady how) (t : x .mode ≡ Text)
+    (short : length text < cap) (h : i < length rows) (mark : getD rows (i + 1) 0 ≡ 1) (c : isCopied (getD rows i 0) ≡ true) where
+  module _ (f : Forest) (n : ℕ) (sp : SpellsAll f rows text) (q : sizes f ≤ n) where
+    abbrev before : CopiedTo x how f n rows text i j
+    before = p .goes f n sp q
+
+    abbrev there : Head (before .forest) (drop i rows) (drop j text)
+    there =
+        head (before .forest) (before .spells) (omega (arith, length-drop i rows)) (getD-drop i rows 1 0 ∙ mark)
+        (omega (arith, short, length-drop j text))
+
+    abbrev kind : ℕ
+    kind = getD (drop i rows) 0 0
+
+    abbrev said : List ℕ
+    said = take (numOf (drop i rows)) (drop j text)
+
+    fewer : 1 + sizes (there .others) ≤ sizes f
+    unfolding size
+    fewer = omega (arith, before .fits, ap sizes (there .is))
+
+    copied-is : (l : Label) → tokenTurn x Convert kind said (carrying false l) ≡ done (carrying false l) said
+    copied-is l = turn-plain x kind said (carrying false l) ∙ copied-out x kind said l t (ap isCopied (getD-here rows i) ∙ c)
+
+    abbrev then : ℕ → Loop → Label → Outcome
+    then o l′ l = each (convert n x) o l′ (there .others) (carrying false l)
+
+    goes-on :
+        (l : Label) (o : ℕ) → each (convert n x) o how f (carrying false l)
+        ≡ after (take j text) (after said (then (o + i / 8 + 1) (nextLoop how kind Convert) l))
+    goes-on l o =
+        before .is l o
+        ∙ ap (λ (y : Forest). after (take j text) (each (convert n x) (o + i / 8) how y (carrying false l))) (there .is)
+        ∙ ap (after (take j text))
+        (each-token n x (o + i / 8) how kind said (there .others) (carrying false l) Convert (omega (arith, fewer))
+        (sym (steady-act st kind said (there .others) (there .first .sound)))
+        ∙ ap (λ (y : Outcome). andThen (shift (o + i / 8) y) (λ d. each (convert n x) (o + i / 8 + 1) (nextLoop how kind Convert) (there .others) d))
+        (copied-is l))
+
+    copied-to : CopiedTo x how f n rows text (i + 8) (j + numOf (drop i rows))
+    copied-to =
+        record {
+          forest = there .others;
+          spells =
+              subst (λ (y : List ℕ). SpellsAll (there .others) y (drop (j + numOf (drop i rows)) text)) (drop-drop 8 i rows)
+              (subst (λ (y : List ℕ). SpellsAll (there .others) (drop 8 (drop i rows)) y) (drop-drop (numOf (drop i rows)) j text) (there .rest));
+          fits = omega (arith, fewer);
+          is =
+              λ l o.
+              let row : o + i / 8 + 1 ≡ o + (i + 8) / 8 = omega arith in
+              goes-on l o
+              ∙ after-after (take j text) said (then (o + i / 8 + 1) (nextLoop how kind Convert) l)
+              ∙ ap (λ (y : List ℕ). after y (then (o + i / 8 + 1) (nextLoop how kind Convert) l)) (sym (take-add j (numOf (drop i rows)) text))
+              ∙ ap (λ (y : Loop). after (take (j + numOf (drop i rows)) text) (then (o + i / 8 + 1) y l)) (steady-next st kind Convert)
+              ∙ ap (λ (y : ℕ). after (take (j + numOf (drop i rows)) text) (then y how l)) row;
+        }
+
+  pub copied-next : (f : Forest) → SpellsAll f rows text → Copied x how rows text (i + 8) (j + numOf (drop i rows))
+  copied-next f sp =
+      record {
+        stop = omega (arith, there f (sizes f) sp (omega arith) .fits, length-drop j text, p .stop);
+        whole = omega (arith, p .whole);
+        goes = copied-to;
+      }
+
+-- ---- what was copied, in bytes
+
+-- any context in Text
+abbrev inText : Context
+inText = startContext [] Text
+
+module _ {how : Loop} {rows text : List ℕ} {i j : ℕ} (p : (x : Context) → x .mode ≡ Text → Copied x how rows text i j) where
+  pub copied-stop : j ≤ length text
+  copied-stop = p inText refl .stop
+
+  -- rows are whole
+  pub copied-row : {f : Forest} → SpellsAll f rows text → i < length rows → i + 8 ≤ length rows
+  copied-row {f} sp h =
+      let g = p inText refl .goes f (sizes f) sp (omega arith) in
+      omega (arith, rows-eight (g .spells) (omega (arith, length-drop i rows)), length-drop i rows)
+
+  -- once it is written
+  pub copied-run :
+      {at w : ℕ} {out out′ : List ℕ} {r : Run} → 8 ≤ i → i ≤ length rows → Wrote at out (take j text) w out′ → r ≡ runOf i j w false how 0
+      → Copies how rows text at out r out′
+  copied-run {at} {w} {out} {out′} some high wrote e =
+      subst (λ (y : Run). Copies how rows text at out y out′) (sym e)
+      (record {
+        stays = refl;
+        some = some;
+        high = high;
+        stop = copied-stop;
+        whole = p inText refl .whole;
+        goes =
+            λ x t f n sp q.
+            let g = p x t .goes f n sp q in
+            record { forest = g .forest; spells = g .spells; fits = g .fits; written = take j text; wrote = wrote; is = g .is };
+      })
+
+-- by the parts that the code has
+pub copies-part :
+    {how : Loop} (rows text : List ℕ) (i j : ℕ) {at : ℕ} {out : List ℕ} {r : Run} {out′ : List ℕ}
+    → Copies how (take (length rows - i) (drop i rows)) (take (length text - j) (drop j text)) at out r out′
+    → Copies how (drop i rows) (drop j text) at out r out′
+copies-part {how} rows text i j {at} {out} {r} {out′} q =
+    subst (λ (y : List ℕ). Copies how y (drop j text) at out r out′) (part-rest rows i)
+    (subst (λ (y : List ℕ). Copies how (take (length rows - i) (drop i rows)) y at out r out′) (part-rest text j) q)
+
+-- ---- what was copied, within a run
+
+module _ {x : Context} {flag : Bool} {how : Loop} {rows text : List ℕ} {at : ℕ} {out : List ℕ} {i j w : ℕ} {out₁ : List ℕ} {r : Run}
+    {out₂ : List ℕ} (t : x .mode ≡ Text) (long : length out ≤ cap) (p : Ran x flag how rows text at out (runOf i j w false how 0) out₁)
+    (q : Copies how (drop i rows) (drop j text) w out₁ r out₂) where
+  gone-copied :
+      (f : Forest) (n : ℕ) → SpellsAll f rows text → sizes f ≤ n
+      → Gone x flag how f n rows text at out (runOf (i + r .rows) (j + r .text) (r .at) false how 0) out₂
+  gone-copied f n sp h =
+      let g = p .goes f n sp h in
+      let k = q .goes x t (g .forest) n (g .spells) (omega (arith, g .fits)) in
+      record {
+        forest = k .forest;
+        spells =
+            subst (λ (y : List ℕ). SpellsAll (k .forest) y (drop (j + r .text) text)) (drop-drop (r .rows) i rows)
+            (subst (λ (y : List ℕ). SpellsAll (k .forest) (drop (r .rows) (drop i rows)) y) (drop-drop (r .text) j text) (k .spells));
+        fits = omega (arith, g .fits, k .fits);
+        written = g .written ++ k .written;
+        wrote = wrote-then long (g .wrote) (k .wrote);
+        is =
+            λ l o.
+            let row : o + i / 8 + r .rows / 8 ≡ o + (i + r .rows) / 8 = omega (arith, p .whole, q .whole) in
+            g .is l o
+            ∙ ap (after (g .written)) (k .is l (o + i / 8))
+            ∙ after-after (g .written) (k .written) (each (convert n x) (o + i / 8 + r .rows / 8) (r .how) (k .forest) (carrying (r .flag) l))
+            ∙ ap (λ (y : ℕ). after (g .written ++ k .written) (each (convert n x) y (r .how) (k .forest) (carrying (r .flag) l))) row
+            ∙ ap
+            (λ (y : Run). after (g .written ++ k .written) (each (convert n x) (o + (i + r .rows) / 8) (y .how) (k .forest) (carrying (y .flag) l)))
+            (q .stays);
+      }
+
+  pub ran-copied : Ran x flag how rows text at out (runOf (i + r .rows) (j + r .text) (r .at) false how 0) out₂
+  ran-copied =
+      record {
+        high = omega (arith, p .high, q .high, length-drop i rows);
+        stop = omega (arith, p .stop, q .stop, length-drop j text);
+        whole = omega (arith, p .whole, q .whole);
+        goes = gone-copied;
+      }
