@@ -28,7 +28,7 @@ use Rattle.mitex.specs.Walks.{Room, Siblings, Converts, Walks}
 use Rattle.mitex_state.proofs.Agreeing.{agrees-as}
 use Rattle.mitex_state.proofs.Loops.{each-at}
 use Rattle.mitex_plans.specs.Plans.{Single}
-use Rattle.mitex_plans.proofs.Wholes.{each-one}
+use Rattle.mitex_loops.proofs.Plainly.{each-one}
 use Rattle.mitex_commands.proofs.Elements.{ofNode, element-node, element-token, element-unexpected}
 use Rattle.mitex.proofs.Rooms.{room-part}
 

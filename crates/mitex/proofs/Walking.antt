@@ -27,7 +27,7 @@ use Rattle.mitex_state.specs.Conversion.{convert}
 use Rattle.mitex_loops.specs.Given.{numberOf, ChildGiven, OthersGiven, Decides}
 use Rattle.mitex_loops.proofs.Closing.{passes-alone}
 use Rattle.mitex_tokens.specs.Puts.{carrying}
-use Rattle.mitex_tokens.specs.Runs.{TokensGiven, Runs}
+use Rattle.mitex_tokens.specs.Runs.{RunGiven, Runs}
 use Rattle.mitex_tokens.specs.declared.Run.{Run}
 use Rattle.mitex_loops.proofs.Acting.{number-next}
 use Rattle.mitex_state.specs.declared.Loop.{Loop}
@@ -378,8 +378,8 @@ module _ {rules index rows text : List ℕ} {row : ℕ} {out₀ : List ℕ} {w�
   rest-long : length (rest rows i) ≡ length rows - i
   rest-long = ap length (part-rest rows i) ∙ length-drop i rows
 
-  pub tokens-given : i < length rows → getD rows (i + 1) 0 ≡ 1 → TokensGiven (rest rows i) (rest text j) l
-  tokens-given h e =
+  pub run-given : i < length rows → RunGiven (rest rows i) (rest text j) l
+  run-given h =
       let s = left-spelt k in
       record {
         forest = s .forest;
@@ -387,7 +387,6 @@ module _ {rules index rows text : List ℕ} {row : ℕ} {out₀ : List ℕ} {w�
         few = omega (arith, rest-long, k .room .few);
         short = omega (arith, ap length (part-rest text j), length-drop j text, k .room .short);
         some = omega (arith, rest-long);
-        token = ap (λ (r : List ℕ). getD r 1 0) (part-rest rows i) ∙ getD-drop i rows 1 0 ∙ e;
         counts = omega (arith, rest-long, k .counts, k .room .few);
       }
 

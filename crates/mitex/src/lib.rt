@@ -76,6 +76,7 @@ use mitex_state::refuse;
 use mitex_state::went;
 use mitex_tables::has_ends;
 use mitex_tables::letters_fit;
+use mitex_tokens::begins_run;
 use mitex_tokens::convert_token;
 use mitex_tokens::convert_tokens;
 
@@ -156,7 +157,7 @@ fn turn<'a>(
     went(d, q)
 }
 
-// Elements side by side, by a loop: the first of them stands at `row`. Tokens go in runs.
+// Elements side by side, by a loop: the first of them stands at `row`. Tokens go in runs, an argument like `{x}` with them.
 fn each<'a>(
     out: &mut [u8],
     at: usize,
@@ -180,7 +181,7 @@ fn each<'a>(
     let mut i = 0;
     let mut j = 0;
     while i < rows.len() {
-        if rows[i + 1] == 1 {
+        if begins_run(&rows[i..]) {
             let t = convert_tokens(out, w, &rows[i..], &text[j..], rules, index, d, l);
             i += t.rows;
             j += t.text;

@@ -1,3 +1,4 @@
 pub mod Acting
 pub mod Others
 pub mod Closing
+pub mod Plainly

@@ -42,7 +42,7 @@ use mitex_syntax::TOKEN_WORD;
 // ---- what a loop looks at
 
 // White space, a line break or a brace: leaves a curly group blank.
-fn is_blank(kind: u8) -> bool
+pub fn is_blank(kind: u8) -> bool
     ensures { λ r. ⌜ r ≡ isBlank kind ⌝ }
 {
     match kind {
@@ -511,7 +511,7 @@ fn put_attach_end(out: &mut [u8], at: usize, state: Attach) -> usize
 }
 
 // What a curly group in Math ends with.
-fn put_curly_end(out: &mut [u8], at: usize, blank: bool) -> usize
+pub fn put_curly_end(out: &mut [u8], at: usize, blank: bool) -> usize
     requires { ⌜ (at ≤ cap) × (length (now out) ≤ cap) ⌝ }
     ensures { λ r. ⌜ Wrote at (now (out .entry)) (cond blank blankGroup []) r (now (out .exit)) ⌝ }
 {

@@ -46,7 +46,8 @@ use Rattle.mitex_plans.specs.declared.End.the-variants.{Space, Semicolon
 use Rattle.mitex_plans.specs.declared.ArgumentsPlan.{ArgumentsPlan}
 use Rattle.mitex_plans.specs.declared.ArgumentsPlan.the-variants.{Takes}
 use Rattle.mitex_plans.specs.declared.Halves.{Halves}
-use Rattle.mitex_plans.proofs.Wholes.{at-place, in-still, whole-means, none-fits, none-given, none-planned, each-one}
+use Rattle.mitex_loops.proofs.Plainly.{each-one}
+use Rattle.mitex_plans.proofs.Wholes.{at-place, in-still, whole-means, none-fits, none-given, none-planned}
 use Rattle.mitex_plans.proofs.Parting.{none-empty, between-length, fits-first, fits-behind}
 
 -- ---- arguments

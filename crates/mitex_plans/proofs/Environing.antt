@@ -33,8 +33,9 @@ use Rattle.mitex_plans.specs.Making.{noPart, wholePart, planAs, captionP
 use Rattle.mitex_plans.specs.declared.End.{End}
 use Rattle.mitex_plans.specs.declared.End.the-variants.{Nothing, Block, Body, CaptionBody}
 use Rattle.mitex_plans.specs.declared.Plan.{Plan}
+use Rattle.mitex_loops.proofs.Plainly.{each-one}
 use Rattle.mitex_plans.proofs.Wholes.{at-place, in-still, whole-given, whole-planned}
-use Rattle.mitex_plans.proofs.Wholes.{none-fits, none-given, none-planned, one-fits, each-one}
+use Rattle.mitex_plans.proofs.Wholes.{none-fits, none-given, none-planned, one-fits}
 use Rattle.mitex_plans.proofs.Meaning.{step-small}
 
 module _ {f : Forest} {rows text : List ℕ} (sp : SpellsAll f rows text) (c : Converter) (rs : List Rule) where

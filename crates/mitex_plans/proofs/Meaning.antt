@@ -31,11 +31,12 @@ use Rattle.mitex_state.specs.declared.Loop.the-variants.{Plain, Curly, Spaced, 
 use Rattle.mitex_state.specs.declared.Part.{Part}
 use Rattle.mitex_state.specs.declared.Converter.{Converter}
 use Rattle.mitex_loops.specs.Given.{numberOf}
+use Rattle.mitex_loops.proofs.Plainly.{bare, group-step}
 use Rattle.mitex_plans.specs.Plans.{endText, Means, lrName, tableCells}
 use Rattle.mitex_plans.specs.Making.{wholePart, planAs, planHere, behindFirst, firstSize, FirstApart}
 use Rattle.mitex_plans.specs.declared.End.{End}
 use Rattle.mitex_plans.specs.declared.End.the-variants.{Nothing}
-use Rattle.mitex_plans.proofs.Wholes.{at-place, in-still, whole-means, bare}
+use Rattle.mitex_plans.proofs.Wholes.{at-place, in-still, whole-means}
 use Rattle.mitex_plans.proofs.Parting.{fits-behind}
 
 -- ---- environments by how far they indent
@@ -51,18 +52,6 @@ step-small Matrix = omega arith
 step-small Cases = omega arith
 step-small SubStack = omega arith
 step-small MathCurlyGroup = omega arith
-
-group-step : (v : LaTeXEnv) → stepOf (groupEnv v) ≡ 0
-group-step None = refl
-group-step Figure = refl
-group-step TableEnv = refl
-group-step Itemize = refl
-group-step Enumerate = refl
-group-step MathEnv = refl
-group-step Matrix = refl
-group-step Cases = refl
-group-step SubStack = refl
-group-step MathCurlyGroup = refl
 
 attach-number : (m : LaTeXMode) → numberOf (attachLoop m) ≡ 0
 attach-number Text = refl

@@ -112,10 +112,6 @@ module _ {f : Forest} {rows text : List ℕ} (sp : SpellsAll f rows text) (m : L
         is = λ conv j. q conv j ∙ ap (after w) (sym (whole-planned conv rs j));
       }
 
--- no text before and none behind
-pub bare : (o : Outcome) → o ≡ after [] (closing [] o)
-bare o = sym (after-nil (closing [] o) ∙ closing-nil o)
-
 -- ---- no children
 
 pub none-spells : (rows text : List ℕ) → SpellsAll none (rowsIn noPart rows) (textIn noPart text)
@@ -145,16 +141,8 @@ pub none-planned :
 none-planned conv rs m v n p e k =
     ap (λ (o : Outcome). shift (1 + p .i / 8) (closing (endText e) o)) (each-none (conv (at-place rs m v n)) 0 Plain k)
 
--- ---- one element in a plain loop is that element
+-- ---- one element
 
 pub one-fits : (t : Tree) (f : Forest) → size t ≤ sizes f → sizes (more t none) ≤ sizes f
 unfolding sizes
 one-fits t f h = omega arith
-
-pub each-one : (conv : Tree → Carry → Outcome) (t : Tree) (k : Carry) → each conv 0 Plain (more t none) k ≡ conv t k
-each-one conv t k =
-    each-more conv 0 Plain t none k
-    ∙ ap (λ (o : Outcome). andThen (shift 0 o) (each conv (0 + size t) Plain none)) (turn-converts conv Convert t k refl ∙ sym (bare (conv t k)))
-    ∙ ap (λ (o : Outcome). andThen o (each conv (0 + size t) Plain none)) (shift-zero (conv t k))
-    ∙ andThen-same (conv t k) (each conv (0 + size t) Plain none) (λ c. done c []) (λ c. each-none conv (0 + size t) Plain c)
-    ∙ andThen-done (conv t k)

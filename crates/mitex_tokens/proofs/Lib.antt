@@ -3,3 +3,4 @@ pub mod Spacing
 pub mod Putting
 pub mod Running
 pub mod Copying
+pub mod Bracing

@@ -25,7 +25,8 @@ use Rattle.mitex_state.specs.declared.Converter.{Converter}
 use Rattle.mitex_state.specs.declared.Walked.{Walked}
 use Rattle.mitex_state.proofs.Agreeing.{agrees-here, agrees-carried}
 use Rattle.mitex_loops.proofs.Closing.{passes-alone}
-use Rattle.mitex_tokens.specs.Puts.{carrying, tokenTurn, Puts, Settles}
+use Rattle.mitex_loops.proofs.Plainly.{bare}
+use Rattle.mitex_tokens.specs.Puts.{carrying, turnBy, tokenTurn, Puts, Settles}
 use Rattle.mitex_tokens.specs.Puts.Puts.{declines, accepts}
 use Rattle.mitex_tokens.specs.Puts.Settles.{declined, carried}
 use Rattle.mitex_tokens.specs.declared.TokenPut.{TokenPut}
@@ -52,27 +53,22 @@ settles-agrees c (accepts z w) (carried {d} y m g) short = agrees-carried d g m 
 
 -- nothing
 pub turn-plain : (x : Context) (k : ℕ) (s : List ℕ) (c : Carry) → tokenTurn x Convert k s c ≡ tokenOut x k s c
-turn-plain x k s c = bare (tokenOut x k s c)
-  where
-    bare : (o : Outcome) → after [] (closing [] o) ≡ o
-    bare (refused n r) = refl
-    bare (done d w) = ap (done d) (append-nil w)
+turn-plain x k s c = sym (bare (tokenOut x k s c))
 
--- the token itself is not converted
-pub turn-instead :
-    (x : Context) (a : Act) (k : ℕ) (s : List ℕ) (c : Carry) → converts a ≡ false → tokenTurn x a k s c ≡ done c (before a s)
-turn-instead x a k s c e =
-    ap (λ (b : Bool). after (before a s) (closing (behind a) (cond b (tokenOut x k s c) (done c [])))) e
+-- the child itself is not converted
+pub turn-instead : (a : Act) (s : List ℕ) (o : Outcome) (c : Carry) → converts a ≡ false → turnBy a s o c ≡ done c (before a s)
+turn-instead a s o c e =
+    ap (λ (b : Bool). after (before a s) (closing (behind a) (cond b o (done c [])))) e
     ∙ ap (λ (w : List ℕ). done c (before a s ++ w)) (passes-alone a e)
     ∙ ap (done c) (append-nil (before a s))
 
-module _ {a : TokenPut} {l : Label} {at p : ℕ} {out out₁ out₂ : List ℕ} (x : Context) (act : Act) (k : ℕ) (s : List ℕ) (c : Carry)
-    (long : length out ≤ cap) (is : converts act ≡ true) (b : Wrote at out (before act s) p out₁) (m : Puts a l p out₁ out₂ (tokenOut x k s c)) where
-  around : tokenTurn x act k s c ≡ after (before act s) (closing (behind act) (tokenOut x k s c))
-  around = ap (λ (b : Bool). after (before act s) (closing (behind act) (cond b (tokenOut x k s c) (done c [])))) is
+module _ {a : TokenPut} {l : Label} {at p : ℕ} {out out₁ out₂ : List ℕ} (act : Act) (s : List ℕ) (o : Outcome) (c : Carry)
+    (long : length out ≤ cap) (is : converts act ≡ true) (b : Wrote at out (before act s) p out₁) (m : Puts a l p out₁ out₂ o) where
+  around : turnBy act s o c ≡ after (before act s) (closing (behind act) o)
+  around = ap (λ (b : Bool). after (before act s) (closing (behind act) (cond b o (done c [])))) is
 
   -- it was refused
-  pub puts-refused : (a .refusal ≡ 0 → ⊥) → Puts a l at out out₂ (tokenTurn x act k s c)
+  pub puts-refused : (a .refusal ≡ 0 → ⊥) → Puts a l at out out₂ (turnBy act s o c)
   puts-refused z = puts-as around (on m)
     where
       on : {o : Outcome} → Puts a l p out₁ out₂ o → Puts a l at out out₂ (after (before act s) (closing (behind act) o))
@@ -82,7 +78,7 @@ module _ {a : TokenPut} {l : Label} {at p : ℕ} {out out₁ out₂ : List ℕ} 
   -- it was written, and what stands behind it
   pub puts-around :
       {q : ℕ} {out₃ : List ℕ} {r : TokenPut} → a .refusal ≡ 0 → Wrote (a .at) out₂ (behind act) q out₃ → r .at ≡ q → r .flag ≡ a .flag
-      → r .refusal ≡ 0 → Puts r l at out out₃ (tokenTurn x act k s c)
+      → r .refusal ≡ 0 → Puts r l at out out₃ (turnBy act s o c)
   puts-around {q} {out₃} {r} z v ea ef er = puts-as around (on m)
     where
       on : {o : Outcome} → Puts a l p out₁ out₂ o → Puts r l at out out₃ (after (before act s) (closing (behind act) o))
@@ -120,12 +116,16 @@ uniform-token x k s b =
     (uniform-cond (eqb k TokenCommandSym) (uniform-symbol (drop 1 s) (getCmd (x .rules) (drop 1 s)))
     (does false (tokenText x k s) (λ l. refl)))))
 
-pub uniform-turn : (x : Context) (a : Act) (k : ℕ) (s : List ℕ) (b : Bool) → Uniform (λ l. tokenTurn x a k s (carrying b l))
-uniform-turn x a k s b = on (uniform-cond (converts a) (uniform-token x k s b) (does b [] (λ l. refl)))
+pub uniform-by :
+    (a : Act) (s : List ℕ) (b : Bool) {o : Label → Outcome} → Uniform o → Uniform (λ l. turnBy a s (o l) (carrying b l))
+uniform-by a s b u = on (uniform-cond (converts a) u (does b [] (λ l. refl)))
   where
     on : {o : Label → Outcome} → Uniform o → Uniform (λ l. after (before a s) (closing (behind a) (o l)))
     on (refuses n e) = refuses n (λ l. ap (λ (p : Outcome). after (before a s) (closing (behind a) p)) (e l))
     on (does c w e) = does c (before a s ++ (w ++ behind a)) (λ l. ap (λ (p : Outcome). after (before a s) (closing (behind a) p)) (e l))
+
+pub uniform-turn : (x : Context) (a : Act) (k : ℕ) (s : List ℕ) (b : Bool) → Uniform (λ l. tokenTurn x a k s (carrying b l))
+uniform-turn x a k s b = uniform-by a s b (uniform-token x k s b)
 
 -- a token that is written, for each label with the same text
 pub record Passed (a : TokenPut) (at : ℕ) (out out′ : List ℕ) (o : Label → Outcome) : Type 0 where

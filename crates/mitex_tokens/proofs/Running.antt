@@ -35,7 +35,7 @@ use Rattle.mitex_state.proofs.Loops.{each-more}
 use Rattle.mitex_loops.specs.Given.{ChildGiven, OthersGiven, numberOf}
 use Rattle.mitex_tokens.specs.Puts.{carrying, tokenTurn, Puts}
 use Rattle.mitex_tokens.specs.Running.{isSteady, runOf}
-use Rattle.mitex_tokens.specs.Runs.{TokensGiven, Gone, Runs}
+use Rattle.mitex_tokens.specs.Runs.{RunGiven, Gone, Runs}
 use Rattle.mitex_tokens.specs.declared.Run.{Run}
 use Rattle.mitex_tokens.specs.declared.TokenPut.{TokenPut}
 use Rattle.mitex_tokens.proofs.Putting.{passed, refused-so, uniform-turn}
@@ -79,9 +79,9 @@ head (more (token k s) f) {rows} {text} sp h e short =
     }
 
 -- what a loop is given that looks at it
-module _ {rows text : List ℕ} {how : Loop} (given : TokensGiven rows text how) where
+module _ {rows text : List ℕ} {how : Loop} (given : RunGiven rows text how) (token : getD rows 1 0 ≡ 1) where
   abbrev first-head : Head (given .forest) rows text
-  first-head = head (given .forest) (given .spells) (given .some) (given .token) (given .short)
+  first-head = head (given .forest) (given .spells) (given .some) token (given .short)
 
   pub first-fits : (u : ℕ) → u ≡ numOf rows → u ≤ length text
   first-fits u e = omega (arith, first-head .fits)
@@ -206,7 +206,7 @@ pub rows-eight : {f : Forest} {rows text : List ℕ} → SpellsAll f rows text �
 rows-eight {f} sp h = omega (arith, ap length (sp .rows-are), length-rowss f)
 
 module _ {x : Context} {flag : Bool} {how : Loop} {rows text : List ℕ} {at : ℕ} {out : List ℕ} {r : Run} {out′ : List ℕ}
-    (given : TokensGiven rows text how) (p : Ran x flag how rows text at out r out′) where
+    (given : RunGiven rows text how) (p : Ran x flag how rows text at out r out′) where
   gone-given : Gone x flag how (given .forest) (sizes (given .forest)) rows text at out r out′
   gone-given = p .goes (given .forest) (sizes (given .forest)) (given .spells) (omega arith)
 
@@ -223,18 +223,17 @@ module _ {x : Context} {flag : Bool} {how : Loop} {rows text : List ℕ} {at : �
 
   -- what a further run is given, as a part of the rows and of the text
   pub rest-given :
-      r .rows < length rows → getD rows (r .rows + 1) 0 ≡ 1
-      → TokensGiven (take (length rows - r .rows) (drop (r .rows) rows)) (take (length text - r .text) (drop (r .text) text)) how
-  rest-given h mark =
-      subst (λ (y : List ℕ). TokensGiven y (take (length text - r .text) (drop (r .text) text)) how) (sym (part-rest rows (r .rows)))
-      (subst (λ (y : List ℕ). TokensGiven (drop (r .rows) rows) y how) (sym (part-rest text (r .text)))
+      r .rows < length rows
+      → RunGiven (take (length rows - r .rows) (drop (r .rows) rows)) (take (length text - r .text) (drop (r .text) text)) how
+  rest-given h =
+      subst (λ (y : List ℕ). RunGiven y (take (length text - r .text) (drop (r .text) text)) how) (sym (part-rest rows (r .rows)))
+      (subst (λ (y : List ℕ). RunGiven (drop (r .rows) rows) y how) (sym (part-rest text (r .text)))
       (record {
         forest = gone-given .forest;
         spells = gone-given .spells;
         few = omega (arith, given .few, length-drop (r .rows) rows);
         short = omega (arith, given .short, length-drop (r .text) text);
         some = omega (arith, length-drop (r .rows) rows);
-        token = getD-drop (r .rows) rows 1 0 ∙ mark;
         counts = omega (arith, given .counts, length-drop (r .rows) rows);
       }))
 
@@ -244,14 +243,14 @@ module _ {x : Context} {flag : Bool} {how : Loop} {rows text : List ℕ} {at : �
       record { high = p .high; stop = p .stop; counts = counts; some = λ y. some; refuses = λ y. absurd (y z); goes = λ y. p .goes }
 
   pub ran-node :
-      (getD rows (r .rows + 1) 0 ≡ 1 → ⊥) → numberOf (r .how) ≤ numberOf how + r .rows → r .refusal ≡ 0
+      getD rows 1 0 ≡ 1 → (getD rows (r .rows + 1) 0 ≡ 1 → ⊥) → numberOf (r .how) ≤ numberOf how + r .rows → r .refusal ≡ 0
       → Runs x flag how rows text at out r out′
-  ran-node other =
+  ran-node mark other =
       ran-done (elim (decLe 8 (r .rows)) [
         | yes le ↦ le
         | no gt ↦
             let z : 0 ≡ r .rows = omega (arith, p .whole) in
-            absurd (other (subst (λ (y : ℕ). getD rows (y + 1) 0 ≡ 1) z (given .token)))
+            absurd (other (subst (λ (y : ℕ). getD rows (y + 1) 0 ≡ 1) z mark))
       ])
 
   pub ran-end : length rows ≤ r .rows → numberOf (r .how) ≤ numberOf how + r .rows → r .refusal ≡ 0 → Runs x flag how rows text at out r out′
@@ -269,7 +268,7 @@ pub record Meets (rows text : List ℕ) (i j : ℕ) (l : Loop) (k : ℕ) (s : Li
       → act ≡ actOf l (token k s) f
 
 module _ {x : Context} {flag : Bool} {how : Loop} {rows text : List ℕ} {at : ℕ} {out : List ℕ} {i j w : ℕ} {b : Bool} {l : Loop}
-    {out₁ : List ℕ} (given : TokensGiven rows text how) (p : Ran x flag how rows text at out (runOf i j w b l 0) out₁) (h : i < length rows)
+    {out₁ : List ℕ} (given : RunGiven rows text how) (p : Ran x flag how rows text at out (runOf i j w b l 0) out₁) (h : i < length rows)
     (mark : getD rows (i + 1) 0 ≡ 1) where
   -- the token that stands there
   head-at : (f : Forest) (n : ℕ) (sp : SpellsAll f rows text) (q : sizes f ≤ n) → Head (p .goes f n sp q .forest) (drop i rows) (drop j text)

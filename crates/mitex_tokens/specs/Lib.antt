@@ -1,4 +1,5 @@
 pub mod Escapes
 pub mod Puts
+pub mod Braces
 pub mod Running
 pub mod Runs

@@ -25,9 +25,13 @@ inside rs m e n = record { rules = rs; mode = m; env = e; indent = n }
 abbrev pub carrying : Bool → Label → Carry
 carrying b l = record { flag = b; label = l }
 
--- a token as a child in a loop that does a with it
+-- a child of the text s that comes to o, in a loop that does a with it
+abbrev pub turnBy : Act → List ℕ → Outcome → Carry → Outcome
+turnBy a s o c = after (before a s) (closing (behind a) (cond (converts a) o (done c [])))
+
+-- a token as such a child
 abbrev pub tokenTurn : Context → Act → ℕ → List ℕ → Carry → Outcome
-tokenTurn x a k s c = after (before a s) (closing (behind a) (cond (converts a) (tokenOut x k s c) (done c [])))
+tokenTurn x a k s c = turnBy a s (tokenOut x k s c) c
 
 -- An answer agrees with an outcome, whatever label l is held: it refuses as the outcome does, at the token's own row; or it gives the flag,
 -- and what `out` then holds is what it held with the text written from `at` on.

@@ -1,5 +1,5 @@
--- Tokens that stand one behind the other, as children in a loop: they are worked out together, without the converter, whose label none
--- of them touches.
+-- Tokens that stand one behind the other, as children in a loop, and a token in braces: they are worked out without the converter, whose
+-- label none of them touches.
 use mathlib.Core.Path.{_≡_}
 use mathlib.Core.Bool.{Bool, false}
 use mathlib.Core.List.{List}
@@ -16,18 +16,23 @@ use Rattle.mitex_loops.specs.Given.{numberOf}
 use Rattle.mitex_state.specs.declared.Loop.{Loop}
 use Rattle.mitex_state.specs.declared.LaTeXMode.the-variants.{Text}
 use Rattle.mitex_tokens.specs.Puts.{carrying}
+use Rattle.mitex_tokens.specs.Braces.{Braced}
 use Rattle.mitex_tokens.specs.Running.{runOf}
 use Rattle.mitex_tokens.specs.declared.Run.{Run}
 
--- what is asked: some elements are spelt, of which the first is a token, in bytes that are few enough to be counted
-pub record TokensGiven (rows text : List ℕ) (how : Loop) : Type 0 where
+-- what is asked: some elements are spelt, in bytes that are few enough to be counted
+pub record RunGiven (rows text : List ℕ) (how : Loop) : Type 0 where
   pub forest : Forest
   pub spells : SpellsAll forest rows text
   pub few : length rows < cap
   pub short : length text < cap
   pub some : 0 < length rows
-  pub token : getD rows 1 0 ≡ 1
   pub counts : numberOf how + length rows ≤ cap
+
+-- the first of them is a token, or one in braces as an argument
+pub data BeginsRun (rows : List ℕ) : Type 0 where
+  is-token : getD rows 1 0 ≡ 1 → BeginsRun rows
+  in-braces : Braced rows → BeginsRun rows
 
 -- the loop over f goes on behind the run: with a text written, over the elements behind it, in the run's state and flag
 pub record Gone (x : Context) (flag : Bool) (how : Loop) (f : Forest) (n : ℕ) (rows text : List ℕ) (at : ℕ) (out : List ℕ) (r : Run) (out′ : List ℕ) : Type 0 where
@@ -51,7 +56,7 @@ pub record Copies (how : Loop) (rows text : List ℕ) (at : ℕ) (out : List ℕ
       (x : Context) → x .mode ≡ Text → (f : Forest) (n : ℕ) → SpellsAll f rows text → sizes f ≤ n
       → Gone x false how f n rows text at out r out′
 
--- what is promised: a run of at least one token, or the refusal of the token behind the run; whatever elements are spelt, at every level
+-- what is promised: a run of at least one token, or the refusal of a token, which stands so many rows behind; whatever elements are spelt, at every level
 -- that is high enough
 pub record Runs (x : Context) (flag : Bool) (how : Loop) (rows text : List ℕ) (at : ℕ) (out : List ℕ) (r : Run) (out′ : List ℕ) : Type 0 where
   pub high : r .rows ≤ length rows

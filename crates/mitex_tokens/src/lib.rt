@@ -18,9 +18,10 @@ ghost use Rattle.mitex_state.specs.Contract.{placeOf, Agrees};
 ghost use Rattle.mitex_state.specs.Texts.{escape, tilde, ampersand, newLine};
 ghost use Rattle.mitex_state.specs.Tokens.{spaced, word, tokenText, whiteSpace, commandSym, tokenOut};
 ghost use Rattle.mitex_tokens.specs.Escapes.{escapeOf};
-ghost use Rattle.mitex_tokens.specs.Puts.{inside, carrying, tokenTurn, Puts, Settles};
+ghost use Rattle.mitex_tokens.specs.Puts.{inside, carrying, turnBy, Puts, Settles};
+ghost use Rattle.mitex_tokens.specs.Braces.{Braced, bracedEnv, bracedEnd, bracedOut, heldOut};
 ghost use Rattle.mitex_tokens.specs.Running.{isSteady, isCopied, runOf};
-ghost use Rattle.mitex_tokens.specs.Runs.{TokensGiven, Copies, Runs};
+ghost use Rattle.mitex_tokens.specs.Runs.{RunGiven, BeginsRun, Copies, Runs};
 ghost use Rattle.mitex_state.specs.declared.LaTeXMode.the-variants.{Text};
 use mitex_loops::act_of;
 use mitex_loops::converts;
@@ -36,7 +37,9 @@ use mitex_state::Loop;
 use mitex_state::Walked;
 use mitex_state::refuse;
 use mitex_state::went;
+use mitex_syntax::CLAUSE_ARGUMENT;
 use mitex_syntax::CLAUSE_COMMAND_NAME;
+use mitex_syntax::ITEM_CURLY;
 use mitex_syntax::ITEM_NEW_LINE;
 use mitex_syntax::TOKEN_AMPERSAND;
 use mitex_syntax::TOKEN_APOSTROPHE;
@@ -48,9 +51,11 @@ use mitex_syntax::TOKEN_COMMAND_SYM;
 use mitex_syntax::TOKEN_DITTO;
 use mitex_syntax::TOKEN_ERROR;
 use mitex_syntax::TOKEN_HASH;
+use mitex_syntax::TOKEN_LBRACE;
 use mitex_syntax::TOKEN_LBRACKET;
 use mitex_syntax::TOKEN_LINE_BREAK;
 use mitex_syntax::TOKEN_LPAREN;
+use mitex_syntax::TOKEN_RBRACE;
 use mitex_syntax::TOKEN_RBRACKET;
 use mitex_syntax::TOKEN_RPAREN;
 use mitex_syntax::TOKEN_SEMICOLON;
@@ -312,10 +317,86 @@ pub fn put_token(
     }
 }
 
-// A token as a child in a loop: with what the loop writes around it, or in its place.
+// The environment of a token in braces: in Math that of a curly group.
+fn braced_env(mode: LaTeXMode, env: LaTeXEnv) -> LaTeXEnv
+    ensures { λ r. ⌜ r ≡ bracedEnv mode env ⌝ }
+{
+    match mode {
+        LaTeXMode::Text => env,
+        LaTeXMode::Math => mitex_loops::group_env(env),
+    }
+}
+
+// What a blank group is marked with in Math.
+fn put_blank(out: &mut [u8], at: usize, mode: LaTeXMode, kind: u8) -> usize
+    requires { ⌜ (at ≤ cap) × (length (now out) ≤ cap) ⌝ }
+    ensures { λ r. ⌜ Wrote at (now (out .entry)) (bracedEnd mode kind) r (now (out .exit)) ⌝ }
+{
+    match mode {
+        LaTeXMode::Text => at,
+        LaTeXMode::Math => mitex_loops::put_curly_end(out, at, mitex_loops::is_blank(kind)),
+    }
+}
+
+// A token in braces, as an argument: what it writes itself, and the mark of a blank group; the brace behind it clears the flag.
+fn put_braced(
+    out: &mut [u8],
+    at: usize,
+    kind: u8,
+    s: &[u8],
+    rules: &[u8],
+    index: &[u32],
+    mode: LaTeXMode,
+    env: LaTeXEnv,
+    indent: usize,
+) -> TokenPut
+    requires { ⌜ (at ≤ cap) × (length (now out) ≤ cap) ⌝ }
+    requires { ⌜ SomeRules (now rules) (now index) ⌝ }
+    ensures { λ r. ⌜ ((rs : List Rule) (l : Label) → rulesOf (now (rules .entry)) ≡ some rs → Puts r l at (now (out .entry)) (now (out .exit)) (bracedOut (inside rs mode env indent) kind (now (s .entry)) l)) ⌝ }
+{
+    let group = braced_env(mode, env);
+    let a = put_token(out, at, kind, s, rules, index, mode, group, indent, false);
+    if a.refusal != 0 {
+        return a;
+    }
+    let p = put_blank(out, a.at, mode, kind);
+    TokenPut {
+        at: p,
+        flag: false,
+        refusal: 0,
+    }
+}
+
+// A token, or a token in braces.
+fn put_held(
+    out: &mut [u8],
+    at: usize,
+    braced: bool,
+    kind: u8,
+    s: &[u8],
+    rules: &[u8],
+    index: &[u32],
+    mode: LaTeXMode,
+    env: LaTeXEnv,
+    indent: usize,
+    flag: bool,
+) -> TokenPut
+    requires { ⌜ (at ≤ cap) × (length (now out) ≤ cap) ⌝ }
+    requires { ⌜ SomeRules (now rules) (now index) ⌝ }
+    ensures { λ r. ⌜ ((rs : List Rule) (l : Label) → rulesOf (now (rules .entry)) ≡ some rs → Puts r l at (now (out .entry)) (now (out .exit)) (heldOut braced (inside rs mode env indent) kind (now (s .entry)) (carrying flag l))) ⌝ }
+{
+    if braced {
+        return put_braced(out, at, kind, s, rules, index, mode, env, indent);
+    }
+    put_token(out, at, kind, s, rules, index, mode, env, indent, flag)
+}
+
+// A token, in braces or not, as a child in a loop: with what the loop writes around it, or in its place; `said` is the child's text.
 fn put_turn(
     out: &mut [u8],
     at: usize,
+    said: &[u8],
+    braced: bool,
     kind: u8,
     s: &[u8],
     rules: &[u8],
@@ -328,9 +409,9 @@ fn put_turn(
 ) -> TokenPut
     requires { ⌜ (at ≤ cap) × (length (now out) ≤ cap) ⌝ }
     requires { ⌜ SomeRules (now rules) (now index) ⌝ }
-    ensures { λ r. ⌜ ((rs : List Rule) (l : Label) → rulesOf (now (rules .entry)) ≡ some rs → Puts r l at (now (out .entry)) (now (out .exit)) (tokenTurn (inside rs mode env indent) act kind (now (s .entry)) (carrying flag l))) ⌝ }
+    ensures { λ r. ⌜ ((rs : List Rule) (l : Label) → rulesOf (now (rules .entry)) ≡ some rs → Puts r l at (now (out .entry)) (now (out .exit)) (turnBy act (now (said .entry)) (heldOut braced (inside rs mode env indent) kind (now (s .entry)) (carrying flag l)) (carrying flag l))) ⌝ }
 {
-    let p = put_before(out, at, act, s);
+    let p = put_before(out, at, act, said);
     if !converts(act) {
         return TokenPut {
             at: p,
@@ -338,7 +419,19 @@ fn put_turn(
             refusal: 0,
         };
     }
-    let a = put_token(out, p, kind, s, rules, index, mode, env, indent, flag);
+    let a = put_held(
+        out,
+        p,
+        braced,
+        kind,
+        s,
+        rules,
+        index,
+        mode,
+        env,
+        indent,
+        flag,
+    );
     if a.refusal != 0 {
         return a;
     }
@@ -509,7 +602,7 @@ fn copied_at(rows: &[u8], i: usize) -> bool
 // Words and white space in Text, in a steady loop: their texts stand one behind the other, and are copied at once.
 fn put_copied(out: &mut [u8], at: usize, rows: &[u8], text: &[u8], how: Loop) -> Run
     requires { ⌜ (at ≤ cap) × (length (now out) ≤ cap) ⌝ }
-    requires { ⌜ TokensGiven (now rows) (now text) how ⌝ }
+    requires { ⌜ RunGiven (now rows) (now text) how × (getD (now rows) 1 0 ≡ 1) ⌝ }
     requires { ⌜ (isSteady how ≡ true) × (isCopied (getD (now rows) 0 0) ≡ true) ⌝ }
     ensures { λ r. ⌜ Copies how (now (rows .entry)) (now (text .entry)) at (now (out .entry)) r (now (out .exit)) ⌝ }
 {
@@ -539,7 +632,7 @@ fn put_run(
 ) -> Run
     requires { ⌜ (at ≤ cap) × (length (now out) ≤ cap) ⌝ }
     requires { ⌜ SomeRules (now rules) (now index) ⌝ }
-    requires { ⌜ TokensGiven (now rows) (now text) how ⌝ }
+    requires { ⌜ RunGiven (now rows) (now text) how × (getD (now rows) 1 0 ≡ 1) ⌝ }
     requires { ⌜ isSteady how ≡ true ⌝ }
     ensures { λ r. ⌜ ((rs : List Rule) → rulesOf (now (rules .entry)) ≡ some rs → Runs (inside rs mode env indent) flag how (now (rows .entry)) (now (text .entry)) at (now (out .entry)) r (now (out .exit))) ⌝ }
 {
@@ -590,14 +683,28 @@ fn put_one(
 ) -> Run
     requires { ⌜ (at ≤ cap) × (length (now out) ≤ cap) ⌝ }
     requires { ⌜ SomeRules (now rules) (now index) ⌝ }
-    requires { ⌜ TokensGiven (now rows) (now text) how ⌝ }
+    requires { ⌜ RunGiven (now rows) (now text) how × (getD (now rows) 1 0 ≡ 1) ⌝ }
     ensures { λ r. ⌜ ((rs : List Rule) → rulesOf (now (rules .entry)) ≡ some rs → Runs (inside rs mode env indent) flag how (now (rows .entry)) (now (text .entry)) at (now (out .entry)) r (now (out .exit))) ⌝ }
 {
     let kind = rows[0];
     let u = mitex_syntax::number(rows, 0);
     let s = &text[..u];
     let act = act_of(how, &rows[..8], s, &rows[8..]);
-    let t = put_turn(out, at, kind, s, rules, index, mode, env, indent, flag, act);
+    let t = put_turn(
+        out,
+        at,
+        s,
+        false,
+        kind,
+        s,
+        rules,
+        index,
+        mode,
+        env,
+        indent,
+        flag,
+        act,
+    );
     if t.refusal != 0 {
         return ran(0, 0, at, flag, how, t.refusal);
     }
@@ -605,7 +712,96 @@ fn put_one(
     ran(8, u, t.at, t.flag, next, 0)
 }
 
-// Tokens behind each other, the first of these rows among them, as the converter stands.
+// Whether the rows begin with an argument in braces that holds one token, like `{x}`.
+fn is_braced(rows: &[u8]) -> bool
+    requires { ⌜ 8 ≤ length (now rows) ⌝ }
+    ensures { λ r. ⌜ (r ≡ true → Braced (now (rows .entry))) ⌝ }
+{
+    if rows[0] != CLAUSE_ARGUMENT {
+        return false;
+    }
+    if rows.len() < 40 {
+        return false;
+    }
+    if mitex_syntax::number(rows, 0) != 4 {
+        return false;
+    }
+    if mitex_syntax::number(rows, 8) != 3 {
+        return false;
+    }
+    if rows[8] != ITEM_CURLY {
+        return false;
+    }
+    if rows[16] != TOKEN_LBRACE {
+        return false;
+    }
+    if rows[32] != TOKEN_RBRACE {
+        return false;
+    }
+    rows[25] == 1
+}
+
+// Whether the rows begin with what is converted without the converter: a token, or one in braces as an argument.
+pub fn begins_run(rows: &[u8]) -> bool
+    requires { ⌜ 8 ≤ length (now rows) ⌝ }
+    ensures { λ r. ⌜ (r ≡ true → BeginsRun (now (rows .entry))) ⌝ }
+{
+    if rows[1] == 1 {
+        return true;
+    }
+    is_braced(rows)
+}
+
+// An argument in braces that holds one token, by what the loop does with it: its five rows are the argument, the group, the brace, the
+// token and the other brace.
+fn put_argument(
+    out: &mut [u8],
+    at: usize,
+    rows: &[u8],
+    text: &[u8],
+    rules: &[u8],
+    index: &[u32],
+    mode: LaTeXMode,
+    env: LaTeXEnv,
+    indent: usize,
+    flag: bool,
+    how: Loop,
+) -> Run
+    requires { ⌜ (at ≤ cap) × (length (now out) ≤ cap) ⌝ }
+    requires { ⌜ SomeRules (now rules) (now index) ⌝ }
+    requires { ⌜ RunGiven (now rows) (now text) how × Braced (now rows) ⌝ }
+    ensures { λ r. ⌜ ((rs : List Rule) → rulesOf (now (rules .entry)) ≡ some rs → Runs (inside rs mode env indent) flag how (now (rows .entry)) (now (text .entry)) at (now (out .entry)) r (now (out .exit))) ⌝ }
+{
+    let a = mitex_syntax::number(rows, 16);
+    let b = a + mitex_syntax::number(rows, 24);
+    let u = b + mitex_syntax::number(rows, 32);
+    let kind = rows[24];
+    let said = &text[..u];
+    let act = act_of(how, &rows[..40], said, &rows[40..]);
+    let t = put_turn(
+        out,
+        at,
+        said,
+        true,
+        kind,
+        &text[a..b],
+        rules,
+        index,
+        mode,
+        env,
+        indent,
+        flag,
+        act,
+    );
+    if t.refusal != 0 {
+        return ran(24, 0, at, flag, how, t.refusal);
+    }
+    let next = next_loop(how, CLAUSE_ARGUMENT, act);
+    ran(40, u, t.at, t.flag, next, 0)
+}
+
+// Tokens behind each other, an argument like `{x}` among them: the first of these rows and those that go with it, as the converter
+// stands.
 pub fn convert_tokens(
     out: &mut [u8],
     at: usize,
@@ -618,13 +814,28 @@ pub fn convert_tokens(
 ) -> Run
     requires { ⌜ (at ≤ cap) × (length (now out) ≤ cap) ⌝ }
     requires { ⌜ SomeRules (now rules) (now index) ⌝ }
-    requires { ⌜ TokensGiven (now rows) (now text) how ⌝ }
+    requires { ⌜ RunGiven (now rows) (now text) how × BeginsRun (now rows) ⌝ }
     ensures { λ r. ⌜ ((rs : List Rule) → rulesOf (now (rules .entry)) ≡ some rs → Runs (contextOf rs c) (c .«skip_next_space») how (now (rows .entry)) (now (text .entry)) at (now (out .entry)) r (now (out .exit))) ⌝ }
 {
     let mode = c.mode;
     let env = c.env;
     let indent = c.indent;
     let flag = c.skip_next_space;
+    if rows[1] != 1 {
+        return put_argument(
+            out,
+            at,
+            rows,
+            text,
+            rules,
+            index,
+            mode,
+            env,
+            indent,
+            flag,
+            how,
+        );
+    }
     if is_steady(how) {
         return put_run(
             out,

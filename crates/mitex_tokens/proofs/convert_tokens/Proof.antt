@@ -1,17 +1,27 @@
--- `mitex_tokens::convert_tokens` meets its contract: by whether the loop is steady.
+-- `mitex_tokens::convert_tokens` meets its contract: by whether the first row is a token's, and whether the loop is steady.
 use mathlib.Core.Path.{sym, _∙_}
+use native.Mathlib.Omega.{arith}
+use Rattle.mitex_tokens.proofs.Running.{rows-eight}
+use Rattle.mitex_tokens.proofs.Bracing.{no-token}
 use borrow.Author.Needs.{needs}
 use Rattle.mitex_tokens.proofs.convert_tokens.Statement.{statement}
 use Rattle.mitex_tokens.proofs.convert_tokens.Tie as tie
 
-is-steady-requires : tie.Need-is-steady-requires
-is-steady-requires c κs = search needs
+-- the function's entry
+abbrev start : tie.After-shared-slice-known5 → tie.Start
+start c =
+    let known = c .before .before .before in
+    known .before .before .before
 
-put-run-requires : tie.Need-put-run-requires
-put-run-requires c κs =
-    let known = c .before .before .before .before in
-    let p = known .before .before .before .before .pre in
-    (p .0, (p .1 .0, (p .1 .1, sym (c .before .before .is-steady .ensures) ∙ c .before .if1 .taken)))
+shared-slice-read-if1 : tie.Need-shared-slice-read-if1
+shared-slice-read-if1 c =
+    let g = start c .pre .1 .1 .0 in
+    omega (arith, rows-eight (g .spells) (g .some))
+
+put-argument-requires : tie.Need-put-argument-requires
+put-argument-requires c κs =
+    let p = start (c .before .before) .pre in
+    (p .0, (p .1 .0, (p .1 .1 .0, no-token (p .1 .1 .1) (c .before .if1 .taken))))
 
 same-length : tie.Need-same-length
 same-length c = search needs
@@ -19,8 +29,14 @@ same-length c = search needs
 returns : tie.Need-returns
 returns c = search needs
 
-put-one-requires : tie.Need-put-one-requires
-put-one-requires c κs = search needs
+is-steady-requires : tie.Need-is-steady-requires
+is-steady-requires c κs = search needs
+
+put-run-requires : tie.Need-put-run-requires
+put-run-requires c κs =
+    let else = c .before .before .before in
+    let p = start (else .before) .pre in
+    (p .0, (p .1 .0, ((p .1 .1 .0, else .if1 .left), sym (c .before .before .is-steady .ensures) ∙ c .before .if2 .taken)))
 
 same-length-2 : tie.Need-same-length-2
 same-length-2 c = search needs
@@ -28,14 +44,30 @@ same-length-2 c = search needs
 returns-2 : tie.Need-returns-2
 returns-2 c = search needs
 
+put-one-requires : tie.Need-put-one-requires
+put-one-requires c κs =
+    let else = c .before .before .before in
+    let p = start (else .before) .pre in
+    (p .0, (p .1 .0, (p .1 .1 .0, else .if1 .left)))
+
+same-length-3 : tie.Need-same-length-3
+same-length-3 c = search needs
+
+returns-3 : tie.Need-returns-3
+returns-3 c = search needs
+
 pub convert-tokens-spec : {M : Type 1} → statement M
 convert-tokens-spec =
     tie.close
     (tie.spec
-    is-steady-requires
-    put-run-requires
+    shared-slice-read-if1
+    put-argument-requires
     same-length
     returns
-    put-one-requires
+    is-steady-requires
+    put-run-requires
     same-length-2
-    returns-2)
+    returns-2
+    put-one-requires
+    same-length-3
+    returns-3)

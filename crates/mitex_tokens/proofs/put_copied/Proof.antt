@@ -33,7 +33,7 @@ row-here : (c : tie.Then1 Inv-loop μ-loop) → let l = c .before .before in
     l .loop .i + 8 ≤ length (start l .args .rows .now)
 row-here c =
     let l = c .before .before in
-    copied-row (l .loop .inv .2) (start l .pre .1 .0 .spells) (c .before .copied-at .ensures (c .if1 .taken) .0)
+    copied-row (l .loop .inv .2) (start l .pre .1 .0 .0 .spells) (c .before .copied-at .ensures (c .if1 .taken) .0)
 
 -- its token is copied too
 next :
@@ -46,38 +46,38 @@ next c x t =
     let p = start l .pre in
     let said = c .before .before .copied-at .ensures (c .before .if1 .taken) in
     subst (λ (y : ℕ). Copied x (a .how) (a .rows .now) (a .text .now) (l .loop .i + 8) (l .loop .j + y)) (sym (c .number2 .ensures .0))
-    (copied-next (l .loop .inv .2 x t) (steady (a .how) (p .1 .1 .0)) t (p .1 .0 .short) (said .0) (said .1) (said .2) (p .1 .0 .forest)
-    (p .1 .0 .spells))
+    (copied-next (l .loop .inv .2 x t) (steady (a .how) (p .1 .1 .0)) t (p .1 .0 .0 .short) (said .0) (said .1) (said .2) (p .1 .0 .0 .forest)
+    (p .1 .0 .0 .spells))
 
 number-requires : tie.Need-number-requires Inv-loop μ-loop
 number-requires c κs =
-    let g = c .before .before .before .pre .1 .0 in
+    let g = c .before .before .before .pre .1 .0 .0 in
     rows-eight (g .spells) (g .some)
 
 loop-holds : tie.Need-loop-holds Inv-loop μ-loop
 loop-holds c =
     let s = c .before .before .before .before in
     let a = s .args in
-    let g = s .pre .1 .0 in (
+    let g = s .pre .1 .0 .0 in (
       omega arith,
       rows-eight (g .spells) (g .some),
       λ x t.
-      subst (λ (y : ℕ). Copied x (a .how) (a .rows .now) (a .text .now) 8 y) (zero-add (numOf (a .rows .now)) ∙ sym (c .number .ensures .0))
-      (copied-next (copied-start x (a .how) (a .rows .now) (a .text .now)) (steady (a .how) (s .pre .1 .1 .0)) t (g .short) (g .some) (g .token)
-      (s .pre .1 .1 .1) (g .forest) (g .spells)),
+          subst (λ (y : ℕ). Copied x (a .how) (a .rows .now) (a .text .now) 8 y) (zero-add (numOf (a .rows .now)) ∙ sym (c .number .ensures .0))
+          (copied-next (copied-start x (a .how) (a .rows .now) (a .text .now)) (steady (a .how) (s .pre .1 .1 .0)) t (g .short) (g .some) (s .pre .1 .0 .1)
+          (s .pre .1 .1 .1) (g .forest) (g .spells)),
     )
 
 copied-at-requires : tie.Need-copied-at-requires Inv-loop μ-loop
-copied-at-requires c κs = (c .loop .inv .1, copied-row (c .loop .inv .2) (start c .pre .1 .0 .spells))
+copied-at-requires c κs = (c .loop .inv .1, copied-row (c .loop .inv .2) (start c .pre .1 .0 .0 .spells))
 
 number-requires-2 : tie.Need-number-requires-2 Inv-loop μ-loop
 number-requires-2 c κs = row-here c
 
 add-j : tie.Need-add-j Inv-loop μ-loop
-add-j c = omega (arith, copied-stop (next c), start (c .before .before .before) .pre .1 .0 .short)
+add-j c = omega (arith, copied-stop (next c), start (c .before .before .before) .pre .1 .0 .0 .short)
 
 add-i : tie.Need-add-i Inv-loop μ-loop
-add-i c = omega (arith, row-here (c .before), start (c .before .before .before) .pre .1 .0 .few)
+add-i c = omega (arith, row-here (c .before), start (c .before .before .before) .pre .1 .0 .0 .few)
 
 loop-less : tie.Need-loop-less Inv-loop μ-loop
 loop-less c = omega (arith, row-here (c .before))

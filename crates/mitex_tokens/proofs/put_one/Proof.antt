@@ -26,7 +26,7 @@ counted c = c .before .before .before .before
 
 -- the rows have a row
 row-here : (c : tie.Start) → 8 ≤ length (c .args .rows .now)
-row-here c = rows-eight (c .pre .1 .1 .spells) (c .pre .1 .1 .some)
+row-here c = rows-eight (c .pre .1 .1 .0 .spells) (c .pre .1 .1 .0 .some)
 
 -- the token, and what the loop does with it
 met :
@@ -52,7 +52,7 @@ number-requires c κs =
     row-here (c₁ .before .before .before)
 
 slice-aggregate-s : tie.Need-slice-aggregate-s
-slice-aggregate-s c = sym (length-take-le _ _ (first-fits (start (c .before) .pre .1 .1) _ (c .before .number .ensures .0)))
+slice-aggregate-s c = sym (length-take-le _ _ (first-fits (start (c .before) .pre .1 .1 .0) (start (c .before) .pre .1 .1 .1) _ (c .before .number .ensures .0)))
 
 slice-aggregate-act-of : tie.Need-slice-aggregate-act-of
 slice-aggregate-act-of c =
@@ -72,7 +72,7 @@ act-of-requires : tie.Need-act-of-requires
 act-of-requires c κs =
     let c₁ = c .before .before .before in
     let g = start c₁ .pre .1 .1 in
-    (child-given g _ (c₁ .number .ensures .0), others-given g)
+    (child-given (g .0) (g .1) _ (c₁ .number .ensures .0), others-given (g .0) (g .1))
 
 put-turn-requires : tie.Need-put-turn-requires
 put-turn-requires c κs = search needs
@@ -88,14 +88,17 @@ returns c =
     let c₁ = c .before .before .before .before .before in
     let c₂ = c₁ .before .before in
     let p = start (counted c₂) .pre in
-    let g = p .1 .1 in
+    let g = p .1 .1 .0 in
     λ rs e.
     runs-as (c .ran .ensures)
-    (ran-refused g (ran-start _ _ _ _ _ _ _ (p .0 .0)) (g .some) (g .token) (met c₂) (p .0 .1) (λ l. c₁ .put-turn .ensures rs l e)
+    (ran-refused g (ran-start _ _ _ _ _ _ _ (p .0 .0)) (g .some) (p .1 .1 .1) (met c₂) (p .0 .1) (λ l. c₁ .put-turn .ensures rs l e)
     (c .before .if1 .taken) (omega arith))
 
 next-loop-requires : tie.Need-next-loop-requires
-next-loop-requires c κs = search needs
+next-loop-requires c κs =
+    let c₁ = c .before .before .before .before .before in
+    let g = start (counted (c₁ .before)) .pre .1 .1 .0 in
+    omega (arith, g .counts, g .some)
 
 ran-requires-2 : tie.Need-ran-requires-2
 ran-requires-2 c κs = search needs
@@ -109,14 +112,14 @@ returns-2 c =
     let c₁ = known .before .before .before in
     let c₂ = c₁ .before .before in
     let s = start (counted c₂) in
-    let g = s .pre .1 .1 in
+    let g = s .pre .1 .1 .0 in
     let t = c₁ .put-turn .result in
     let l′ = c .before .next-loop .result in
     let next = c .before .next-loop .ensures in
     λ rs e.
     runs-as (c .ran2 .ensures ∙ ap (λ (y : ℕ). runOf 8 y (t .at) (t .flag) l′ 0) (sym (zero-add (counted c₂ .number .result))))
     (ran-done g
-    (ran-next g (ran-start _ _ _ _ _ _ _ (s .pre .0 .0)) (g .some) (g .token) (met c₂) (s .pre .0 .1) (λ l. c₁ .put-turn .ensures rs l e)
+    (ran-next g (ran-start _ _ _ _ _ _ _ (s .pre .0 .0)) (g .some) (s .pre .1 .1 .1) (met c₂) (s .pre .0 .1) (λ l. c₁ .put-turn .ensures rs l e)
     (c .before .before .if1 .left) l′ next)
     (omega arith)
     (omega (arith, ap numberOf next, number-next (s .args .how) (getD (s .args .rows .now) 0 0) (c₂ .act-of .result))) refl)

@@ -6,6 +6,7 @@ use mathlib.Core.Option.Option.{some}
 use Prim.Native.Nat.{ℕ, _+_, _-_, _≤_}
 use native.Mathlib.Omega.{arith}
 use lib.ListN.{length, take, drop, getD, length-drop}
+use lib.Seq.{getD-drop}
 use Rattle.text.proofs.Writing.{part-rest}
 use Rattle.mitex_spec.specs.Rules.{Rule}
 use Rattle.mitex_spec.specs.RuleFile.{rulesOf}
@@ -57,7 +58,7 @@ here c =
 
 -- a row is left
 row-here : (c : tie.In-loop Inv-loop μ-loop) → c .before .loop .i + 8 ≤ length (start (c .before) .args .rows .now)
-row-here c = row-fits (start (c .before) .pre .1 .1 .0) (here (c .before)) (c .loop-test .taken)
+row-here c = row-fits (start (c .before) .pre .1 .1 .0 .0) (here (c .before)) (c .loop-test .taken)
 
 -- it is a token's
 mark : (c : tie.After-copies Inv-loop μ-loop) → let l = looked c .before in
@@ -73,7 +74,7 @@ text-here c =
     omega (
       arith,
       c .number .ensures .0,
-      text-fits (start (c₁ .before) .pre .1 .1 .0) (here (c₁ .before)) (c₁ .loop-test .taken) (mark (c .before .before)),
+      text-fits (start (c₁ .before) .pre .1 .1 .0 .0) (here (c₁ .before)) (c₁ .loop-test .taken) (mark (c .before .before)),
     )
 
 -- the token, which a steady loop converts
@@ -121,7 +122,7 @@ loop-holds c =
     λ rs e. ran-start _ _ _ _ _ _ _ (c₁ .pre .0 .0)
 
 add-if1 : tie.Need-add-if1 Inv-loop μ-loop
-add-if1 c = omega (arith, row-here c, start (c .before) .pre .1 .1 .0 .few)
+add-if1 c = omega (arith, row-here c, start (c .before) .pre .1 .1 .0 .0 .few)
 
 shared-slice-read-if1 : tie.Need-shared-slice-read-if1 Inv-loop μ-loop
 shared-slice-read-if1 c = omega (arith, row-here (c .before))
@@ -132,12 +133,12 @@ ran-requires c κs = search needs
 same-length : tie.Need-same-length Inv-loop μ-loop
 same-length c =
     let c₁ = c .before .before .before .before in
-    ran-long (start c₁ .pre .1 .1 .0) (here c₁)
+    ran-long (start c₁ .pre .1 .1 .0 .0) (here c₁)
 
 returns : tie.Need-returns Inv-loop μ-loop
 returns c =
     let c₁ = c .before .before .before .before in
-    λ rs e. runs-as (c .ran .ensures) (ran-node (start c₁ .pre .1 .1 .0) (c₁ .loop .inv rs e) (c .before .if1 .taken) (omega arith) refl)
+    λ rs e. runs-as (c .ran .ensures) (ran-node (start c₁ .pre .1 .1 .0 .0) (c₁ .loop .inv rs e) (start c₁ .pre .1 .1 .0 .1) (c .before .if1 .taken) (omega arith) refl)
 
 shared-slice-read-kind : tie.Need-shared-slice-read-kind Inv-loop μ-loop
 shared-slice-read-kind c = omega (arith, row-here (c .before .before .before))
@@ -170,10 +171,13 @@ put-copied-requires c κs =
     let l = turn .before in
     let rows = start l .args .rows .now in
     let p = start l .pre in
-    let g = p .1 .1 .0 in (
+    let g = p .1 .1 .0 .0 in (
       (ran-low g (here l), omega (arith, ran-long g (here l), p .0 .1)),
       (
-        rest-given g (here l) (turn .loop-test .taken) (mark (known .before)),
+        (
+          rest-given g (here l) (turn .loop-test .taken),
+          ap (λ (y : List ℕ). getD y 1 0) (part-rest rows (l .loop .i)) ∙ getD-drop (l .loop .i) rows 1 0 ∙ mark (known .before),
+        ),
         (p .1 .1 .1, ap isCopied (ap (λ (y : List ℕ). getD y 0 0) (part-rest rows (l .loop .i)) ∙ getD-here rows (l .loop .i)) ∙ said known .2),
       ),
     )
@@ -187,7 +191,7 @@ add-i c =
       copied (c .before .before .before) .high,
       length-drop (l .loop .i) (a .rows .now),
       here l .high,
-      start l .pre .1 .1 .0 .few,
+      start l .pre .1 .1 .0 .0 .few,
     )
 
 add-j : tie.Need-add-j Inv-loop μ-loop
@@ -199,7 +203,7 @@ add-j c =
       copied (c .before .before .before .before) .stop,
       length-drop (l .loop .j) (a .text .now),
       here l .stop,
-      start l .pre .1 .1 .0 .short,
+      start l .pre .1 .1 .0 .0 .short,
     )
 
 loop-less : tie.Need-loop-less Inv-loop μ-loop
@@ -224,7 +228,7 @@ number-requires : tie.Need-number-requires Inv-loop μ-loop
 number-requires c κs = row-here (looked (c .before))
 
 add-u : tie.Need-add-u Inv-loop μ-loop
-add-u c = omega (arith, text-here c, start (turn c .before) .pre .1 .1 .0 .short)
+add-u c = omega (arith, text-here c, start (turn c .before) .pre .1 .1 .0 .0 .short)
 
 sub-s : tie.Need-sub-s Inv-loop μ-loop
 sub-s c = omega arith
@@ -239,7 +243,7 @@ put-next-requires : tie.Need-put-next-requires Inv-loop μ-loop
 put-next-requires c κs =
     let l = turn (c .before .before) .before in
     let p = start l .pre in
-    ((ran-low (p .1 .1 .0) (here l), omega (arith, ran-long (p .1 .1 .0) (here l), p .0 .1)), p .1 .0)
+    ((ran-low (p .1 .1 .0 .0) (here l), omega (arith, ran-long (p .1 .1 .0 .0) (here l), p .0 .1)), p .1 .0)
 
 ran-requires-2 : tie.Need-ran-requires-2 Inv-loop μ-loop
 ran-requires-2 c κs = search needs
@@ -248,7 +252,7 @@ same-length-2 : tie.Need-same-length-2 Inv-loop μ-loop
 same-length-2 c =
     let c₁ = c .before .before .before .before .before in
     let l = turn (c₁ .before .before .before) .before in
-    c₁ .put-next .kept .0 ∙ ran-long (start l .pre .1 .1 .0) (here l)
+    c₁ .put-next .kept .0 ∙ ran-long (start l .pre .1 .1 .0 .0) (here l)
 
 returns-2 : tie.Need-returns-2 Inv-loop μ-loop
 returns-2 c =
@@ -258,14 +262,14 @@ returns-2 c =
     let p = start (c₃ .before) .pre in
     λ rs e.
     runs-as (c .ran2 .ensures)
-    (ran-refused (p .1 .1 .0) (c₃ .before .loop .inv rs e) (c₃ .loop-test .taken) (mark (c₂ .before .before)) (met c₂) (p .0 .1)
+    (ran-refused (p .1 .1 .0 .0) (c₃ .before .loop .inv rs e) (c₃ .loop-test .taken) (mark (c₂ .before .before)) (met c₂) (p .0 .1)
     (λ l. puts-as (turn-plain _ _ _ _) (c₁ .put-next .ensures rs l e)) (c .before .if3 .taken) (omega arith))
 
 add-i-2 : tie.Need-add-i-2 Inv-loop μ-loop
 add-i-2 c =
     let c₁ = c .before .before .before .before in
     let c₂ = turn (c₁ .before .before .before) in
-    omega (arith, row-here c₂, start (c₂ .before) .pre .1 .1 .0 .few)
+    omega (arith, row-here c₂, start (c₂ .before) .pre .1 .1 .0 .0 .few)
 
 loop-less-2 : tie.Need-loop-less-2 Inv-loop μ-loop
 loop-less-2 c =
@@ -279,19 +283,19 @@ loop-again-2 c =
     let c₃ = turn c₂ in
     let p = start (c₃ .before) .pre in
     λ rs e.
-    ran-next (p .1 .1 .0) (c₃ .before .loop .inv rs e) (c₃ .loop-test .taken) (mark (c₂ .before .before)) (met c₂) (p .0 .1)
+    ran-next (p .1 .1 .0 .0) (c₃ .before .loop .inv rs e) (c₃ .loop-test .taken) (mark (c₂ .before .before)) (met c₂) (p .0 .1)
     (λ l. puts-as (turn-plain _ _ _ _) (c₁ .put-next .ensures rs l e)) (c .if3 .left) _ (sym (steady-next (steady _ (p .1 .1 .1)) _ Convert))
 
 ran-requires-3 : tie.Need-ran-requires-3 Inv-loop μ-loop
 ran-requires-3 c κs = search needs
 
 same-length-3 : tie.Need-same-length-3 Inv-loop μ-loop
-same-length-3 c = ran-long (start (c .before .before) .pre .1 .1 .0) (here (c .before .before))
+same-length-3 c = ran-long (start (c .before .before) .pre .1 .1 .0 .0) (here (c .before .before))
 
 returns-3 : tie.Need-returns-3 Inv-loop μ-loop
 returns-3 c =
     let c₁ = c .before .before in
-    λ rs e. runs-as (c .ran3 .ensures) (ran-end (start c₁ .pre .1 .1 .0) (c₁ .loop .inv rs e) (c .before .loop-test .left) (omega arith) refl)
+    λ rs e. runs-as (c .ran3 .ensures) (ran-end (start c₁ .pre .1 .1 .0 .0) (c₁ .loop .inv rs e) (c .before .loop-test .left) (omega arith) refl)
 
 pub put-run-spec : {M : Type 1} → statement M
 put-run-spec =

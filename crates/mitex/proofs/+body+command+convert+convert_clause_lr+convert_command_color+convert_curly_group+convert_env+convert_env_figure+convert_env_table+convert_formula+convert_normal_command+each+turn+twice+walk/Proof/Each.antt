@@ -2,8 +2,9 @@
 use mathlib.Core.Path.{_∙_}
 use lib.ListN.{length}
 use Prim.Native.Nat.{ℕ, _+_, _-_, _≤_, _<_}
-use Rattle.mitex.proofs.Walking.{Looping, Child, looping-start, loop-room, loop-row, child-spans, child, child-given, child-behind, loop-refused, loop-next, tokens-given, run-high, run-stop, run-some, run-refused, run-next, loop-done}
+use Rattle.mitex.proofs.Walking.{Looping, Child, looping-start, loop-room, loop-row, child-spans, child, child-given, child-behind, loop-refused, loop-next, run-given, run-high, run-stop, run-some, run-refused, run-next, loop-done}
 use native.Mathlib.Omega.{arith}
+use Rattle.text.proofs.Writing.{rest-length}
 use borrow.Author.Needs.{needs}
 use Rattle.mitex.proofs.each.Reads as self
 use Rattle.mitex.proofs.+body+command+convert+convert_clause_lr+convert_command_color+convert_curly_group+convert_env+convert_env_figure+convert_env_table+convert_formula+convert_normal_command+each+turn+twice+walk.Lts-each as lts
@@ -23,12 +24,18 @@ Head t = lts.At-loop (calls t) (pre-at t) self.Post each-Inv-loop each-μ-loop
 abbrev entry : (t : ℕ) → Head t → lts.Start (calls t) (pre-at t) self.Post each-Inv-loop each-μ-loop
 entry t c = let known = c .before .before .before .before .before in known .before
 
+-- a turn of the loop, by the place at which the child was looked at
+abbrev looked :
+    (t : ℕ) → lts.After-begins-run (calls t) (pre-at t) self.Post each-Inv-loop each-μ-loop
+    → lts.In-loop (calls t) (pre-at t) self.Post each-Inv-loop each-μ-loop
+looked t c = c .before .before
+
 -- a place in a turn of the loop, behind the measuring of the child
 abbrev Here : ℕ → Type 0
 Here t = lts.After-span-at (calls t) (pre-at t) self.Post each-Inv-loop each-μ-loop
 
 abbrev head : (t : ℕ) → Here t → Head t
-head t c = c .before .before .before .before
+head t c = looked t (c .before .before) .before
 
 -- the child there
 child-here :
@@ -36,7 +43,7 @@ child-here :
     let a = entry t h .args in
     Child (a .rows .now) (a .text .now) (h .loop .out) (h .loop .d) (h .loop .i) (h .loop .j) (c .span-at .result .rows)
     (c .span-at .result .text) (h .loop .w) (a .row)
-child-here t c = child (head t c .loop .inv) (c .before .before .before .loop-test .taken) _ _ (c .span-at .ensures .0)
+child-here t c = child (head t c .loop .inv) (looked t (c .before .before) .loop-test .taken) _ _ (c .span-at .ensures .0)
     (c .span-at .ensures .1)
 
 -- a place behind a run of tokens; how far it went
@@ -44,7 +51,7 @@ abbrev Ran : ℕ → Type 0
 Ran t = lts.After-convert-tokens (calls t) (pre-at t) self.Post each-Inv-loop each-μ-loop
 
 abbrev ran-head : (t : ℕ) → Ran t → Head t
-ran-head t c = let known = c .before .before .before .before .before in known .before .before
+ran-head t c = let then = c .before .before .before .before in looked t (then .before) .before
 
 high-here :
     (t : ℕ) (c : Ran t) → let h = ran-head t c in
@@ -64,32 +71,37 @@ spanned t c = let known = told t c .before .before .before .before .before in kn
 some-here :
     (t : ℕ) (c : Turned t) → let h = head t (spanned t c) in
     h .loop .i < length (entry t h .args .rows .now)
-some-here t c = spanned t c .before .before .before .loop-test .taken
+some-here t c = looked t (spanned t c .before .before) .loop-test .taken
 
 each-loop-holds : (t : ℕ) → lts.Need-loop-holds (calls t) (pre-at t) self.Post each-Inv-loop each-μ-loop
 each-loop-holds t c =
     let start = c .before .before .before .before .before in
     looping-start (start .pre .1 .0) (start .pre .1 .1 .0) (start .pre .1 .1 .1 .0) (start .pre .1 .1 .1 .1)
 
-each-add-if1 : (t : ℕ) → lts.Need-add-if1 (calls t) (pre-at t) self.Post each-Inv-loop each-μ-loop
-each-add-if1 t c =
-    let at-loop = c .before in
-    omega (arith, c .loop-test .taken, at-loop .loop .inv .room .few)
+each-sub-begins-run : (t : ℕ) → lts.Need-sub-begins-run (calls t) (pre-at t) self.Post each-Inv-loop each-μ-loop
+each-sub-begins-run t c = omega (arith, c .loop-test .taken)
 
-each-shared-slice-read-if1 : (t : ℕ) → lts.Need-shared-slice-read-if1 (calls t) (pre-at t) self.Post each-Inv-loop each-μ-loop
-each-shared-slice-read-if1 t c =
+each-part-begins-run-start : (t : ℕ) → lts.Need-part-begins-run-start (calls t) (pre-at t) self.Post each-Inv-loop each-μ-loop
+each-part-begins-run-start t c = omega (arith, c .loop-test .taken)
+
+each-part-begins-run-end : (t : ℕ) → lts.Need-part-begins-run-end (calls t) (pre-at t) self.Post each-Inv-loop each-μ-loop
+each-part-begins-run-end t c = omega arith
+
+each-begins-run-requires : (t : ℕ) → lts.Need-begins-run-requires (calls t) (pre-at t) self.Post each-Inv-loop each-μ-loop
+each-begins-run-requires t c κs =
     let in-loop = c .before in
     let at-loop = in-loop .before in
-    omega (arith, loop-row (at-loop .loop .inv) (in-loop .loop-test .taken))
+    omega
+    (arith, rest-length (entry t at-loop .args .rows .now) (at-loop .loop .i), loop-row (at-loop .loop .inv) (in-loop .loop-test .taken))
 
 each-sub-convert-tokens : (t : ℕ) → lts.Need-sub-convert-tokens (calls t) (pre-at t) self.Post each-Inv-loop each-μ-loop
 each-sub-convert-tokens t c =
-    let in-loop = c .before .before .before in
+    let in-loop = looked t (c .before .before) in
     omega (arith, in-loop .loop-test .taken)
 
 each-part-convert-tokens-start : (t : ℕ) → lts.Need-part-convert-tokens-start (calls t) (pre-at t) self.Post each-Inv-loop each-μ-loop
 each-part-convert-tokens-start t c =
-    let in-loop = c .before .before .before in
+    let in-loop = looked t (c .before .before) in
     omega (arith, in-loop .loop-test .taken)
 
 each-part-convert-tokens-end : (t : ℕ) → lts.Need-part-convert-tokens-end (calls t) (pre-at t) self.Post each-Inv-loop each-μ-loop
@@ -97,13 +109,13 @@ each-part-convert-tokens-end t c = omega arith
 
 each-sub-convert-tokens-2 : (t : ℕ) → lts.Need-sub-convert-tokens-2 (calls t) (pre-at t) self.Post each-Inv-loop each-μ-loop
 each-sub-convert-tokens-2 t c =
-    let at-loop = c .before .before .before .before .before in
+    let at-loop = looked t (c .before .before .before) .before in
     at-loop .loop .inv .stands .begun
 
 each-part-convert-tokens-start-2 : (t : ℕ) → lts.Need-part-convert-tokens-start-2 (calls t) (pre-at t) self.Post each-Inv-loop
     each-μ-loop
 each-part-convert-tokens-start-2 t c =
-    let at-loop = c .before .before .before .before .before in
+    let at-loop = looked t (c .before .before .before) .before in
     at-loop .loop .inv .stands .begun
 
 each-part-convert-tokens-end-2 : (t : ℕ) → lts.Need-part-convert-tokens-end-2 (calls t) (pre-at t) self.Post each-Inv-loop each-μ-loop
@@ -112,10 +124,13 @@ each-part-convert-tokens-end-2 t c = omega arith
 each-convert-tokens-requires : (t : ℕ) → lts.Need-convert-tokens-requires (calls t) (pre-at t) self.Post each-Inv-loop each-μ-loop
 each-convert-tokens-requires t c κs =
     let at-if1 = c .before .before .before in
-    let in-loop = at-if1 .before .before in
+    let in-loop = looked t (at-if1 .before) in
     let at-loop = in-loop .before in (
       (at-loop .loop .inv .stands .place, loop-room (at-loop .loop .inv)),
-      (at-loop .loop .inv .some-rules, tokens-given (at-loop .loop .inv) (in-loop .loop-test .taken) (at-if1 .if1 .taken)),
+      (
+        at-loop .loop .inv .some-rules,
+        (run-given (at-loop .loop .inv) (in-loop .loop-test .taken), at-if1 .before .begins-run .ensures (at-if1 .if1 .taken)),
+      ),
     )
 
 each-add-i : (t : ℕ) → lts.Need-add-i (calls t) (pre-at t) self.Post each-Inv-loop each-μ-loop
@@ -166,20 +181,20 @@ each-loop-again t c =
 
 each-span-at-requires : (t : ℕ) → lts.Need-span-at-requires (calls t) (pre-at t) self.Post each-Inv-loop each-μ-loop
 each-span-at-requires t c κs =
-    let in-loop = c .before .before in
+    let in-loop = looked t (c .before) in
     let at-loop = in-loop .before in
     child-spans (at-loop .loop .inv) (in-loop .loop-test .taken)
 
 each-add-e : (t : ℕ) → lts.Need-add-e (calls t) (pre-at t) self.Post each-Inv-loop each-μ-loop
 each-add-e t c =
     let at-span-at = c .before in
-    let at-loop = at-span-at .before .before .before .before in
+    let at-loop = head t at-span-at in
     let x = child-here t (at-span-at) in omega (arith, x .end, at-loop .loop .inv .room .few)
 
 each-add-u : (t : ℕ) → lts.Need-add-u (calls t) (pre-at t) self.Post each-Inv-loop each-μ-loop
 each-add-u t c =
     let at-span-at = c .before .before in
-    let at-loop = at-span-at .before .before .before .before in
+    let at-loop = head t at-span-at in
     let x = child-here t (at-span-at) in omega (arith, x .stop, at-loop .loop .inv .room .short)
 
 each-sub-child : (t : ℕ) → lts.Need-sub-child (calls t) (pre-at t) self.Post each-Inv-loop each-μ-loop
@@ -220,7 +235,7 @@ each-part-act-of-end t c = omega arith
 each-act-of-requires : (t : ℕ) → lts.Need-act-of-requires (calls t) (pre-at t) self.Post each-Inv-loop each-μ-loop
 each-act-of-requires t c κs =
     let at-span-at = c .before .before .before .before .before in
-    let in-loop = at-span-at .before .before .before in
+    let in-loop = looked t (at-span-at .before .before) in
     let at-loop = in-loop .before in (
       child-given (at-loop .loop .inv) (in-loop .loop-test .taken) _ _ (at-span-at .span-at .ensures .0)
           (at-span-at .span-at .ensures .1),
@@ -232,14 +247,14 @@ each-add-turn : (t : ℕ) → lts.Need-add-turn (calls t) (pre-at t) self.Post e
 each-add-turn t c =
     let at-struct-known5 = c .before .before .before .before .before in
     let at-span-at = at-struct-known5 .before .before in
-    let at-loop = at-span-at .before .before .before .before in
+    let at-loop = head t at-span-at in
     let x = child-here t (at-span-at) in omega (arith, x .end, at-loop .loop .inv .room .low)
 
 each-turn-requires : (t : ℕ) → lts.Need-turn-requires (calls t) (pre-at t) self.Post each-Inv-loop each-μ-loop
 each-turn-requires t c κs =
     let at-struct-known5 = c .before .before .before .before .before in
     let at-span-at = at-struct-known5 .before .before in
-    let at-loop = at-span-at .before .before .before .before in
+    let at-loop = head t at-span-at in
     let at-slice-known = at-loop .before .before .before .before .before in
     let start = at-slice-known .before in
     let x = child-here t (at-span-at) in (
@@ -316,8 +331,10 @@ each-closed t =
     each-Inv-loop
     each-μ-loop
     (each-loop-holds t)
-    (each-add-if1 t)
-    (each-shared-slice-read-if1 t)
+    (each-sub-begins-run t)
+    (each-part-begins-run-start t)
+    (each-part-begins-run-end t)
+    (each-begins-run-requires t)
     (each-sub-convert-tokens t)
     (each-part-convert-tokens-start t)
     (each-part-convert-tokens-end t)

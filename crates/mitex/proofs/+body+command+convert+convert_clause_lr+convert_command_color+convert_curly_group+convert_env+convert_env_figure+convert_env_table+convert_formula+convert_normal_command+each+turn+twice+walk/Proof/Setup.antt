@@ -114,6 +114,7 @@ use Rattle.mitex_syntax.proofs.span_at.Reads as span-at-reads
 use Rattle.mitex_tables.proofs.has_ends.Reads as has-ends-reads
 use Rattle.mitex_tables.proofs.letters_fit.Reads as letters-fit-reads
 use Rattle.mitex_tokens.proofs.convert_token.Reads as convert-token-reads
+use Rattle.mitex_tokens.proofs.begins_run.Reads as begins-run-reads
 use Rattle.mitex_tokens.proofs.convert_tokens.Reads as convert-tokens-reads
 use Rattle.text.proofs.put.Reads as put-reads
 use Rattle.utf8.proofs.trim.Reads as trim-reads
@@ -269,7 +270,7 @@ abbrev pub convert-curly-group-calls : ℕ → convert-curly-group-lts.Claims
 convert-curly-group-calls t = (curly-plan-reads.Asked, curly-plan-reads.Learnt, walk-below t, walk.Post)
 
 abbrev pub each-calls : ℕ → each-lts.Claims
-each-calls t = (convert-tokens-reads.Asked, convert-tokens-reads.Learnt, refuse-reads.Asked, refuse-reads.Learnt, span-at-reads.Asked, span-at-reads.Learnt, act-of-reads.Asked, act-of-reads.Learnt, turn-below t, turn.Post, next-loop-reads.Asked, next-loop-reads.Learnt, put-loop-end-reads.Asked, put-loop-end-reads.Learnt, went-reads.Asked, went-reads.Learnt)
+each-calls t = (begins-run-reads.Asked, begins-run-reads.Learnt, convert-tokens-reads.Asked, convert-tokens-reads.Learnt, refuse-reads.Asked, refuse-reads.Learnt, span-at-reads.Asked, span-at-reads.Learnt, act-of-reads.Asked, act-of-reads.Learnt, turn-below t, turn.Post, next-loop-reads.Asked, next-loop-reads.Learnt, put-loop-end-reads.Asked, put-loop-end-reads.Learnt, went-reads.Asked, went-reads.Learnt)
 
 abbrev pub body-calls : ℕ → body-lts.Claims
 body-calls t = (put-env-begin-reads.Asked, put-env-begin-reads.Learnt, env-plan-reads.Asked, env-plan-reads.Learnt, walk-below t, walk.Post, convert-env-figure-below t, convert-env-figure.Post, convert-env-table-below t, convert-env-table.Post, put-math-begin-reads.Asked, put-math-begin-reads.Learnt, math-plans-reads.Asked, math-plans-reads.Learnt, twice-below t, twice.Post)
