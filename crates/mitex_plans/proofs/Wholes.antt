@@ -1,6 +1,6 @@
 -- Plans over all of the children, over none of them, and over one: what walking them comes to.
 use mathlib.Core.Path.{_≡_, refl, sym, ap, subst, _∙_}
-use mathlib.Core.List.{List, []}
+use mathlib.Core.List.{List}
 use Prim.Native.Nat.{ℕ, _+_, _/_, _≤_}
 use native.Mathlib.Omega.{arith}
 use native.Mathlib.Nat.{add-zero}
@@ -9,18 +9,17 @@ use Rattle.mitex_spec.specs.Rules.{Rule}
 use Rattle.mitex_syntax.specs.Tree.{Tree, Forest, size, sizes, rowsOf, textOf}
 use Rattle.mitex_syntax.specs.Tree.Forest.{none, more}
 use Rattle.mitex_syntax.specs.Spells.{SpellsAll, Sound}
-use Rattle.mitex_state.specs.Outcome.{Context, Carry, Outcome, Conv, Arm, after, andThen, closing, shift, inEnv, stepOf}
+use Rattle.mitex_state.specs.Outcome.{Context, Carry, Outcome, Conv, Arm, after, closing, shift, inEnv, stepOf}
 use Rattle.mitex_state.specs.Outcome.Outcome.{done}
 use Rattle.mitex_state.specs.State.{contextOf}
 use Rattle.mitex_state.specs.Children.{each}
 use Rattle.mitex_state.specs.Parts.{rowsIn, textIn}
-use Rattle.mitex_state.proofs.Outcomes.{after-nil, andThen-same, andThen-done, closing-nil, shift-zero, shift-closing}
-use Rattle.mitex_state.proofs.Loops.{turn-converts, each-none, each-more, each-at}
+use Rattle.mitex_state.proofs.Outcomes.{shift-closing}
+use Rattle.mitex_state.proofs.Loops.{each-none, each-at}
 use Rattle.mitex_state.specs.declared.LaTeXMode.{LaTeXMode}
 use Rattle.mitex_state.specs.declared.LaTeXEnv.{LaTeXEnv}
 use Rattle.mitex_state.specs.declared.Loop.{Loop}
 use Rattle.mitex_state.specs.declared.Loop.the-variants.{Plain}
-use Rattle.mitex_state.specs.declared.Act.the-variants.{Convert}
 use Rattle.mitex_state.specs.declared.Part.{Part}
 use Rattle.mitex_state.specs.declared.Converter.{Converter}
 use Rattle.mitex_loops.specs.Given.{numberOf}

@@ -18,7 +18,7 @@ use Rattle.mitex_syntax.specs.Tree.Tree.{token, node}
 use Rattle.mitex_syntax.specs.Tree.Forest.{none, more}
 use Rattle.mitex_syntax.specs.Spells.{Sound, Spells, SpellsAll}
 use Rattle.mitex_syntax.proofs.Trees.{four-says, size-some, length-rowss, all-begins, first-spelt, others-exact}
-use Rattle.mitex_state.specs.Outcome.{Context, Label, Carry, Outcome, after, andThen, closing, shift, flagged, inEnv, stepOf}
+use Rattle.mitex_state.specs.Outcome.{Context, Label, Carry, Outcome, after, andThen, closing, shift, flagged, inEnv}
 use Rattle.mitex_state.specs.Outcome.Outcome.{refused, done}
 use Rattle.mitex_state.specs.Texts.{blankGroup}
 use Rattle.mitex_state.specs.Tokens.{tokenOut}
@@ -27,6 +27,7 @@ use Rattle.mitex_state.specs.Groups.{groupEnv, curlyIn}
 use Rattle.mitex_state.specs.Conversion.{step, convert}
 use Rattle.mitex_state.specs.declared.LaTeXMode.{LaTeXMode}
 use Rattle.mitex_state.specs.declared.LaTeXMode.the-variants.{Text, Math}
+use Rattle.mitex_state.specs.declared.LaTeXEnv.{LaTeXEnv}
 use Rattle.mitex_state.specs.declared.Loop.{Loop}
 use Rattle.mitex_state.specs.declared.Loop.the-variants.{Plain, Curly}
 use Rattle.mitex_state.specs.declared.Act.{Act}
@@ -140,19 +141,26 @@ and-true true = refl
 and-true false = refl
 
 -- by the mode
+abbrev inGroup : LaTeXEnv → ℕ → Context → Context
+inGroup v i x = record { rules = x .rules; mode = x .mode; env = v; indent = i }
+
+abbrev comes-by : LaTeXMode → Context → ℕ → List ℕ → Label → Outcome
+comes-by m x k s l = closing (bracedEnd m k) (unflagged (tokenOut (inGroup (bracedEnv m (x .env)) (x .indent) x) k s (carrying false l)))
+
 curly-comes :
     (d : ℕ) (x : Context) (m : LaTeXMode) → x .mode ≡ m → (a : List ℕ) (k : ℕ) (s b : List ℕ) (c : Carry)
     → curlyIn m (convert (suc d)) x (more (token TokenLBrace a) (more (token k s) (more (token TokenRBrace b) none))) c
     ≡ shift 2 (bracedOut x k s (c .label))
 curly-comes d x Text e a k s b c =
     group-comes in-text d x a k s b c
-    ∙ ap (λ (n : LaTeXMode). shift 2 (closing (bracedEnd n k) (unflagged (tokenOut (record { rules = x .rules; mode = x .mode; env = bracedEnv n (x .env); indent = x .indent }) k s (carrying false (c .label)))))) (sym e)
+    ∙ ap (λ (n : LaTeXMode). shift 2 (comes-by n x k s (c .label))) (sym e)
 curly-comes d x Math e a k s b c =
     group-comes (in-math true) d (inEnv (groupEnv (x .env)) x) a k s b c
-    ∙ ap (λ (z : Bool). shift 2 (closing (cond z blankGroup []) (unflagged (tokenOut (inEnv (groupEnv (x .env)) x) k s (carrying false (c .label)))))) (and-true (isBlank k))
-    ∙ ap (λ (i : ℕ). shift 2 (closing (cond (isBlank k) blankGroup []) (unflagged (tokenOut (record { rules = x .rules; mode = x .mode; env = groupEnv (x .env); indent = i }) k s (carrying false (c .label))))))
+    ∙ ap (λ (z : Bool). shift 2 (closing (cond z blankGroup []) (unflagged (tokenOut (inEnv (groupEnv (x .env)) x) k s (carrying false (c .label))))))
+    (and-true (isBlank k))
+    ∙ ap (λ (i : ℕ). shift 2 (closing (bracedEnd Math k) (unflagged (tokenOut (inGroup (groupEnv (x .env)) i x) k s (carrying false (c .label))))))
     (ap (λ (n : ℕ). x .indent + n) (group-step (x .env)) ∙ add-zero (x .indent))
-    ∙ ap (λ (n : LaTeXMode). shift 2 (closing (bracedEnd n k) (unflagged (tokenOut (record { rules = x .rules; mode = x .mode; env = bracedEnv n (x .env); indent = x .indent }) k s (carrying false (c .label)))))) (sym e)
+    ∙ ap (λ (n : LaTeXMode). shift 2 (comes-by n x k s (c .label))) (sym e)
 
 pub braced-comes :
     (n : ℕ) (x : Context) (a : List ℕ) (k : ℕ) (s b : List ℕ) (c : Carry) → 3 ≤ n
@@ -188,6 +196,10 @@ pub record BracedHead (f : Forest) (rows text : List ℕ) : Type 0 where
   pub said-long : numOf (drop 24 rows) ≡ length said
   pub right-long : numOf (drop 32 rows) ≡ length right
   pub text-is : text ≡ left ++ (said ++ (right ++ textsOf others))
+
+-- five rows in that shape, of any kinds
+abbrev fiveRows : ℕ → ℕ → ℕ → ℕ → ℕ → List ℕ → List ℕ → List ℕ → Tree
+fiveRows k k₂ k₃ k₄ k₅ a s b = node k (more (node k₂ (more (token k₃ a) (more (token k₄ s) (more (token k₅ b) none)))) none)
 
 pub braced-head :
     (f : Forest) {rows text : List ℕ} → SpellsAll f rows text → Braced rows → length rows < cap → length text < cap → BracedHead f rows text
@@ -236,7 +248,7 @@ braced-head (more (node k (more (node k₂ (more (token k₃ a) (more (token k�
     let lt = ap length et ∙ length-append a (s ++ (b ++ textsOf g)) in
     let ls = length-append s (b ++ textsOf g) in
     let lb = length-append b (textsOf g) in
-    let byte : (i n : ℕ) → getD rows i 0 ≡ n → getD (rowsOfs (more (node k (more (node k₂ (more (token k₃ a) (more (token k₄ s) (more (token k₅ b) none)))) none)) g)) i 0 ≡ n
+    let byte : (i n : ℕ) → getD rows i 0 ≡ n → getD (rowsOfs (more (fiveRows k k₂ k₃ k₄ k₅ a s b) g)) i 0 ≡ n
     = λ i n e. sym (ap (λ (l : List ℕ). getD l i 0) er) ∙ e in
     record {
       left = a;
@@ -244,11 +256,11 @@ braced-head (more (node k (more (node k₂ (more (token k₃ a) (more (token k�
       right = b;
       others = g;
       is =
-          ap (λ (n : ℕ). more (node n (more (node k₂ (more (token k₃ a) (more (token k₄ s) (more (token k₅ b) none)))) none)) g) (byte 0 ClauseArgument (h .argument))
-          ∙ ap (λ (n : ℕ). more (node ClauseArgument (more (node n (more (token k₃ a) (more (token k₄ s) (more (token k₅ b) none)))) none)) g) (byte 8 ItemCurly (h .curly))
-          ∙ ap (λ (n : ℕ). more (node ClauseArgument (more (node ItemCurly (more (token n a) (more (token k₄ s) (more (token k₅ b) none)))) none)) g) (byte 16 TokenLBrace (h .left))
-          ∙ ap (λ (n : ℕ). more (node ClauseArgument (more (node ItemCurly (more (token TokenLBrace a) (more (token n s) (more (token k₅ b) none)))) none)) g) (byte 24 (getD rows 24 0) refl)
-          ∙ ap (λ (n : ℕ). more (node ClauseArgument (more (node ItemCurly (more (token TokenLBrace a) (more (token (getD rows 24 0) s) (more (token n b) none)))) none)) g) (byte 32 TokenRBrace (h .right));
+          ap (λ (n : ℕ). more (fiveRows n k₂ k₃ k₄ k₅ a s b) g) (byte 0 ClauseArgument (h .argument))
+          ∙ ap (λ (n : ℕ). more (fiveRows ClauseArgument n k₃ k₄ k₅ a s b) g) (byte 8 ItemCurly (h .curly))
+          ∙ ap (λ (n : ℕ). more (fiveRows ClauseArgument ItemCurly n k₄ k₅ a s b) g) (byte 16 TokenLBrace (h .left))
+          ∙ ap (λ (n : ℕ). more (fiveRows ClauseArgument ItemCurly TokenLBrace n k₅ a s b) g) (byte 24 (getD rows 24 0) refl)
+          ∙ ap (λ (n : ℕ). more (fiveRows ClauseArgument ItemCurly TokenLBrace (getD rows 24 0) n a s b) g) (byte 32 TokenRBrace (h .right));
       left-long = ap (λ (l : List ℕ). numOf (drop 16 l)) er ∙ four-says (length a) (omega arith);
       said-long = ap (λ (l : List ℕ). numOf (drop 24 l)) er ∙ four-says (length s) (omega arith);
       right-long = ap (λ (l : List ℕ). numOf (drop 32 l)) er ∙ four-says (length b) (omega arith);

@@ -33,7 +33,7 @@ use Rattle.mitex_tokens.specs.Runs.{Gone, Copies}
 use Rattle.mitex_tokens.specs.declared.Run.{Run}
 use Rattle.mitex_tokens.proofs.Tokens.{token-space, token-word}
 use Rattle.mitex_tokens.proofs.Putting.{turn-plain}
-use Rattle.mitex_tokens.proofs.Running.{headOf, Head, head, Steady, steady-act, steady-next, each-token, Ran, rows-eight}
+use Rattle.mitex_tokens.proofs.Running.{Head, head, Steady, steady-act, steady-next, each-token, Ran, rows-eight}
 
 -- such a token writes its text
 copied-out :

@@ -800,6 +800,55 @@ fn put_argument(
     ran(40, u, t.at, t.flag, next, 0)
 }
 
+// Tokens behind each other, the first of these rows among them: a run in a steady loop, the first alone in any other.
+fn put_tokens(
+    out: &mut [u8],
+    at: usize,
+    rows: &[u8],
+    text: &[u8],
+    rules: &[u8],
+    index: &[u32],
+    mode: LaTeXMode,
+    env: LaTeXEnv,
+    indent: usize,
+    flag: bool,
+    how: Loop,
+) -> Run
+    requires { ⌜ (at ≤ cap) × (length (now out) ≤ cap) ⌝ }
+    requires { ⌜ SomeRules (now rules) (now index) ⌝ }
+    requires { ⌜ RunGiven (now rows) (now text) how × (getD (now rows) 1 0 ≡ 1) ⌝ }
+    ensures { λ r. ⌜ ((rs : List Rule) → rulesOf (now (rules .entry)) ≡ some rs → Runs (inside rs mode env indent) flag how (now (rows .entry)) (now (text .entry)) at (now (out .entry)) r (now (out .exit))) ⌝ }
+{
+    if is_steady(how) {
+        return put_run(
+            out,
+            at,
+            rows,
+            text,
+            rules,
+            index,
+            mode,
+            env,
+            indent,
+            flag,
+            how,
+        );
+    }
+    put_one(
+        out,
+        at,
+        rows,
+        text,
+        rules,
+        index,
+        mode,
+        env,
+        indent,
+        flag,
+        how,
+    )
+}
+
 // Tokens behind each other, an argument like `{x}` among them: the first of these rows and those that go with it, as the converter
 // stands.
 pub fn convert_tokens(
@@ -836,22 +885,7 @@ pub fn convert_tokens(
             how,
         );
     }
-    if is_steady(how) {
-        return put_run(
-            out,
-            at,
-            rows,
-            text,
-            rules,
-            index,
-            mode,
-            env,
-            indent,
-            flag,
-            how,
-        );
-    }
-    put_one(
+    put_tokens(
         out,
         at,
         rows,

@@ -1,5 +1,4 @@
--- `mitex_tokens::convert_tokens` meets its contract: by whether the first row is a token's, and whether the loop is steady.
-use mathlib.Core.Path.{sym, _∙_}
+-- `mitex_tokens::convert_tokens` meets its contract: by whether the first row is a token's.
 use native.Mathlib.Omega.{arith}
 use Rattle.mitex_tokens.proofs.Running.{rows-eight}
 use Rattle.mitex_tokens.proofs.Bracing.{no-token}
@@ -29,32 +28,16 @@ same-length c = search needs
 returns : tie.Need-returns
 returns c = search needs
 
-is-steady-requires : tie.Need-is-steady-requires
-is-steady-requires c κs = search needs
-
-put-run-requires : tie.Need-put-run-requires
-put-run-requires c κs =
-    let else = c .before .before .before in
-    let p = start (else .before) .pre in
-    (p .0, (p .1 .0, ((p .1 .1 .0, else .if1 .left), sym (c .before .before .is-steady .ensures) ∙ c .before .if2 .taken)))
+put-tokens-requires : tie.Need-put-tokens-requires
+put-tokens-requires c κs =
+    let p = start (c .before .before) .pre in
+    (p .0, (p .1 .0, (p .1 .1 .0, c .before .if1 .left)))
 
 same-length-2 : tie.Need-same-length-2
 same-length-2 c = search needs
 
 returns-2 : tie.Need-returns-2
 returns-2 c = search needs
-
-put-one-requires : tie.Need-put-one-requires
-put-one-requires c κs =
-    let else = c .before .before .before in
-    let p = start (else .before) .pre in
-    (p .0, (p .1 .0, (p .1 .1 .0, else .if1 .left)))
-
-same-length-3 : tie.Need-same-length-3
-same-length-3 c = search needs
-
-returns-3 : tie.Need-returns-3
-returns-3 c = search needs
 
 pub convert-tokens-spec : {M : Type 1} → statement M
 convert-tokens-spec =
@@ -64,10 +47,6 @@ convert-tokens-spec =
     put-argument-requires
     same-length
     returns
-    is-steady-requires
-    put-run-requires
+    put-tokens-requires
     same-length-2
-    returns-2
-    put-one-requires
-    same-length-3
-    returns-3)
+    returns-2)

@@ -1,9 +1,9 @@
 -- `mitex_tokens::put_copied` meets its contract. The invariant: how far the loop has gone (`Copied`). The measure is the rows left.
-use mathlib.Core.Path.{_≡_, refl, sym, ap, subst, _∙_}
+use mathlib.Core.Path.{_≡_, sym, subst, _∙_}
 use Prim.Native.Nat.{ℕ, _+_, _-_, _≤_}
 use native.Mathlib.Nat.{zero-add}
 use native.Mathlib.Omega.{arith}
-use lib.ListN.{length, drop}
+use lib.ListN.{length}
 use lib.Seq.{length-take-le}
 use Rattle.mitex_syntax.specs.Rows.{numOf}
 use Rattle.mitex_state.specs.Outcome.{Context}
