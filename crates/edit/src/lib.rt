@@ -11,6 +11,7 @@ use ledger::row_carry;
 use ledger::row_end;
 use mitex_parser::Checked;
 use mitex_parser::check_tree;
+use mitex_spec::INDEX_SIZE;
 use mitex_spec::check_rules;
 use mitex_state::Converter;
 use mitex_state::LaTeXMode;
@@ -24,6 +25,7 @@ ghost use lib.Seq.{sets};
 ghost use lib.Dec.{leb};
 ghost use Rattle.text.specs.Writing.{cap};
 ghost use Rattle.mitex_spec.specs.RuleFile.{rulesOf};
+ghost use Rattle.mitex_spec.specs.Index.{indexSize};
 ghost use Rattle.mitex_parser.specs.Check.{checkTree, answerOf as treeAnswer};
 ghost use Rattle.mitex_state.specs.State.{newOf, Carried};
 ghost use Rattle.mitex_state.specs.Conversion.{startCarry};
@@ -37,9 +39,6 @@ ghost use Rattle.edit.specs.Three.{threeEdits, threeAnswers, Demanded};
 
 // A text buffer counts as at most so many bytes.
 const TEXT_MOST: usize = 4294967295;
-
-// Rules that a rule file has at most.
-const RULES_MOST: usize = 8192;
 
 // Bytes of a draft's text, and as many of its rows: those of 512 blocks, the most that a document has.
 const DRAFT: usize = 65536;
@@ -115,7 +114,7 @@ fn open_tree(mode: LaTeXMode, tree: &[u8]) -> Opened
 
 // Refusals 1 to 5; where there is none the index is that of the rules.
 fn open(mode: u8, rules: &[u8], tree: &[u8], index: &mut [u32]) -> Opened
-    requires { ⌜ length (now index) ≡ 8192 ⌝ }
+    requires { ⌜ length (now index) ≡ indexSize ⌝ }
     ensures answer { λ r. ⌜ r ≡ opened (modeOf mode) (rulesOf (now (rules .entry))) (treeAnswer (checkTree (now (tree .entry)))) ⌝ }
     ensures index { λ r. ⌜ Indexed r (now (rules .entry)) (now (index .exit)) ⌝ }
 {
@@ -302,7 +301,7 @@ pub fn convert<'a>(
 ) -> Converted
     ensures { λ r. ⌜ Converts (manuscript mode (now (rules .entry))) (now (tree .entry)) (now (text .entry)) (now (ledger .entry)) (saidOf r) (now (text .exit)) (now (ledger .exit)) ⌝ }
 {
-    let mut index = [0u32; RULES_MOST];
+    let mut index = [0u32; INDEX_SIZE];
     match open(mode, rules, tree, &mut index) {
         Opened::Shut { number, row } => Converted::Refused { number, row },
         Opened::Open {
@@ -515,7 +514,7 @@ pub fn edit<'a>(
 ) -> Edited
     ensures { λ r. ⌜ Edits (manuscript mode (now (rules .entry))) (now (tree .entry)) block kept (now (text .entry)) (now (ledger .entry)) (answerOf r) (now (text .exit)) (now (ledger .exit)) ⌝ }
 {
-    let mut index = [0u32; RULES_MOST];
+    let mut index = [0u32; INDEX_SIZE];
     match open(mode, rules, tree, &mut index) {
         Opened::Shut { number, row } => Edited::Refused { number, row },
         Opened::Open {

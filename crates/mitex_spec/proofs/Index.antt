@@ -1,24 +1,45 @@
--- What the check leaves in the index are the offsets of the names (`checked-fit`), so that look-ups can be asked
--- (`checked-ready`).
+-- What the check leaves in the index are the offsets of the names (`begun-fit`) and the table of first bytes (`checked-fit`), so
+-- that look-ups can be asked (`checked-ready`).
 use mathlib.Core.Path.{_≡_, refl, sym, ap, subst, _∙_}
 use mathlib.Core.Bool.{Bool, true, false, true≢false}
 use mathlib.Core.Option.{Option}
 use mathlib.Core.Option.Option.{none, some}
-use mathlib.Core.List.{List, [], _∷_, _++_}
-use Prim.Native.Nat.{ℕ, _+_, _*_, _-_, _≤_, _<_}
+use mathlib.Core.List.{List, [], _∷_, _++_, append-assoc}
+use Prim.Native.Nat.{ℕ, suc, _+_, _*_, _-_, _≤_, _<_}
 use native.Mathlib.Omega.{arith}
-use lib.ListN.{length, take, drop, length-append}
-use lib.Seq.{sets, sets-eq, take-append-seam}
+use lib.ListN.{length, take, drop, set, length-append}
+use lib.Seq.{sets, length-sets, sets-eq, length-take-le, take-set-le, take-append-seam, drop-at}
 use Rattle.text.specs.Numbers.{Bytes}
 use Rattle.mitex_spec.specs.Rules.{Rule}
 use Rattle.mitex_spec.specs.RuleFile.{noAlias, startOf, countOf, rulesIn, rising, rulesOf, ruleText, textOfRules, rowsOfRules}
-use Rattle.mitex_spec.specs.Index.{offsetsFrom, startsFrom, accepted, indexed, Checked, Ready, SomeRules}
+use Rattle.mitex_spec.specs.Index.{offsetsFrom, startsFrom, firstsAt, indexSize, firsts, accepted, indexed, Checked, Numbered, Ready, SomeRules}
 use Rattle.mitex_spec.proofs.RuleFile.{ruleRow-reads, Whole, rowsIn, rules-whole, rules-broken, rows-long, file-rules}
+use Rattle.mitex_spec.proofs.Firsts.{length-firsts}
+
+-- ---- a run of stores
+
+take-sets : (n : ℕ) (l : List ℕ) (i : ℕ) (vs : List ℕ) → n ≤ i → take n (sets l i vs) ≡ take n l
+take-sets n l i [] h = refl
+take-sets n l i (v ∷ vs) h = take-sets n (set l i v) (suc i) vs (omega arith) ∙ take-set-le n l i v h
+
+part-sets : (l : List ℕ) (i : ℕ) (vs : List ℕ) → i + length vs ≤ length l → take (length vs) (drop i (sets l i vs)) ≡ vs
+part-sets l i vs h =
+    ap (λ x. take (length vs) (drop i x)) (sets-eq vs l i h)
+    ∙ ap (λ x. take (length vs) (drop i x)) (append-assoc (take i l) vs (drop (i + length vs) l))
+    ∙ ap (take (length vs)) (drop-at (take i l) (vs ++ drop (i + length vs) l) i (length-take-le i l (omega arith)))
+    ∙ take-append-seam vs (drop (i + length vs) l)
+
+-- ---- the offsets
 
 pub length-offsets : (rs : List Rule) (at : ℕ) → length (offsetsFrom at rs) ≡ length rs
 unfolding offsetsFrom
 length-offsets [] at = refl
 length-offsets (r ∷ rs) at = let e = length-offsets rs (at + length (ruleText r)) in omega arith
+
+offsets-stand : (rs : List Rule) (index : List ℕ) → length rs ≤ length index → take (length rs) (sets index 0 (offsetsFrom 0 rs)) ≡ offsetsFrom 0 rs
+offsets-stand rs index h =
+    let l = length-offsets rs 0 in
+    ap (λ k. take k (sets index 0 (offsetsFrom 0 rs))) (sym l) ∙ part-sets index 0 (offsetsFrom 0 rs) (omega arith)
 
 -- the rows say where the names begin
 starts-offsets :
@@ -47,6 +68,12 @@ accepted-some : (o : Option (List Rule)) → accepted o ≡ true → (rs : List 
 accepted-some none e = absurd (true≢false (sym e))
 accepted-some (some rs) e = (rs, refl)
 
+-- the file has rules, and their offsets were stored
+pub record Begun (file index index′ : List ℕ) : Type 0 where
+  pub rules : List Rule
+  pub decodes : rulesOf file ≡ some rules
+  pub begins : index′ ≡ sets index 0 (offsetsFrom 0 rules)
+
 -- the parts that the code takes are the rows and the text
 module _ (file : List ℕ) (w : Whole file) (start : ℕ) (e : start ≡ startOf file) where
   abbrev rows : List ℕ
@@ -74,26 +101,24 @@ module _ (file : List ℕ) (w : Whole file) (start : ℕ) (e : start ≡ startOf
   pub checked-unfit : (index : List ℕ) (fit : Bool) → Asks fit → fit ≡ false → Checked file index false index
   checked-unfit index fit asks e = refused file index (accepted-none (rulesOf file) (sym (fit-whole fit asks) ∙ e))
 
-  pub checked-fit :
+  pub begun-fit :
       (index index′ : List ℕ) (fit : Bool) → Bytes file → Asks fit → fit ≡ true
-      → ((n : ℕ) → length rows ≡ 8 * n → index′ ≡ sets index 0 (startsFrom 0 n rows)) → Checked file index true index′
-  checked-fit index index′ fit by asks t fill =
+      → ((n : ℕ) → length rows ≡ 8 * n → index′ ≡ sets index 0 (startsFrom 0 n rows)) → Begun file index index′
+  begun-fit index index′ fit by asks t fill =
       let s = accepted-some (rulesOf file) (sym (fit-whole fit asks) ∙ t) in
       let d = file-rules file (s .0) by (s .1) in
       let start = d .start in
       let sum = w .sum in
       let most = w .most in
       record {
-        answer = sym (ap accepted (s .1));
-        fills =
+        rules = s .0;
+        decodes = s .1;
+        begins =
             fill (countOf file) rows-many
             ∙ ap (λ l. sets index 0 (startsFrom 0 (countOf file) l)) (rows-are ∙ d .rows-are)
             ∙ ap (λ n. sets index 0 (startsFrom 0 n (rowsOfRules (s .0)))) (d .count)
-            ∙ ap (sets index 0) (starts-offsets (s .0) 0 (omega arith))
-            ∙ sym (ap (λ o. indexed o index) (s .1));
+            ∙ ap (sets index 0) (starts-offsets (s .0) 0 (omega arith));
       }
-
--- ---- what look-ups ask
 
 -- a file has at most 8,191 rules
 pub rules-few : (file : List ℕ) (rs : List Rule) → Bytes file → rulesOf file ≡ some rs → length rs ≤ 8191
@@ -104,26 +129,51 @@ rules-few file rs by e =
     let most = d .whole .most in
     omega arith
 
--- an index that had room for them holds their offsets after the check
-pub checked-ready : (file index index′ : List ℕ) (rs : List Rule) → rulesOf file ≡ some rs → length rs ≤ length index → index′ ≡ indexed (rulesOf file) index → Ready file index′ rs
-checked-ready file index index′ rs e h q =
-    let l = length-offsets rs 0 in
+-- then the rules can be found by their numbers, and behind the offsets the table is filled
+module _ {file index index′ : List ℕ} (b : Begun file index index′) where
+  pub begun-numbered : Bytes file → indexSize ≤ length index → Numbered file index′
+  begun-numbered by room =
+      let few = rules-few file (b .rules) by (b .decodes) in
+      record { rules = b .rules; decodes = b .decodes; holds = ap (take (length (b .rules))) (b .begins) ∙ offsets-stand (b .rules) index (omega arith) }
+
+  pub checked-fit :
+      {index″ : List ℕ} → ((rs : List Rule) → rulesOf file ≡ some rs → index″ ≡ sets index′ firstsAt (firsts rs)) → Checked file index true index″
+  checked-fit {index″} fill =
+      record {
+        answer = sym (ap accepted (b .decodes));
+        fills =
+            fill (b .rules) (b .decodes)
+            ∙ ap (λ l. sets l firstsAt (firsts (b .rules))) (b .begins)
+            ∙ sym (ap (λ o. indexed o index) (b .decodes));
+      }
+
+-- ---- what look-ups ask
+
+-- an index that had room holds the offsets and the table after the check
+pub checked-ready :
+    (file index index′ : List ℕ) (rs : List Rule) → rulesOf file ≡ some rs → length rs ≤ firstsAt → indexSize ≤ length index
+    → index′ ≡ indexed (rulesOf file) index → Ready file index′ rs
+checked-ready file index index′ rs e few room q =
+    let offsets = sets index 0 (offsetsFrom 0 rs) in
+    let all : index′ ≡ sets offsets firstsAt (firsts rs) = q ∙ ap (λ o. indexed o index) e in
+    let n = length-firsts 257 0 rs in
     record {
       decodes = e;
-      holds =
-          ap (take (length rs)) (q ∙ ap (λ o. indexed o index) e ∙ sets-eq (offsetsFrom 0 rs) index 0 (omega arith))
-          ∙ ap (λ k. take k (offsetsFrom 0 rs ++ drop (0 + length (offsetsFrom 0 rs)) index)) (sym l)
-          ∙ take-append-seam (offsetsFrom 0 rs) (drop (0 + length (offsetsFrom 0 rs)) index);
+      holds = ap (take (length rs)) all ∙ take-sets (length rs) offsets firstsAt (firsts rs) few ∙ offsets-stand rs index (omega arith);
+      tabled =
+          ap (λ l. take 257 (drop firstsAt l)) all
+          ∙ ap (λ k. take k (drop firstsAt (sets offsets firstsAt (firsts rs)))) (sym n)
+          ∙ part-sets offsets firstsAt (firsts rs) (omega (arith, length-sets index 0 (offsetsFrom 0 rs)));
     }
 
 -- the check accepted: there are rules, and look-ups can be asked for them
 pub checked-rules :
-    {file index : List ℕ} {ok : Bool} {index′ : List ℕ} → Bytes file → 8191 ≤ length index → Checked file index ok index′ → ok ≡ true
+    {file index : List ℕ} {ok : Bool} {index′ : List ℕ} → Bytes file → indexSize ≤ length index → Checked file index ok index′ → ok ≡ true
     → SomeRules file index′
 checked-rules {file} {index} {ok} {index′} by room c t =
     let s = accepted-some (rulesOf file) (sym (c .answer) ∙ t) in
     let few = rules-few file (s .0) by (s .1) in
-    record { rules = s .0; ready = checked-ready file index index′ (s .0) (s .1) (omega arith) (c .fills) }
+    record { rules = s .0; ready = checked-ready file index index′ (s .0) (s .1) (omega arith) room (c .fills) }
 
 -- the check refused: there are none, and the index is as it was
 pub checked-none :
@@ -138,3 +188,7 @@ rules-one file p q = cc
 
 pub ready-for : {file index : List ℕ} (s : SomeRules file index) (rs : List Rule) → rulesOf file ≡ some rs → Ready file index rs
 ready-for {file} {index} s rs e = subst (Ready file index) (rules-one file (s .ready .decodes) e) (s .ready)
+
+-- what look-ups ask is enough to find a rule by its number
+abbrev pub ready-numbered : {file index : List ℕ} → SomeRules file index → Numbered file index
+ready-numbered s = record { rules = s .rules; decodes = s .ready .decodes; holds = s .ready .holds }

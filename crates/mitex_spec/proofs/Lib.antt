@@ -1,4 +1,5 @@
 pub mod RuleFile
 mod Checking
+mod Firsts
 pub mod Index
 pub mod LookUp

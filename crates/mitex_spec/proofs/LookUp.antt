@@ -23,6 +23,7 @@ use Rattle.mitex_spec.specs.LookUp.{aliasOf, ruleOf, endOf, isCmd, Finds
 use Rattle.mitex_spec.specs.declared.Found.{Found}
 use Rattle.mitex_spec.specs.declared.Found.the-variants.{Absent, Plain, Aliased}
 use Rattle.mitex_spec.proofs.RuleFile.{ruleRow-reads, length-rows, file-rules}
+use Rattle.mitex_spec.proofs.Firsts.{rank-cons}
 use Rattle.mitex_spec.proofs.Index.{length-offsets, rules-one}
 
 -- ---- names that rise
@@ -41,10 +42,6 @@ rises-far (r ∷ rs) name (suc k) e h =
     precedes-trans name (r .name) (ruleNo rs k .name) (p .0) (rises-far rs (r .name) k (p .1) (omega arith))
 
 -- ---- the rank of a name
-
-rank-cons : (r : Rule) (rs : List Rule) (name : List ℕ) (b : Bool) → precedes (r .name) name ≡ b → rankOf (r ∷ rs) name ≡ cond b (1 + rankOf rs name) 0
-unfolding rankOf
-rank-cons r rs name b e = ap (λ t. cond t (1 + rankOf rs name) 0) e
 
 pub rank-most : (rs : List Rule) (name : List ℕ) → rankOf rs name ≤ length rs
 unfolding rankOf
@@ -198,14 +195,14 @@ pub record Located (file index : List ℕ) (k : ℕ) (r : Rule) : Type 0 where
   pub text-is : take (length (ruleText r)) (drop (getD index k 0) file) ≡ ruleText r
 
 module _ {file index : List ℕ} {k : ℕ} (s : SomeRule file index k) (by : Bytes file) (rs : List Rule) (e : rulesOf file ≡ some rs) where
-  rules-are : s .rules ≡ rs
-  rules-are = rules-one file (s .ready .decodes) e
+  rules-are : s .numbered .rules ≡ rs
+  rules-are = rules-one file (s .numbered .decodes) e
 
   pub few : k < length rs
   few = subst (λ l. k < length l) rules-are (s .few)
 
   holds : take (length rs) index ≡ offsetsFrom 0 rs
-  holds = subst (λ l. take (length l) index ≡ offsetsFrom 0 l) rules-are (s .ready .holds)
+  holds = subst (λ l. take (length l) index ≡ offsetsFrom 0 l) rules-are (s .numbered .holds)
 
   in-index : k < length index
   in-index =

@@ -11,7 +11,7 @@ use Rattle.text.specs.Compare.{same, precedes}
 use Rattle.utf8.specs.Utf8.{run, valid}
 use Rattle.mitex_spec.specs.Rules.{Rule, rule, get, getCmd, getEnv, writtenName}
 use Rattle.mitex_spec.specs.RuleFile.{risesFrom, rowFits, rulesIn, rulesOf, rowsOfRules, textOfRules, fileOfRules}
-use Rattle.mitex_spec.specs.Index.{accepted}
+use Rattle.mitex_spec.specs.Index.{firstsBelow, accepted}
 
 -- ---- a file of four rules, the first with the empty name and an empty alias
 
@@ -97,6 +97,11 @@ unfolding rulesOf rulesIn rowFits risesFrom valid run precedes
 all-bad = refl
 
 -- ---- look-ups
+
+-- the empty name begins as if with 0, and all names with a byte lower than 256
+begin : map (λ b. firstsBelow b rules) (0 ∷ 1 ∷ 97 ∷ 98 ∷ 256 ∷ []) ≡ 0 ∷ 1 ∷ 1 ∷ 2 ∷ 4 ∷ []
+unfolding firstsBelow
+begin = refl
 
 -- a command is no environment, and the other way round; a name need not be text
 commands : map (getCmd rules) (ascii "sqrt" ∷ ascii "matrix" ∷ ascii "sqr" ∷ (128 ∷ []) ∷ []) ≡ some (rule (ascii "sqrt") (some (ascii "mitexsqrt")) 1) ∷ none ∷ none ∷ none ∷ []

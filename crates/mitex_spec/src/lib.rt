@@ -9,7 +9,7 @@ ghost use lib.Seq.{sets};
 ghost use Rattle.text.specs.Compare.{precedes};
 ghost use Rattle.mitex_spec.specs.Rules.{Rule, get, getCmd, getEnv, aliasOr};
 ghost use Rattle.mitex_spec.specs.RuleFile.{rulesOf, rulesIn, rising, padded, rowFits, aliasLength, taken, fileMost, startOf, countOf};
-ghost use Rattle.mitex_spec.specs.Index.{startsFrom, accepted, Checked, ruleNo, rankOf, SomeRules, SomeRule};
+ghost use Rattle.mitex_spec.specs.Index.{startsFrom, firstsAt, indexSize, firstOf, firstsBelow, firsts, accepted, Checked, ruleNo, rankOf, Numbered, SomeRule, SomeRules};
 ghost use Rattle.mitex_spec.specs.LookUp.{aliasOf, endOf, isCmd, Finds, Answers};
 ghost use Rattle.mitex_spec.specs.declared.Found.the-variants.{Absent};
 
@@ -23,6 +23,12 @@ pub enum Found {
 const FILE_MOST: usize = 65536;
 
 const NO_ALIAS: usize = 65535;
+
+// The places of an index: where each name begins, of at most 8,191, and a table of 257.
+pub const INDEX_SIZE: usize = 8449;
+
+// Where the table of first bytes begins in the index.
+const FIRSTS: usize = 8192;
 
 const CLASS_MOST: u8 = 10;
 
@@ -163,29 +169,7 @@ fn count_of(file: &[u8]) -> usize
     text::read_u32(file, file.len() - 4)
 }
 
-// Whether a rule file keeps its layout; if so, where each name begins goes into the index.
-pub fn check_rules(file: &[u8], index: &mut [u32]) -> bool
-    ensures { λ r. ⌜ Checked (now (file .entry)) (now (index .entry)) r (now (index .exit)) ⌝ }
-{
-    if file.len() < 8 {
-        return false;
-    }
-    if FILE_MOST < file.len() {
-        return false;
-    }
-    let start = start_of(file);
-    if start + 8 * count_of(file) + 8 != file.len() {
-        return false;
-    }
-    let end = file.len() - 8;
-    if !rules_fit(&file[start..end], &file[..start]) {
-        return false;
-    }
-    fill_index(&file[start..end], index);
-    true
-}
-
-// ---- looking up
+// ---- the table of first bytes
 
 fn wide_u32(n: u32) -> usize
     ensures { λ r. ⌜ (r ≡ n) × (r < 4294967296) ⌝ }
@@ -204,13 +188,81 @@ fn name_at<'a, 'b>(file: &'a [u8], index: &'b [u32], k: usize) -> &'a [u8]
     &file[at..end]
 }
 
-// How many names come before a name: by halving.
+// The first byte of a name; 0 for the empty name.
+fn first_byte(name: &[u8]) -> usize
+    ensures { λ r. ⌜ (r ≡ firstOf (now (name .entry))) × (r < 256) ⌝ }
+{
+    if name.len() == 0 {
+        return 0;
+    }
+    text::wide(name[0])
+}
+
+// How many names begin with a byte lower than `b`; at least `from` do.
+fn firsts_below(file: &[u8], index: &[u32], b: usize, from: usize) -> usize
+    requires { ⌜ Numbered (now file) (now index) ⌝ }
+    requires { ⌜ ((rs : List Rule) → rulesOf (now file) ≡ some rs → from ≤ firstsBelow b rs) ⌝ }
+    ensures { λ r. ⌜ ((rs : List Rule) → rulesOf (now (file .entry)) ≡ some rs → r ≡ firstsBelow b rs) ⌝ }
+{
+    let count = count_of(file);
+    let mut k = from;
+    while k < count {
+        if b <= first_byte(name_at(file, index, k)) {
+            return k;
+        }
+        k += 1;
+    }
+    k
+}
+
+// The table of first bytes, behind where each name begins.
+fn fill_firsts(file: &[u8], index: &mut [u32])
+    requires { ⌜ Numbered (now file) (now index) ⌝ }
+    ensures { λ _. ⌜ ((rs : List Rule) → rulesOf (now (file .entry)) ≡ some rs → now (index .exit) ≡ sets (now (index .entry)) firstsAt (firsts rs)) ⌝ }
+{
+    let mut b: usize = 0;
+    let mut k: usize = 0;
+    while b <= 256 {
+        k = firsts_below(file, index, b, k);
+        store(index, FIRSTS + b, k);
+        b += 1;
+    }
+}
+
+// Whether a rule file keeps its layout; if so, where each name begins goes into the index, and the table behind it.
+pub fn check_rules(file: &[u8], index: &mut [u32]) -> bool
+    requires { ⌜ indexSize ≤ length (now index) ⌝ }
+    ensures { λ r. ⌜ Checked (now (file .entry)) (now (index .entry)) r (now (index .exit)) ⌝ }
+{
+    if file.len() < 8 {
+        return false;
+    }
+    if FILE_MOST < file.len() {
+        return false;
+    }
+    let start = start_of(file);
+    if start + 8 * count_of(file) + 8 != file.len() {
+        return false;
+    }
+    let end = file.len() - 8;
+    if !rules_fit(&file[start..end], &file[..start]) {
+        return false;
+    }
+    fill_index(&file[start..end], index);
+    fill_firsts(file, index);
+    true
+}
+
+// ---- looking up
+
+// How many names come before a name: by halving those that begin as it does.
 fn rank(file: &[u8], index: &[u32], name: &[u8]) -> usize
     requires { ⌜ SomeRules (now file) (now index) ⌝ }
     ensures { λ r. ⌜ ((rs : List Rule) → rulesOf (now (file .entry)) ≡ some rs → r ≡ rankOf rs (now (name .entry))) ⌝ }
 {
-    let mut low = 0;
-    let mut high = count_of(file);
+    let b = first_byte(name);
+    let mut low = wide_u32(index[FIRSTS + b]);
+    let mut high = wide_u32(index[FIRSTS + b + 1]);
     while low < high {
         let middle = low + (high - low) / 2;
         if text::precedes(name_at(file, index, middle), name) {

@@ -1,10 +1,10 @@
--- Past the tests of lengths the file is `Whole`, and the two loops decide (`checked-unfit`, `checked-fit`).
+-- Past the tests of lengths the file is `Whole`, and the loops decide (`checked-unfit`), fill the offsets (`begun-fit`) and the table (`checked-fit`).
 use Rattle.mitex_spec.proofs.RuleFile.{Whole}
 use native.Mathlib.Omega.{arith}
 use mathlib.Core.Path.{sym}
 use borrow.Author.Tests.{not-true, not-false}
 use lib.Seq.{length-take-le}
-use Rattle.mitex_spec.proofs.Index.{checked-broken, checked-unfit, checked-fit}
+use Rattle.mitex_spec.proofs.Index.{Begun, checked-broken, checked-unfit, begun-fit, begun-numbered, checked-fit}
 use borrow.Author.Needs.{needs}
 use Rattle.mitex_spec.proofs.check_rules.Statement.{statement}
 use Rattle.mitex_spec.proofs.check_rules.Tie as tie
@@ -19,6 +19,18 @@ whole c =
     let n = c .before .count-of .ensures .0 in
     let e = c .if3 .left in
     record { low = c .before .before .before .before .if1 .left; most = c .before .before .before .if2 .left; sum = omega arith }
+
+abbrev tests : tie.After-fill-index → tie.Else3
+tests c = let fit = c .before .before .before .before in fit .before .before .before
+
+-- past the first loop that fills
+begun : (c : tie.After-fill-index) → Begun (entry (tests c) .args .file .now) (entry (tests c) .args .index .now) (c .fill-index .last .1 .0)
+begun c =
+    let else4 = c .before .before .before in
+    let fit = else4 .before .rules-fit in
+    let start = tests c .before .before .start-of in
+    let known = tests c .before .before .before .before .before .before .shared-slice-known .given in
+    begun-fit (entry (tests c) .args .file .now) (whole (tests c)) (start .result) (start .ensures .0) (entry (tests c) .args .index .now) _ (fit .result) (λ i. omega (arith, known i)) (fit .ensures) (not-false _ (else4 .if4 .left)) (c .fill-index .ensures)
 
 returns : tie.Need-returns
 returns c = checked-broken (c .before .before .before .args .file .now) (c .before .before .before .args .index .now) (λ w. omega (arith, w .low, c .if1 .taken))
@@ -91,19 +103,19 @@ part-fill-index-end c = search needs
 fill-index-requires : tie.Need-fill-index-requires
 fill-index-requires c κs = search needs
 
+fill-firsts-requires : tie.Need-fill-firsts-requires
+fill-firsts-requires c κs =
+    let filled = c .before .before .before in
+    let known = tests filled .before .before .before .before .before .before .shared-slice-known .given in
+    begun-numbered (begun filled) (λ i. omega (arith, known i)) (entry (tests filled) .pre)
+
 same-length : tie.Need-same-length
 same-length c = search needs
 
 returns-5 : tie.Need-returns-5
 returns-5 c =
-    let c₁ = c .before .before in
-    let c₂ = c₁ .before .before .before in
-    let c₃ = c₂ .before in
-    let c₄ = c₃ .before .before .before in
-    let c₅ = c₄ .before .before in
-    let c₆ = c₅ .before .before .before .before in
-    let c₇ = c₆ .before in
-    checked-fit (c₇ .args .file .now) (whole c₄) (c₅ .start-of .result) (c₅ .start-of .ensures .0) (c₇ .args .index .now) _ (c₃ .rules-fit .result) (λ i. omega (arith, c₆ .shared-slice-known .given i)) (c₃ .rules-fit .ensures) (not-false _ (c₂ .if4 .left)) (c₁ .fill-index .ensures)
+    let table = c .before .before in
+    checked-fit (begun (table .before .before .before .before)) (table .fill-firsts .ensures)
 
 pub check-rules-spec : {M : Type 1} → statement M
 check-rules-spec =
@@ -128,5 +140,6 @@ check-rules-spec =
     part-fill-index-start
     part-fill-index-end
     fill-index-requires
+    fill-firsts-requires
     same-length
     returns-5)

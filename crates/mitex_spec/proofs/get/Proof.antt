@@ -5,6 +5,7 @@ use mathlib.Core.Path.{sym, ap, _∙_}
 use Rattle.text.specs.Compare.{same}
 use Rattle.text.proofs.Compare.{same-true}
 use Rattle.mitex_spec.proofs.RuleFile.{rules-tested, file-rules}
+use Rattle.mitex_spec.proofs.Index.{ready-numbered}
 use Rattle.mitex_spec.proofs.LookUp.{get-past, get-same, get-other, finds-absent, finds-as}
 use borrow.Author.Needs.{needs}
 use Rattle.mitex_spec.proofs.get.Statement.{statement}
@@ -20,7 +21,7 @@ few c =
     let d = file-rules (entry c .args .file .now) (s .rules) (λ i. omega (arith, c .before .before .before .before .before .shared-slice-known .given i)) (s .ready .decodes) in
     let q = d .count in
     let n = c .before .count-of .ensures .0 in
-    record { rules = s .rules; ready = s .ready; few = omega arith }
+    record { numbered = ready-numbered s; few = omega arith }
 
 rank-requires : tie.Need-rank-requires
 rank-requires c κs = search needs
