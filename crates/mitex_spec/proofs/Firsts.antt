@@ -39,7 +39,7 @@ firsts-most b (r ∷ rs) =
       | no h ↦ let q = firsts-lower b r rs (omega arith) in omega arith
     ]
 
--- more begin with one lower than the next byte
+-- no fewer begin with a byte lower than the next
 firsts-more : (b : ℕ) (rs : List Rule) → firstsBelow b rs ≤ firstsBelow (b + 1) rs
 unfolding firstsBelow
 firsts-more b [] = omega arith

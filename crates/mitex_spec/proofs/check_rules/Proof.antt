@@ -23,7 +23,7 @@ whole c =
 abbrev tests : tie.After-fill-index → tie.Else3
 tests c = let fit = c .before .before .before .before in fit .before .before .before
 
--- past the first loop that fills
+-- past the loop that fills the offsets
 begun : (c : tie.After-fill-index) → Begun (entry (tests c) .args .file .now) (entry (tests c) .args .index .now) (c .fill-index .last .1 .0)
 begun c =
     let else4 = c .before .before .before in
