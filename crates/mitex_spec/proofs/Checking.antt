@@ -16,13 +16,13 @@ use Rattle.text.specs.Numbers.{twoAt}
 use Rattle.text.specs.Compare.{precedes}
 use Rattle.text.proofs.Compare.{by-test}
 use Rattle.text.proofs.Writing.{part-rest}
-use Rattle.utf8.specs.Utf8.{valid, run}
+use Rattle.utf8.specs.Utf8.{oneByteEach, valid, run}
+use Rattle.utf8.proofs.Texts.{one-valid, one-take, one-drop}
 use Rattle.mitex_spec.specs.Rules.{Rule}
 use Rattle.mitex_spec.specs.RuleFile.{classMost, noAlias, padded, validAlias, ruleFits, risesFrom, rises, nameLength, aliasLength, taken, aliasAt, ruleAt, rowFits, ahead, rulesIn, rising}
 use Rattle.mitex_spec.specs.Index.{startsFrom, accepted}
 use Rattle.mitex_spec.proofs.RuleFile.{Fits, row-says}
 
--- what is left of a slice from k on
 -- ---- one row
 
 pub alias-absent : (rows : List ℕ) (m : ℕ) → m ≡ twoAt 2 rows → m ≡ noAlias → 0 ≡ aliasLength rows
@@ -65,6 +65,14 @@ row-alias rows text n end pad e room low q name =
     ∙ ap (λ b. b && ruleFits (ruleAt rows text)) (le-leb (taken rows) (length text) (omega arith))
     ∙ ap (λ b. b && (valid (take (nameLength rows) text) && validAlias (aliasAt (twoAt 2 rows) (drop (nameLength rows) text)))) (le-leb (getD rows 4 0) classMost low)
     ∙ ap (λ b. b && validAlias (aliasAt (twoAt 2 rows) (drop (nameLength rows) text))) (ap (λ k. valid (take k text)) (sym q) ∙ name))
+
+-- all but the texts was found good, and the characters of the text have one byte each
+pub row-plain :
+    (rows text : List ℕ) → padded rows ≡ true → taken rows ≤ length text → getD rows 4 0 ≤ classMost → oneByteEach text ≡ true → true ≡ rowFits rows text
+row-plain rows text pad room low one =
+    let n = nameLength rows in
+    sym (one-valid _ (one-take (taken rows - n) (drop n text) (one-drop n text one)))
+    ∙ row-alias rows text n (taken rows) pad refl room low refl (one-valid _ (one-take n text one))
 
 -- ---- all rows
 

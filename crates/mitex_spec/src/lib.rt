@@ -1,12 +1,13 @@
 // The rules of a conversion, in a sorted file: its check, and what `get_cmd` and `get_env` answer.
 ghost use mathlib.Core.Path.{_≡_};
-ghost use mathlib.Core.Bool.{_||_, cond};
+ghost use mathlib.Core.Bool.{true, _||_, cond};
 ghost use mathlib.Core.Option.Option.{some};
 ghost use mathlib.Core.List.{List};
 ghost use Prim.Native.Nat.{ℕ, _+_, _*_, _≤_, _<_};
 ghost use lib.ListN.{length, set};
 ghost use lib.Seq.{sets};
 ghost use Rattle.text.specs.Compare.{precedes};
+ghost use Rattle.utf8.specs.Utf8.{oneByteEach};
 ghost use Rattle.mitex_spec.specs.Rules.{Rule, get, getCmd, getEnv, aliasOr};
 ghost use Rattle.mitex_spec.specs.RuleFile.{rulesOf, rulesIn, rising, padded, rowFits, aliasLength, taken, fileMost, startOf, countOf};
 ghost use Rattle.mitex_spec.specs.Index.{startsFrom, firstsAt, indexSize, firstOf, firstsBelow, firsts, accepted, Checked, ruleNo, rankOf, Numbered, SomeRule, SomeRules};
@@ -71,8 +72,9 @@ fn padded(rows: &[u8]) -> bool
 }
 
 // Whether the row that stands first is one, with its texts first in `text`.
-fn row_fits(rows: &[u8], text: &[u8]) -> bool
-    requires { ⌜ 8 ≤ length (now rows) ⌝ }
+// `plain` says that the characters of the text have one byte each: then its name and alias are not looked at again.
+fn row_fits(rows: &[u8], text: &[u8], plain: bool) -> bool
+    requires { ⌜ (8 ≤ length (now rows)) × (plain ≡ true → oneByteEach (now text) ≡ true) ⌝ }
     ensures { λ r. ⌜ r ≡ rowFits (now (rows .entry)) (now (text .entry)) ⌝ }
 {
     if !padded(rows) {
@@ -84,6 +86,9 @@ fn row_fits(rows: &[u8], text: &[u8]) -> bool
     }
     if CLASS_MOST < rows[4] {
         return false;
+    }
+    if plain {
+        return true;
     }
     let n = text::read_u16(rows, 0);
     if !utf8::valid(&text[..n]) {
@@ -106,12 +111,13 @@ fn follows(first: bool, last: &[u8], name: &[u8]) -> bool
 fn rules_fit(rows: &[u8], text: &[u8]) -> bool
     ensures { λ r. ⌜ ((n : ℕ) → length (now (rows .entry)) ≡ 8 * n → r ≡ accepted (rising (rulesIn n (now (rows .entry)) (now (text .entry))))) ⌝ }
 {
+    let plain = utf8::one_byte_each(text);
     let mut l = rows;
     let mut t = text;
     let mut last = &text[..0];
     let mut first = true;
     while 8 <= l.len() {
-        if !row_fits(l, t) {
+        if !row_fits(l, t, plain) {
             return false;
         }
         let n = text::read_u16(l, 0);

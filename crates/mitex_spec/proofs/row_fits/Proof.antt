@@ -1,4 +1,5 @@
 -- A row that fits says what each test asks (`Fits`), so a failed test refuses it; where only the alias is left, its test is the answer.
+-- Where the characters of the text have one byte each, name and alias are valid (`row-plain`).
 use mathlib.Core.Path.{ap, sym, _∙_}
 use lib.ListN.{take}
 use Rattle.utf8.specs.Utf8.{valid}
@@ -6,7 +7,7 @@ use native.Mathlib.Omega.{arith}
 use mathlib.Core.Bool.{true≢false}
 use borrow.Author.Tests.{not-true, not-false}
 use lib.Seq.{length-take-le}
-use Rattle.mitex_spec.proofs.Checking.{row-not, row-alias}
+use Rattle.mitex_spec.proofs.Checking.{row-not, row-alias, row-plain}
 use borrow.Author.Needs.{needs}
 use Rattle.mitex_spec.proofs.row_fits.Statement.{statement}
 use Rattle.mitex_spec.proofs.row_fits.Tie as tie
@@ -38,26 +39,36 @@ returns-3 c =
     let c₂ = c₁ .before .before .before in
     row-not (c₂ .args .rows .now) (c₂ .args .text .now) (λ f. omega (arith, f .low, c .if3 .taken))
 
+returns-4 : tie.Need-returns-4
+returns-4 c =
+    let c₁ = c .before in
+    let c₂ = c₁ .before .before in
+    let c₃ = c₂ .before in
+    let c₄ = c₃ .before in
+    let c₅ = c₄ .before in
+    let c₆ = c₅ .before .before .before in
+    row-plain (c₆ .args .rows .now) (c₆ .args .text .now) (sym (c₅ .padded .ensures) ∙ not-false _ (c₄ .if1 .left)) (omega (arith, c₃ .taken .ensures .0, c₂ .if2 .left)) (c₁ .if3 .left) (c₆ .pre .1 (c .if4 .taken))
+
 read-u16-requires : tie.Need-read-u16-requires
 read-u16-requires c κs = search needs
 
 slice-aggregate-valid : tie.Need-slice-aggregate-valid
 slice-aggregate-valid c =
     let c₁ = c .before in
-    let c₂ = c₁ .before .before .before in
+    let c₂ = c₁ .before .before .before .before in
     let c₃ = c₂ .before in
     sym (length-take-le _ _ (omega (arith, c₁ .read-u16 .ensures .0, c₃ .taken .ensures .0, c₂ .if2 .left)))
 
 valid-requires : tie.Need-valid-requires
 valid-requires c κs = search needs
 
-returns-4 : tie.Need-returns-4
-returns-4 c =
+returns-5 : tie.Need-returns-5
+returns-5 c =
     let c₁ = c .before in
     let c₂ = c₁ .before .before in
-    let c₃ = c₂ .before .before .before .before .before in
+    let c₃ = c₂ .before .before .before .before .before .before in
     let c₄ = c₃ .before .before .before .before in
-    row-not (c₄ .args .rows .now) (c₄ .args .text .now) (λ f. true≢false (sym (f .name) ∙ ap (λ k. valid (take k (c₄ .args .text .now))) (sym (c₂ .read-u16 .ensures .0)) ∙ sym (c₁ .valid .ensures) ∙ not-true _ (c .if4 .taken)))
+    row-not (c₄ .args .rows .now) (c₄ .args .text .now) (λ f. true≢false (sym (f .name) ∙ ap (λ k. valid (take k (c₄ .args .text .now))) (sym (c₂ .read-u16 .ensures .0)) ∙ sym (c₁ .valid .ensures) ∙ not-true _ (c .if5 .taken)))
 
 sub-valid : tie.Need-sub-valid
 sub-valid c = search needs
@@ -71,18 +82,18 @@ part-valid-end c = search needs
 valid-requires-2 : tie.Need-valid-requires-2
 valid-requires-2 c κs = search needs
 
-returns-5 : tie.Need-returns-5
-returns-5 c =
+returns-6 : tie.Need-returns-6
+returns-6 c =
     let c₁ = c .before .before in
     let c₂ = c₁ .before in
     let c₃ = c₂ .before .before in
-    let c₄ = c₃ .before in
+    let c₄ = c₃ .before .before in
     let c₅ = c₄ .before .before in
     let c₆ = c₅ .before in
     let c₇ = c₆ .before in
     let c₈ = c₇ .before in
     let c₉ = c₈ .before .before .before in
-    c .valid2 .ensures ∙ row-alias (c₉ .args .rows .now) (c₉ .args .text .now) (c₃ .read-u16 .result) (c₆ .taken .result) (sym (c₈ .padded .ensures) ∙ not-false _ (c₇ .if1 .left)) (c₆ .taken .ensures .0) (c₅ .if2 .left) (c₄ .if3 .left) (c₃ .read-u16 .ensures .0) (sym (c₂ .valid .ensures) ∙ not-false _ (c₁ .if4 .left))
+    c .valid2 .ensures ∙ row-alias (c₉ .args .rows .now) (c₉ .args .text .now) (c₃ .read-u16 .result) (c₆ .taken .result) (sym (c₈ .padded .ensures) ∙ not-false _ (c₇ .if1 .left)) (c₆ .taken .ensures .0) (c₅ .if2 .left) (c₄ .if3 .left) (c₃ .read-u16 .ensures .0) (sym (c₂ .valid .ensures) ∙ not-false _ (c₁ .if5 .left))
 
 pub row-fits-spec : {M : Type 1} → statement M
 row-fits-spec =
@@ -94,12 +105,13 @@ row-fits-spec =
     returns-2
     shared-slice-read-if3
     returns-3
+    returns-4
     read-u16-requires
     slice-aggregate-valid
     valid-requires
-    returns-4
+    returns-5
     sub-valid
     part-valid-start
     part-valid-end
     valid-requires-2
-    returns-5)
+    returns-6)

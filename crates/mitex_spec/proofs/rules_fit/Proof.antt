@@ -1,12 +1,15 @@
--- The invariant is `Left`: the answer for all rows is that for the rows that are left, after the last name. The rows left fall.
+-- The invariant is `Left`: the answer for all rows is that for the rows that are left, after the last name; and what is left of
+-- a text whose characters have one byte each is such a text. The rows left fall.
 use Prim.Native.Nat.{_≤_, ℕ, _*_}
-use Rattle.text.proofs.Writing.{rest-length}
+use Rattle.text.proofs.Writing.{part-rest, rest-length}
+use Rattle.utf8.specs.Utf8.{oneByteEach}
+use Rattle.utf8.proofs.Texts.{one-drop}
 use Rattle.mitex_spec.specs.RuleFile.{rowFits, taken}
 use mathlib.Core.Bool.{true}
 use Rattle.mitex_spec.proofs.RuleFile.{row-says}
 use native.Mathlib.Omega.{arith}
 use borrow.Author.Needs.{needs}
-use mathlib.Core.Path.{_≡_, sym, _∙_}
+use mathlib.Core.Path.{_≡_, sym, ap, _∙_}
 use borrow.Author.Tests.{not-true, not-false}
 use lib.ListN.{length}
 use lib.Seq.{length-take-le}
@@ -15,10 +18,10 @@ use Rattle.mitex_spec.proofs.rules_fit.Statement.{statement}
 use Rattle.mitex_spec.proofs.rules_fit.Tie as tie
 
 abbrev Inv-loop : tie.InvT-loop
-Inv-loop rows text l₀ t₀ last₀ first₀ l t last first = (n : ℕ) → length rows ≡ 8 * n → Left n rows text first last l t
+Inv-loop rows text plain l₀ t₀ last₀ first₀ l t last first = (plain ≡ true → oneByteEach t ≡ true) × ((n : ℕ) → length rows ≡ 8 * n → Left n rows text first last l t)
 
 abbrev μ-loop : tie.MeasureT-loop
-μ-loop rows text l₀ t₀ last₀ first₀ l t last first = length l
+μ-loop rows text plain l₀ t₀ last₀ first₀ l t last first = length l
 
 -- in a turn the first row fits
 fit-true : (c : tie.Else1 Inv-loop μ-loop) → rowFits (c .before .before .before .loop .l .now) (c .before .before .before .loop .t .now) ≡ true
@@ -27,17 +30,20 @@ fit-true c = sym (c .before .row-fits .ensures) ∙ not-false _ (c .if1 .left)
 room : (c : tie.Else1 Inv-loop μ-loop) → taken (c .before .before .before .loop .l .now) ≤ length (c .before .before .before .loop .t .now)
 room c = row-says _ _ (fit-true c) .room
 
+one-byte-each-requires : tie.Need-one-byte-each-requires Inv-loop μ-loop
+one-byte-each-requires c κs = search needs
+
 slice-aggregate-last : tie.Need-slice-aggregate-last Inv-loop μ-loop
 slice-aggregate-last c = search needs
 
 loop-holds : tie.Need-loop-holds Inv-loop μ-loop
-loop-holds c = λ n e. left-start n _ _ _ e
+loop-holds c = (λ e. sym (c .before .one-byte-each .ensures) ∙ e, λ n e. left-start n _ _ _ e)
 
 row-fits-requires : tie.Need-row-fits-requires Inv-loop μ-loop
-row-fits-requires c κs = c .loop-test .taken
+row-fits-requires c κs = (c .loop-test .taken, c .before .loop .inv .0)
 
 returns : tie.Need-returns Inv-loop μ-loop
-returns c = λ n e. left-unfit (c .before .before .before .loop .inv n e) (c .before .before .loop-test .taken) (sym (c .before .row-fits .ensures) ∙ not-true _ (c .if1 .taken))
+returns c = λ n e. left-unfit (c .before .before .before .loop .inv .1 n e) (c .before .before .loop-test .taken) (sym (c .before .row-fits .ensures) ∙ not-true _ (c .if1 .taken))
 
 read-u16-requires : tie.Need-read-u16-requires Inv-loop μ-loop
 read-u16-requires c κs = omega arith
@@ -55,7 +61,7 @@ returns-2 c =
     let c₃ = c₂ .before in
     let c₄ = c₃ .before .before in
     let c₅ = c₄ .before in
-    λ n e. left-falls (c₅ .loop .inv n e) (c₁ .follows .result) (c₂ .read-u16 .result) (c₄ .loop-test .taken) (fit-true c₃) (c₂ .read-u16 .ensures .0) (c₁ .follows .ensures) (not-true _ (c .if2 .taken))
+    λ n e. left-falls (c₅ .loop .inv .1 n e) (c₁ .follows .result) (c₂ .read-u16 .result) (c₄ .loop-test .taken) (fit-true c₃) (c₂ .read-u16 .ensures .0) (c₁ .follows .ensures) (not-true _ (c .if2 .taken))
 
 taken-requires : tie.Need-taken-requires Inv-loop μ-loop
 taken-requires c κs =
@@ -112,10 +118,15 @@ loop-again c =
     let c₅ = c₄ .before in
     let c₆ = c₅ .before .before in
     let c₇ = c₆ .before in
-    λ n e. left-next (c₇ .loop .inv n e) (c₃ .follows .result) (c₄ .read-u16 .result) (c₁ .taken .result) (c₆ .loop-test .taken) (fit-true c₅) (c₄ .read-u16 .ensures .0) (c₃ .follows .ensures) (not-false _ (c₂ .if2 .left)) (c₁ .taken .ensures .0)
+    let at = c₇ .loop in (
+      λ e. ap oneByteEach (part-rest (at .t .now) (c₁ .taken .result)) ∙ one-drop (c₁ .taken .result) (at .t .now) (at .inv .0 e),
+      λ n e.
+          left-next (at .inv .1 n e) (c₃ .follows .result) (c₄ .read-u16 .result) (c₁ .taken .result) (c₆ .loop-test .taken) (fit-true c₅) (c₄ .read-u16 .ensures .0)
+          (c₃ .follows .ensures) (not-false _ (c₂ .if2 .left)) (c₁ .taken .ensures .0),
+    )
 
 returns-3 : tie.Need-returns-3 Inv-loop μ-loop
-returns-3 c = λ n e. left-end (c .before .loop .inv n e) (c .loop-test .left)
+returns-3 c = λ n e. left-end (c .before .loop .inv .1 n e) (c .loop-test .left)
 
 pub rules-fit-spec : {M : Type 1} → statement M
 rules-fit-spec =
@@ -123,6 +134,7 @@ rules-fit-spec =
     (tie.spec
     Inv-loop
     μ-loop
+    one-byte-each-requires
     slice-aggregate-last
     loop-holds
     row-fits-requires
