@@ -52,6 +52,15 @@ const SHORT_BLOCKS: usize = 64;
 // And at most so many bytes of token texts, half of what its draft can hold: the text that they come to is seldom twice as long.
 const SHORT_TEXT: usize = 4096;
 
+// The same for a document that is not short, and not long either: a draft's text, its rows, its blocks and its token texts.
+const MIDDLE_DRAFT: usize = 32768;
+
+const MIDDLE_ROWS: usize = 16384;
+
+const MIDDLE_BLOCKS: usize = 128;
+
+const MIDDLE_TEXT: usize = 16384;
+
 // Convert's answer: a refusal's number and row, or the text's length and the count of blocks.
 pub enum Converted {
     Refused { number: u8, row: usize },
@@ -235,18 +244,18 @@ fn convert_by_draft<'a>(
     Converted::Done { length: at, blocks }
 }
 
-// Whether a document is short.
-fn is_short(text: &[u8], blocks: usize) -> bool
-    ensures { λ r. ⌜ (r ≡ true → blocks ≤ 64) ⌝ }
+// Whether a document has at most so much text and so many blocks.
+fn is_within(text: &[u8], blocks: usize, longest: usize, most: usize) -> bool
+    ensures { λ r. ⌜ (r ≡ true → blocks ≤ most) ⌝ }
 {
-    if SHORT_TEXT < text.len() {
+    if longest < text.len() {
         return false;
     }
-    blocks <= SHORT_BLOCKS
+    blocks <= most
 }
 
-// The blocks of a document, over a draft: a short one for a short document, since a draft is cleared before it is used.
-fn convert_blocks<'a>(
+// The blocks of a document that is not short, over a draft.
+fn convert_longer<'a>(
     rows: &[u8],
     text: &'a [u8],
     rules: &'a [u8],
@@ -259,9 +268,9 @@ fn convert_blocks<'a>(
     requires { ⌜ Document (now rules) (now index) (now rows) (now text) blocks ⌝ }
     ensures { λ r. ⌜ ConvertsBlocks (now (rules .entry)) (now (index .entry)) (now (rows .entry)) (now (text .entry)) mode blocks (now (out .entry)) (now (ledger .entry)) r (now (out .exit)) (now (ledger .exit)) ⌝ }
 {
-    if is_short(text, blocks) {
-        let mut draft = [0u8; SHORT_DRAFT];
-        let mut draft_rows = [0u8; SHORT_DRAFT];
+    if is_within(text, blocks, MIDDLE_TEXT, MIDDLE_BLOCKS) {
+        let mut draft = [0u8; MIDDLE_DRAFT];
+        let mut draft_rows = [0u8; MIDDLE_ROWS];
         return convert_by_draft(
             &mut draft,
             &mut draft_rows,
@@ -289,6 +298,39 @@ fn convert_blocks<'a>(
         out,
         ledger,
     )
+}
+
+// The blocks of a document, over a draft: a shorter one for a shorter document, since a draft is cleared before it is used.
+fn convert_blocks<'a>(
+    rows: &[u8],
+    text: &'a [u8],
+    rules: &'a [u8],
+    index: &[u32],
+    mode: LaTeXMode,
+    blocks: usize,
+    out: &mut [u8],
+    ledger: &mut [u8],
+) -> Converted
+    requires { ⌜ Document (now rules) (now index) (now rows) (now text) blocks ⌝ }
+    ensures { λ r. ⌜ ConvertsBlocks (now (rules .entry)) (now (index .entry)) (now (rows .entry)) (now (text .entry)) mode blocks (now (out .entry)) (now (ledger .entry)) r (now (out .exit)) (now (ledger .exit)) ⌝ }
+{
+    if is_within(text, blocks, SHORT_TEXT, SHORT_BLOCKS) {
+        let mut draft = [0u8; SHORT_DRAFT];
+        let mut draft_rows = [0u8; SHORT_DRAFT];
+        return convert_by_draft(
+            &mut draft,
+            &mut draft_rows,
+            rows,
+            text,
+            rules,
+            index,
+            mode,
+            blocks,
+            out,
+            ledger,
+        );
+    }
+    convert_longer(rows, text, rules, index, mode, blocks, out, ledger)
 }
 
 // A tree file converted from its start, for mode 0 (text) or 1 (math): the text and a ledger row for each block are written.

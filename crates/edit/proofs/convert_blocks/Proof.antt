@@ -1,15 +1,11 @@
--- `convert_blocks`: either draft has a row for each block of the document.
+-- `convert_blocks`: the short draft has a row for each block of a short document.
 use native.Mathlib.Omega.{arith}
 use borrow.Author.Needs.{needs}
 use Rattle.edit.proofs.convert_blocks.Statement.{statement}
 use Rattle.edit.proofs.convert_blocks.Tie as tie
 
--- the function's entry
-abbrev start : tie.After-is-short → tie.Start
-start c = let d = c .before .before .before in d .before .before .before .before
-
-is-short-requires : tie.Need-is-short-requires
-is-short-requires c κs = search needs
+is-within-requires : tie.Need-is-within-requires
+is-within-requires c κs = search needs
 
 slice-aggregate-convert-by-draft : tie.Need-slice-aggregate-convert-by-draft
 slice-aggregate-convert-by-draft c = search needs
@@ -18,10 +14,7 @@ slice-aggregate-convert-by-draft-2 : tie.Need-slice-aggregate-convert-by-draft-2
 slice-aggregate-convert-by-draft-2 c = search needs
 
 convert-by-draft-requires : tie.Need-convert-by-draft-requires
-convert-by-draft-requires c κs =
-    let t = c .before .before .before .before in
-    let d = t .before in
-    (start d .pre, (omega arith, omega (arith, d .is-short .ensures (t .if1 .taken))))
+convert-by-draft-requires c κs = (c .before .before .before .before .before .before .before .before .before .before .before .before .pre, (omega arith, omega (arith, c .before .before .before .before .before .is-within .ensures (c .before .before .before .before .if1 .taken))))
 
 same-length : tie.Need-same-length
 same-length c = search needs
@@ -32,15 +25,8 @@ same-length-2 c = search needs
 returns : tie.Need-returns
 returns c = search needs
 
-slice-aggregate-convert-by-draft-3 : tie.Need-slice-aggregate-convert-by-draft-3
-slice-aggregate-convert-by-draft-3 c = search needs
-
-slice-aggregate-convert-by-draft-4 : tie.Need-slice-aggregate-convert-by-draft-4
-slice-aggregate-convert-by-draft-4 c = search needs
-
-convert-by-draft-requires-2 : tie.Need-convert-by-draft-requires-2
-convert-by-draft-requires-2 c κs =
-    let d = c .before .before .before .before .before in (start d .pre, (omega arith, omega (arith, start d .pre .most)))
+convert-longer-requires : tie.Need-convert-longer-requires
+convert-longer-requires c κs = search needs
 
 same-length-3 : tie.Need-same-length-3
 same-length-3 c = search needs
@@ -55,16 +41,14 @@ pub convert-blocks-spec : {M : Type 1} → statement M
 convert-blocks-spec =
     tie.close
     (tie.spec
-    is-short-requires
+    is-within-requires
     slice-aggregate-convert-by-draft
     slice-aggregate-convert-by-draft-2
     convert-by-draft-requires
     same-length
     same-length-2
     returns
-    slice-aggregate-convert-by-draft-3
-    slice-aggregate-convert-by-draft-4
-    convert-by-draft-requires-2
+    convert-longer-requires
     same-length-3
     same-length-4
     returns-2)
