@@ -1,35 +1,27 @@
 -- Laws of the arms of commands: what a command comes to once its name and its rule are known.
 use mathlib.Core.Path.{_≡_, refl, sym, ap, subst, _∙_}
-use mathlib.Core.Bool.{Bool, true, false, cond}
+use mathlib.Core.Bool.{Bool, cond}
 use mathlib.Core.Option.{Option}
 use mathlib.Core.List.{List, _++_}
 use Prim.Native.Nat.{ℕ}
-use native.Mathlib.Omega.{arith}
-use lib.ListN.{drop}
 use Rattle.text.specs.Compare.{same}
-use Rattle.mitex_spec.specs.Rules.{Rule, aliasOr}
-use Rattle.mitex_spec.specs.LookUp.{aliasOf, ruleOf}
-use Rattle.mitex_spec.specs.declared.Found.{Found}
-use Rattle.mitex_spec.specs.declared.Found.the-variants.{Absent, Plain as PlainRule, Aliased}
+use Rattle.mitex_spec.specs.Rules.{Rule}
 use Rattle.mitex_syntax.specs.Tree.{Forest}
-use Rattle.mitex_syntax.specs.Views.{cmdName}
 use Rattle.mitex_state.specs.Outcome.{Context, Carry, Conv, after, inEnv}
 use Rattle.mitex_state.specs.Outcome.Outcome.{refused}
 use Rattle.mitex_state.specs.State.{contextOf}
 use Rattle.mitex_state.specs.Texts.{leftParen, leftBracket, substackName}
 use Rattle.mitex_state.specs.Colors.{colorAlias, bodyLoop, argumentsLoop}
-use Rattle.mitex_state.specs.Commands.{typstName, argumentsOf, argumentsBy, stackEnv, written, normalBy, commandOf, commandBy, command}
+use Rattle.mitex_state.specs.Commands.{argumentsOf, argumentsBy, stackEnv, written, command}
 use Rattle.mitex_state.specs.declared.LaTeXMode.{LaTeXMode}
 use Rattle.mitex_state.specs.declared.LaTeXMode.the-variants.{Text, Math}
 use Rattle.mitex_state.specs.declared.LaTeXEnv.the-variants.{SubStack}
-use Rattle.mitex_state.specs.declared.Command.{Command}
 use Rattle.mitex_state.specs.declared.Arguments.{Arguments}
 use Rattle.mitex_state.specs.declared.Converter.{Converter}
 use Rattle.mitex_state.specs.declared.Walked.{Walked}
 use Rattle.mitex_state.specs.declared.ModelPart.{ModelPart}
 use Rattle.mitex_state.specs.declared.Loop.{Loop}
 use Rattle.mitex.specs.Walks.{Colors}
-use Rattle.mitex_commands.specs.Leaves.{isAbsent, classOf}
 use Rattle.mitex_loops.specs.Given.{numberOf}
 use Rattle.mitex_plans.specs.Plans.{Means, argumentsIn, opening, ArgumentsMean}
 use Rattle.mitex_plans.specs.Plans.ArgumentsMean.{missing, takes}
@@ -37,34 +29,7 @@ use Rattle.mitex_plans.specs.declared.Plan.{Plan}
 use Rattle.mitex_plans.specs.declared.ArgumentsPlan.{ArgumentsPlan}
 use Rattle.mitex_plans.specs.declared.ArgumentsPlan.the-variants.{Missing, Takes}
 
--- ---- by name
-
-pub command-is :
-    (conv : Conv) (x : Context) (f : Forest) (c : Carry) (name : List ℕ) (k : Command) → name ≡ drop 1 (cmdName f) → commandOf name ≡ k
-    → command conv x f c ≡ commandBy k name conv x f c
-command-is conv x f c name k h e =
-    ap (λ (s : List ℕ). commandBy (commandOf s) s conv x f c) (sym h) ∙ ap (λ (j : Command). commandBy j name conv x f c) e
-
 -- ---- by rule
-
-pub normal-absent :
-    (o : Option Rule) (name : List ℕ) (conv : Conv) (x : Context) (f : Forest) (c : Carry) (file : List ℕ) (found : Found)
-    → ruleOf file name found ≡ o → isAbsent found ≡ true → normalBy o name conv x f c ≡ refused 9 0
-normal-absent o name conv x f c file Absent e h = ap (λ (p : Option Rule). normalBy p name conv x f c) (sym e)
-normal-absent o name conv x f c file (PlainRule class) e h = let z : _≡_ {A = ℕ} 0 1 = cc in absurd (omega arith)
-normal-absent o name conv x f c file (Aliased class at size) e h = let z : _≡_ {A = ℕ} 0 1 = cc in absurd (omega arith)
-
-pub normal-found :
-    (o : Option Rule) (name : List ℕ) (conv : Conv) (x : Context) (f : Forest) (c : Carry) (file : List ℕ) (found : Found) (w : List ℕ)
-    → ruleOf file name found ≡ o → isAbsent found ≡ false → w ≡ aliasOr (aliasOf file found) name
-    → normalBy o name conv x f c ≡ written (classOf found) (typstName (x .mode) name w) conv x f c
-normal-found o name conv x f c file Absent w e h i = let z : _≡_ {A = ℕ} 0 1 = cc in absurd (omega arith)
-normal-found o name conv x f c file (PlainRule class) w e h i =
-    ap (λ (p : Option Rule). normalBy p name conv x f c) (sym e)
-    ∙ ap (λ (s : List ℕ). written class (typstName (x .mode) name s) conv x f c) (sym i)
-normal-found o name conv x f c file (Aliased class at size) w e h i =
-    ap (λ (p : Option Rule). normalBy p name conv x f c) (sym e)
-    ∙ ap (λ (s : List ℕ). written class (typstName (x .mode) name s) conv x f c) (sym i)
 
 -- by how a command takes its arguments, in a stack or not
 pub normal-written :

@@ -181,7 +181,7 @@ fn each<'a>(
     let mut i = 0;
     let mut j = 0;
     while i < rows.len() {
-        if begins_run(&rows[i..]) {
+        if begins_run(rows, i) {
             let t = convert_tokens(out, w, &rows[i..], &text[j..], rules, index, d, l);
             i += t.rows;
             j += t.text;

@@ -3,3 +3,4 @@ pub mod Putting
 pub mod Elements
 pub mod Items
 pub mod Naming
+pub mod Ruling

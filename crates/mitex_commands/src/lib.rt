@@ -120,7 +120,7 @@ pub fn command_of(name: &[u8]) -> Command
 // ---- `\item`
 
 // What marks an item of a list; 0 where the environment is none.
-fn mark_of(env: LaTeXEnv) -> u8
+pub fn mark_of(env: LaTeXEnv) -> u8
     ensures { λ r. ⌜ r ≡ markOf env ⌝ }
 {
     match env {
@@ -148,7 +148,7 @@ fn item_indent(indent: usize) -> usize
 }
 
 // A line feed, the indent and the mark.
-fn put_item(out: &mut [u8], at: usize, indent: usize, mark: u8) -> usize
+pub fn put_item(out: &mut [u8], at: usize, indent: usize, mark: u8) -> usize
     requires { ⌜ (at ≤ cap) × (length (now out) ≤ cap) ⌝ }
     ensures { λ r. ⌜ Wrote at (now (out .entry)) (itemText indent (mark ∷ space)) r (now (out .exit)) ⌝ }
 {

@@ -65,7 +65,7 @@ fn is_dot(kind: u8, s: &[u8]) -> bool
 }
 
 // The underscore or caret that splits an attachment.
-fn is_split(kind: u8) -> bool
+pub fn is_split(kind: u8) -> bool
     ensures { λ r. ⌜ r ≡ isSplit kind ⌝ }
 {
     match kind {
@@ -445,7 +445,7 @@ pub fn next_loop(l: Loop, kind: u8, act: Act) -> Loop
 // ---- what is written
 
 // The token that splits an attachment, and the bracket that the rest stands in.
-fn put_split(out: &mut [u8], at: usize, s: &[u8]) -> usize
+pub fn put_split(out: &mut [u8], at: usize, s: &[u8]) -> usize
     requires { ⌜ (at ≤ cap) × (length (now out) ≤ cap) ⌝ }
     ensures { λ r. ⌜ Wrote at (now (out .entry)) (now (s .entry) ++ leftParen) r (now (out .exit)) ⌝ }
 {

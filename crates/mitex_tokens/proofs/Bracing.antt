@@ -182,7 +182,7 @@ not-token : (k : ℕ) (s : List ℕ) (m : ℕ) → Sound (token k s) → k ≡ m
 unfolding Sound
 not-token k s m h q e = subst (λ (b : Bool). T (b && (leb 1 (length s) && valid s))) (ap isToken q ∙ e) h
 
-not-node : (k : ℕ) (f : Forest) (m : ℕ) → Sound (node k f) → k ≡ m → isNode m ≡ false → ⊥
+pub not-node : (k : ℕ) (f : Forest) (m : ℕ) → Sound (node k f) → k ≡ m → isNode m ≡ false → ⊥
 unfolding Sound
 not-node k f m h q e = subst T (ap isNode q ∙ e) (h .0)
 

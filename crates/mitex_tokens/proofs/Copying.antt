@@ -2,7 +2,7 @@
 -- comes of it within a run (`ran-copied`).
 use mathlib.Core.Path.{_≡_, refl, sym, ap, subst, _∙_}
 use mathlib.Core.Bool.{Bool, true, false, _||_}
-use mathlib.Core.List.{List, [], _++_}
+use mathlib.Core.List.{List, []}
 use Prim.Native.Nat.{ℕ, _+_, _-_, _*_, _/_, _≤_, _<_}
 use native.Mathlib.Nat.{add-zero}
 use native.Mathlib.Omega.{arith}
@@ -11,7 +11,6 @@ use lib.Dec.{eqb}
 use lib.ListN.{length, take, drop, getD, length-drop}
 use lib.Seq.{take-add, drop-drop, getD-drop}
 use Rattle.text.specs.Writing.{cap, Wrote}
-use Rattle.text.proofs.Writing.{wrote-then, part-rest}
 use Rattle.mitex_syntax.specs.Syntax.{TokenWord, TokenWhiteSpace}
 use Rattle.mitex_syntax.specs.Rows.{numOf}
 use Rattle.mitex_syntax.specs.Tree.{Forest, size, sizes}
@@ -27,13 +26,14 @@ use Rattle.mitex_state.specs.declared.LaTeXMode.the-variants.{Text}
 use Rattle.mitex_state.specs.declared.Loop.{Loop}
 use Rattle.mitex_state.specs.declared.Act.the-variants.{Convert}
 use Rattle.mitex_state.proofs.Outcomes.{after-nil, after-after}
+use Rattle.mitex_loops.specs.Given.{numberOf}
 use Rattle.mitex_tokens.specs.Puts.{carrying, tokenTurn}
 use Rattle.mitex_tokens.specs.Running.{isCopied, runOf}
-use Rattle.mitex_tokens.specs.Runs.{Gone, Copies}
+use Rattle.mitex_tokens.specs.Runs.{Copies, Runs}
 use Rattle.mitex_tokens.specs.declared.Run.{Run}
 use Rattle.mitex_tokens.proofs.Tokens.{token-space, token-word}
 use Rattle.mitex_tokens.proofs.Putting.{turn-plain}
-use Rattle.mitex_tokens.proofs.Running.{Head, head, Steady, steady-act, steady-next, each-token, Ran, rows-eight}
+use Rattle.mitex_tokens.proofs.Running.{Head, head, Steady, steady-act, steady-next, each-token, rows-eight}
 
 -- such a token writes its text
 copied-out :
@@ -176,51 +176,18 @@ module _ {how : Loop} {rows text : List ℕ} {i j : ℕ} (p : (x : Context) → 
             record { forest = g .forest; spells = g .spells; fits = g .fits; written = take j text; wrote = wrote; is = g .is };
       })
 
--- by the parts that the code has
-pub copies-part :
-    {how : Loop} (rows text : List ℕ) (i j : ℕ) {at : ℕ} {out : List ℕ} {r : Run} {out′ : List ℕ}
-    → Copies how (take (length rows - i) (drop i rows)) (take (length text - j) (drop j text)) at out r out′
-    → Copies how (drop i rows) (drop j text) at out r out′
-copies-part {how} rows text i j {at} {out} {r} {out′} q =
-    subst (λ (y : List ℕ). Copies how y (drop j text) at out r out′) (part-rest rows i)
-    (subst (λ (y : List ℕ). Copies how (take (length rows - i) (drop i rows)) y at out r out′) (part-rest text j) q)
+-- ---- what was copied, as a run
 
--- ---- what was copied, within a run
-
-module _ {x : Context} {flag : Bool} {how : Loop} {rows text : List ℕ} {at : ℕ} {out : List ℕ} {i j w : ℕ} {out₁ : List ℕ} {r : Run}
-    {out₂ : List ℕ} (t : x .mode ≡ Text) (long : length out ≤ cap) (p : Ran x flag how rows text at out (runOf i j w false how 0) out₁)
-    (q : Copies how (drop i rows) (drop j text) w out₁ r out₂) where
-  gone-copied :
-      (f : Forest) (n : ℕ) → SpellsAll f rows text → sizes f ≤ n
-      → Gone x flag how f n rows text at out (runOf (i + r .rows) (j + r .text) (r .at) false how 0) out₂
-  gone-copied f n sp h =
-      let g = p .goes f n sp h in
-      let k = q .goes x t (g .forest) n (g .spells) (omega (arith, g .fits)) in
-      record {
-        forest = k .forest;
-        spells =
-            subst (λ (y : List ℕ). SpellsAll (k .forest) y (drop (j + r .text) text)) (drop-drop (r .rows) i rows)
-            (subst (λ (y : List ℕ). SpellsAll (k .forest) (drop (r .rows) (drop i rows)) y) (drop-drop (r .text) j text) (k .spells));
-        fits = omega (arith, g .fits, k .fits);
-        written = g .written ++ k .written;
-        wrote = wrote-then long (g .wrote) (k .wrote);
-        is =
-            λ l o.
-            let row : o + i / 8 + r .rows / 8 ≡ o + (i + r .rows) / 8 = omega (arith, p .whole, q .whole) in
-            g .is l o
-            ∙ ap (after (g .written)) (k .is l (o + i / 8))
-            ∙ after-after (g .written) (k .written) (each (convert n x) (o + i / 8 + r .rows / 8) (r .how) (k .forest) (carrying (r .flag) l))
-            ∙ ap (λ (y : ℕ). after (g .written ++ k .written) (each (convert n x) y (r .how) (k .forest) (carrying (r .flag) l))) row
-            ∙ ap
-            (λ (y : Run). after (g .written ++ k .written) (each (convert n x) (o + (i + r .rows) / 8) (y .how) (k .forest) (carrying (y .flag) l)))
-            (q .stays);
-      }
-
-  pub ran-copied : Ran x flag how rows text at out (runOf (i + r .rows) (j + r .text) (r .at) false how 0) out₂
-  ran-copied =
-      record {
-        high = omega (arith, p .high, q .high, length-drop i rows);
-        stop = omega (arith, p .stop, q .stop, length-drop j text);
-        whole = omega (arith, p .whole, q .whole);
-        goes = gone-copied;
-      }
+pub copies-run :
+    {x : Context} {how : Loop} {rows text : List ℕ} {at : ℕ} {out : List ℕ} {r : Run} {out′ : List ℕ} → x .mode ≡ Text
+    → Copies how rows text at out r out′ → Runs x false how rows text at out r out′
+copies-run {x} {how} {r = r} t q =
+    let z : r .refusal ≡ 0 = ap (λ (y : Run). y .refusal) (q .stays) in
+    record {
+      high = q .high;
+      stop = q .stop;
+      counts = omega (arith, ap (λ (y : Run). numberOf (y .how)) (q .stays));
+      some = λ y. q .some;
+      refuses = λ y. absurd (y z);
+      goes = λ y. q .goes x t;
+    }

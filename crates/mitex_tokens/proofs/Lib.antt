@@ -4,3 +4,7 @@ pub mod Putting
 pub mod Running
 pub mod Copying
 pub mod Bracing
+pub mod Attaching
+pub mod Calling
+pub mod Commanding
+pub mod Noding

@@ -35,7 +35,8 @@ use Rattle.mitex_state.proofs.Loops.{each-more}
 use Rattle.mitex_loops.specs.Given.{ChildGiven, OthersGiven, numberOf}
 use Rattle.mitex_tokens.specs.Puts.{carrying, tokenTurn, Puts}
 use Rattle.mitex_tokens.specs.Running.{isSteady, runOf}
-use Rattle.mitex_tokens.specs.Runs.{RunGiven, Gone, Runs}
+use Rattle.mitex_tokens.specs.Runs.{RunGiven, Gone, Runs, Passes}
+use Rattle.mitex_tokens.specs.Runs.Passes.{leaves, runs-on}
 use Rattle.mitex_tokens.specs.declared.Run.{Run}
 use Rattle.mitex_tokens.specs.declared.TokenPut.{TokenPut}
 use Rattle.mitex_tokens.proofs.Putting.{passed, refused-so, uniform-turn}
@@ -201,6 +202,17 @@ pub runs-as :
     → Runs x flag how rows text at out r′ out′ → Runs x flag how rows text at out r out′
 runs-as {x} {flag} {how} {rows} {text} {at} {out} {r} {r′} {out′} e m = subst (λ (y : Run). Runs x flag how rows text at out y out′) (sym e) m
 
+pub passes-as :
+    {x : Context} {flag : Bool} {how : Loop} {rows text : List ℕ} {at : ℕ} {out : List ℕ} {r r′ : Run} {out′ : List ℕ} → r ≡ r′
+    → Passes x flag how rows text at out r′ out′ → Passes x flag how rows text at out r out′
+passes-as {x} {flag} {how} {rows} {text} {at} {out} {r} {r′} {out′} e m = subst (λ (y : Run). Passes x flag how rows text at out y out′) (sym e) m
+
+-- nothing was written
+pub passes-left :
+    {x : Context} {flag : Bool} {how : Loop} {rows text : List ℕ} {at : ℕ} {out : List ℕ} → (getD rows 1 0 ≡ 1 → ⊥)
+    → Passes x flag how rows text at out (runOf 0 0 at flag how 0) out
+passes-left mark = leaves mark refl refl refl
+
 -- elements are whole rows
 pub rows-eight : {f : Forest} {rows text : List ℕ} → SpellsAll f rows text → 0 < length rows → 8 ≤ length rows
 rows-eight {f} sp h = omega (arith, ap length (sp .rows-are), length-rowss f)
@@ -221,21 +233,24 @@ module _ {x : Context} {flag : Bool} {how : Loop} {rows text : List ℕ} {at : �
       let l = length-drop (r .rows) rows in
       omega (arith, rows-eight (gone-given .spells) (omega arith))
 
-  -- what a further run is given, as a part of the rows and of the text
-  pub rest-given :
-      r .rows < length rows
-      → RunGiven (take (length rows - r .rows) (drop (r .rows) rows)) (take (length text - r .text) (drop (r .text) text)) how
-  rest-given h =
-      subst (λ (y : List ℕ). RunGiven y (take (length text - r .text) (drop (r .text) text)) how) (sym (part-rest rows (r .rows)))
-      (subst (λ (y : List ℕ). RunGiven (drop (r .rows) rows) y how) (sym (part-rest text (r .text)))
-      (record {
+  -- what a further run is given, and as a part of the rows and of the text
+  pub rest-plain : r .rows < length rows → RunGiven (drop (r .rows) rows) (drop (r .text) text) how
+  rest-plain h =
+      record {
         forest = gone-given .forest;
         spells = gone-given .spells;
         few = omega (arith, given .few, length-drop (r .rows) rows);
         short = omega (arith, given .short, length-drop (r .text) text);
         some = omega (arith, length-drop (r .rows) rows);
         counts = omega (arith, given .counts, length-drop (r .rows) rows);
-      }))
+      }
+
+  pub rest-given :
+      r .rows < length rows
+      → RunGiven (take (length rows - r .rows) (drop (r .rows) rows)) (take (length text - r .text) (drop (r .text) text)) how
+  rest-given h =
+      subst (λ (y : List ℕ). RunGiven y (take (length text - r .text) (drop (r .text) text)) how) (sym (part-rest rows (r .rows)))
+      (subst (λ (y : List ℕ). RunGiven (drop (r .rows) rows) y how) (sym (part-rest text (r .text))) (rest-plain h))
 
   -- behind the last token: at a node, or at the end
   pub ran-done : 8 ≤ r .rows → numberOf (r .how) ≤ numberOf how + r .rows → r .refusal ≡ 0 → Runs x flag how rows text at out r out′
@@ -255,6 +270,130 @@ module _ {x : Context} {flag : Bool} {how : Loop} {rows text : List ℕ} {at : �
 
   pub ran-end : length rows ≤ r .rows → numberOf (r .how) ≤ numberOf how + r .rows → r .refusal ≡ 0 → Runs x flag how rows text at out r out′
   ran-end h = ran-done (omega (arith, rows-eight (given .spells) (given .some)))
+
+-- a run within a run: the loop goes on behind it
+module _ {x : Context} {flag : Bool} {how : Loop} {rows text : List ℕ} {at : ℕ} {out : List ℕ} {i j w : ℕ} {b : Bool} {l : Loop}
+    {out₁ : List ℕ} {r : Run} {out₂ : List ℕ} (long : length out ≤ cap) (p : Ran x flag how rows text at out (runOf i j w b l 0) out₁)
+    (q : (f : Forest) (n : ℕ) → SpellsAll f (drop i rows) (drop j text) → sizes f ≤ n → Gone x b l f n (drop i rows) (drop j text) w out₁ r out₂) where
+  gone-on :
+      (f : Forest) (n : ℕ) → SpellsAll f rows text → sizes f ≤ n
+      → Gone x flag how f n rows text at out (runOf (i + r .rows) (j + r .text) (r .at) (r .flag) (r .how) 0) out₂
+  gone-on f n sp h =
+      let g = p .goes f n sp h in
+      let k = q (g .forest) n (g .spells) (omega (arith, g .fits)) in
+      record {
+        forest = k .forest;
+        spells =
+            subst (λ (y : List ℕ). SpellsAll (k .forest) y (drop (j + r .text) text)) (drop-drop (r .rows) i rows)
+            (subst (λ (y : List ℕ). SpellsAll (k .forest) (drop (r .rows) (drop i rows)) y) (drop-drop (r .text) j text) (k .spells));
+        fits = omega (arith, g .fits, k .fits);
+        written = g .written ++ k .written;
+        wrote = wrote-then long (g .wrote) (k .wrote);
+        is =
+            λ c o.
+            let row : o + i / 8 + r .rows / 8 ≡ o + (i + r .rows) / 8 = omega (arith, p .whole) in
+            g .is c o
+            ∙ ap (after (g .written)) (k .is c (o + i / 8))
+            ∙ after-after (g .written) (k .written) (each (convert n x) (o + i / 8 + r .rows / 8) (r .how) (k .forest) (carrying (r .flag) c))
+            ∙ ap (λ (y : ℕ). after (g .written ++ k .written) (each (convert n x) y (r .how) (k .forest) (carrying (r .flag) c))) row;
+      }
+
+  pub ran-on :
+      r .rows ≤ length (drop i rows) → r .text ≤ length (drop j text) → r .rows ≡ 8 * (r .rows / 8)
+      → Ran x flag how rows text at out (runOf (i + r .rows) (j + r .text) (r .at) (r .flag) (r .how) 0) out₂
+  ran-on high stop whole =
+      record {
+        high = omega (arith, p .high, length-drop i rows);
+        stop = omega (arith, p .stop, length-drop j text);
+        whole = omega (arith, p .whole);
+        goes = gone-on;
+      }
+
+-- a run, as the part that begins there
+module _ {x : Context} {flag : Bool} {how : Loop} {rows text : List ℕ} {at : ℕ} {out : List ℕ} {i j w : ℕ} {b : Bool} {l : Loop}
+    {out₁ : List ℕ} {r : Run} {out₂ : List ℕ} (given : RunGiven rows text how) (long : length out ≤ cap)
+    (p : Ran x flag how rows text at out (runOf i j w b l 0) out₁) (q : Runs x b l (drop i rows) (drop j text) w out₁ r out₂) where
+  -- what it spells are whole rows
+  run-whole : r .refusal ≡ 0 → r .rows ≡ 8 * (r .rows / 8)
+  run-whole z =
+      let g = p .goes (given .forest) (sizes (given .forest)) (given .spells) (omega arith) in
+      let k = q .goes z (g .forest) (sizes (g .forest)) (g .spells) (omega arith) in
+      omega (
+        arith,
+        q .high,
+        length-drop (r .rows) (drop i rows),
+        ap length (g .spells .rows-are),
+        length-rowss (g .forest),
+        ap length (k .spells .rows-are),
+        length-rowss (k .forest),
+      )
+
+  pub ran-part : r .refusal ≡ 0 → Ran x flag how rows text at out (runOf (i + r .rows) (j + r .text) (r .at) (r .flag) (r .how) 0) out₂
+  ran-part z = ran-on long p (q .goes z) (q .high) (q .stop) (run-whole z)
+
+  pub ran-part-refused :
+      (r .refusal ≡ 0 → ⊥) → numberOf l ≤ numberOf how + (i + r .rows)
+      → Runs x flag how rows text at out (runOf (i + r .rows) j w b l (r .refusal)) out₂
+  ran-part-refused z counts =
+      record {
+        high = omega (arith, p .high, q .high, length-drop i rows);
+        stop = p .stop;
+        counts = counts;
+        some = λ y. absurd (z y);
+        refuses =
+            λ y f n c o sp h.
+            let g = p .goes f n sp h in
+            let row : o + i / 8 + r .rows / 8 ≡ o + (i + r .rows) / 8 = omega (arith, p .whole) in
+            g .is c o
+            ∙ ap (after (g .written)) (q .refuses z (g .forest) n c (o + i / 8) (g .spells) (omega (arith, g .fits)))
+            ∙ ap (refused (r .refusal)) row;
+        goes = λ y. absurd (z y);
+      }
+
+-- by the parts that the code has
+pub passes-part :
+    {x : Context} {flag : Bool} {how : Loop} (rows text : List ℕ) (i j : ℕ) {at : ℕ} {out : List ℕ} {r : Run} {out′ : List ℕ}
+    → Passes x flag how (take (length rows - i) (drop i rows)) (take (length text - j) (drop j text)) at out r out′
+    → Passes x flag how (drop i rows) (drop j text) at out r out′
+passes-part {x} {flag} {how} rows text i j {at} {out} {r} {out′} q =
+    subst (λ (y : List ℕ). Passes x flag how y (drop j text) at out r out′) (part-rest rows i)
+    (subst (λ (y : List ℕ). Passes x flag how (take (length rows - i) (drop i rows)) y at out r out′) (part-rest text j) q)
+
+-- the part that begins where the loop has gone to
+module _ {x : Context} {flag : Bool} {how : Loop} {rows text : List ℕ} {at : ℕ} {out : List ℕ} {i j w : ℕ} {b : Bool} {out₁ : List ℕ} {r : Run}
+    {out₂ : List ℕ} (given : RunGiven rows text how) (long : length out ≤ cap) (p : Ran x flag how rows text at out (runOf i j w b how 0) out₁) where
+  -- it is a run of its own: where it ends
+  pub passed-high : Passes x b how (drop i rows) (drop j text) w out₁ r out₂ → i + r .rows ≤ length rows
+  passed-high (leaves mark z y same) = omega (arith, p .high)
+  passed-high (runs-on e q) = omega (arith, q .high, length-drop i rows, p .high)
+
+  module _ (y : r .refusal ≡ 0) (z : r .rows ≡ 0 → ⊥) where
+    pub passed-stop : Passes x b how (drop i rows) (drop j text) w out₁ r out₂ → j + r .text ≤ length text
+    passed-stop (leaves mark none-taken u same) = absurd (z none-taken)
+    passed-stop (runs-on e q) = omega (arith, q .stop, length-drop j text, p .stop)
+
+    pub passed-on :
+        Passes x b how (drop i rows) (drop j text) w out₁ r out₂
+        → Ran x flag how rows text at out (runOf (i + r .rows) (j + r .text) (r .at) (r .flag) how 0) out₂
+    passed-on (leaves mark none-taken u same) = absurd (z none-taken)
+    passed-on (runs-on e q) =
+        subst (λ (l : Loop). Ran x flag how rows text at out (runOf (i + r .rows) (j + r .text) (r .at) (r .flag) l 0) out₂) e
+        (ran-part given long p q y)
+
+  pub passed-refused :
+      (r .refusal ≡ 0 → ⊥) → Passes x b how (drop i rows) (drop j text) w out₁ r out₂
+      → Runs x flag how rows text at out (runOf (i + r .rows) j w b how (r .refusal)) out₂
+  passed-refused z (leaves mark none-taken u same) = absurd (z u)
+  passed-refused z (runs-on e q) = ran-part-refused given long p q z (omega arith)
+
+  -- it is left to the converter, and is no token: the run ends before it
+  pub passed-left :
+      getD rows 1 0 ≡ 1 → r .refusal ≡ 0 → r .rows ≡ 0 → Passes x b how (drop i rows) (drop j text) w out₁ r out₂
+      → Runs x flag how rows text at out (runOf i j w b how 0) out₂
+  passed-left first y z (leaves mark none-taken u same) =
+      subst (Runs x flag how rows text at out (runOf i j w b how 0)) (sym same)
+      (ran-node given p first (λ e. mark (getD-drop i rows 1 0 ∙ e)) (omega arith) refl)
+  passed-left first y z (runs-on e q) = absurd (omega (arith, q .some y))
 
 -- ---- the next token
 

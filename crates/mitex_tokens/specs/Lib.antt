@@ -3,3 +3,4 @@ pub mod Puts
 pub mod Braces
 pub mod Running
 pub mod Runs
+pub mod Nodes

@@ -67,3 +67,8 @@ pub record Runs (x : Context) (flag : Bool) (how : Loop) (rows text : List ℕ) 
       (r .refusal ≡ 0 → ⊥) → (f : Forest) (n : ℕ) (l : Label) (o : ℕ) → SpellsAll f rows text → sizes f ≤ n
       → each (convert n x) o how f (carrying flag l) ≡ refused (r .refusal) (o + r .rows / 8)
   pub goes : r .refusal ≡ 0 → (f : Forest) (n : ℕ) → SpellsAll f rows text → sizes f ≤ n → Gone x flag how f n rows text at out r out′
+
+-- the part of a run that begins here: a node that is left to the converter, with nothing written; or a run
+pub data Passes (x : Context) (flag : Bool) (how : Loop) (rows text : List ℕ) (at : ℕ) (out : List ℕ) (r : Run) (out′ : List ℕ) : Type 0 where
+  leaves : (getD rows 1 0 ≡ 1 → ⊥) → r .rows ≡ 0 → r .refusal ≡ 0 → out′ ≡ out → Passes x flag how rows text at out r out′
+  runs-on : r .how ≡ how → Runs x flag how rows text at out r out′ → Passes x flag how rows text at out r out′

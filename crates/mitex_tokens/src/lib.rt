@@ -1,10 +1,10 @@
 // What a token writes: a leaf of the converter, since a token has no children.
 ghost use mathlib.Core.Path.{_≡_};
-ghost use mathlib.Core.Bool.{true, false};
+ghost use mathlib.Core.Bool.{Bool, true, false};
 ghost use mathlib.Core.Option.Option.{some};
 ghost use mathlib.Core.List.{List, _++_};
-ghost use Prim.Native.Nat.{_+_, _≤_, _<_};
-ghost use lib.ListN.{length, getD};
+ghost use Prim.Native.Nat.{ℕ, _+_, _*_, _/_, _≤_, _<_};
+ghost use lib.ListN.{length, getD, drop};
 ghost use Rattle.text.specs.Writing.{cap, Wrote, spaces};
 ghost use Rattle.utf8.specs.Chars.{chars};
 ghost use Rattle.mitex_spec.specs.Rules.{Rule};
@@ -16,20 +16,37 @@ ghost use Rattle.mitex_state.specs.Outcome.Outcome.{done};
 ghost use Rattle.mitex_state.specs.State.{contextOf, carryOf};
 ghost use Rattle.mitex_state.specs.Contract.{placeOf, Agrees};
 ghost use Rattle.mitex_state.specs.Texts.{escape, tilde, ampersand, newLine};
+ghost use Rattle.mitex_state.specs.Children.{isEnds, before};
 ghost use Rattle.mitex_state.specs.Tokens.{spaced, word, tokenText, whiteSpace, commandSym, tokenOut};
 ghost use Rattle.mitex_tokens.specs.Escapes.{escapeOf};
 ghost use Rattle.mitex_tokens.specs.Puts.{inside, carrying, turnBy, Puts, Settles};
 ghost use Rattle.mitex_tokens.specs.Braces.{Braced, bracedEnv, bracedEnd, bracedOut, heldOut};
 ghost use Rattle.mitex_tokens.specs.Running.{isSteady, isCopied, runOf};
-ghost use Rattle.mitex_tokens.specs.Runs.{RunGiven, BeginsRun, Copies, Runs};
-ghost use Rattle.mitex_state.specs.declared.LaTeXMode.the-variants.{Text};
+ghost use Rattle.mitex_tokens.specs.Runs.{RunGiven, BeginsRun, Copies, Runs, Passes};
+ghost use Rattle.mitex_tokens.specs.Nodes.{NodeGiven, Attachment, Call, callEnd, callAct, callArm, itemArm, nodeOf, Nodes};
+ghost use Rattle.mitex_state.specs.Groups.{attachComponent};
+ghost use Rattle.mitex_state.specs.Commands.{normalCommand, command};
+ghost use Rattle.mitex_state.specs.Conversion.{elementOf, armBy};
+ghost use Rattle.mitex_state.specs.declared.LaTeXMode.the-variants.{Text, Math};
+use mitex_commands::arguments_of;
+use mitex_commands::class_of;
+use mitex_commands::command_of;
+use mitex_commands::is_absent;
+use mitex_commands::is_stack;
+use mitex_commands::mark_of;
+use mitex_commands::put_item;
+use mitex_commands::put_typst_name;
 use mitex_loops::act_of;
 use mitex_loops::converts;
+use mitex_loops::is_split;
 use mitex_loops::next_loop;
 use mitex_loops::put_before;
 use mitex_loops::put_behind;
+use mitex_loops::put_split;
 use mitex_spec::Found;
 use mitex_state::Act;
+use mitex_state::Arguments;
+use mitex_state::Command;
 use mitex_state::Converter;
 use mitex_state::LaTeXEnv;
 use mitex_state::LaTeXMode;
@@ -39,6 +56,8 @@ use mitex_state::refuse;
 use mitex_state::went;
 use mitex_syntax::CLAUSE_ARGUMENT;
 use mitex_syntax::CLAUSE_COMMAND_NAME;
+use mitex_syntax::ITEM_ATTACH_COMPONENT;
+use mitex_syntax::ITEM_CMD;
 use mitex_syntax::ITEM_CURLY;
 use mitex_syntax::ITEM_NEW_LINE;
 use mitex_syntax::TOKEN_AMPERSAND;
@@ -616,13 +635,469 @@ fn put_copied(out: &mut [u8], at: usize, rows: &[u8], text: &[u8], how: Loop) ->
     ran(i, j, p, false, how, 0)
 }
 
-// Tokens up to the next node, in a steady loop.
-fn put_run(
+// What a node comes to that is worked out without the converter, if it is one: the next place, with refusal 0; or a refusal, and how many
+// rows below the node it stands.
+pub struct NodePut {
+    pub taken: bool,
+    pub at: usize,
+    pub refusal: u8,
+    pub row: usize,
+}
+
+// A node up to here.
+fn node_put(taken: bool, at: usize, refusal: u8, row: usize) -> NodePut
+    ensures { λ r. ⌜ r ≡ nodeOf taken at refusal row ⌝ }
+{
+    NodePut {
+        taken,
+        at,
+        refusal,
+        row,
+    }
+}
+
+// Whether an attachment has two words for its parts, like `x^2`.
+fn is_attachment(rows: &[u8]) -> bool
+    ensures { λ r. ⌜ (r ≡ true → Attachment (now (rows .entry))) ⌝ }
+{
+    if rows.len() != 24 {
+        return false;
+    }
+    if rows[0] != TOKEN_WORD {
+        return false;
+    }
+    if rows[16] != TOKEN_WORD {
+        return false;
+    }
+    is_split(rows[8])
+}
+
+// The same in Math.
+fn attaches(mode: LaTeXMode, rows: &[u8]) -> bool
+    ensures { λ r. ⌜ (r ≡ true → (mode ≡ Math) × Attachment (now (rows .entry))) ⌝ }
+{
+    match mode {
+        LaTeXMode::Text => false,
+        LaTeXMode::Math => is_attachment(rows),
+    }
+}
+
+// An attachment, if it is one like `x^2` in Math.
+fn put_attachment(out: &mut [u8], at: usize, rows: &[u8], text: &[u8], mode: LaTeXMode) -> NodePut
+    requires { ⌜ (at ≤ cap) × (length (now out) ≤ cap) ⌝ }
+    requires { ⌜ NodeGiven (now rows) (now text) ⌝ }
+    ensures { λ r. ⌜ ((x : Context) → x .mode ≡ mode → Nodes attachComponent x (now (rows .entry)) (now (text .entry)) at (now (out .entry)) r (now (out .exit))) ⌝ }
+{
+    if !attaches(mode, rows) {
+        return node_put(false, at, 0, 0);
+    }
+    let a = mitex_syntax::number(rows, 0);
+    let b = a + mitex_syntax::number(rows, 8);
+    let p = put_spaced(out, at, &text[..a]);
+    let q = put_split(out, p, &text[a..b]);
+    let u = put_spaced(out, q, &text[b..]);
+    let w = text::put_byte(out, u, b')');
+    node_put(true, w, 0, 0)
+}
+
+// Whether the rows begin with an argument in braces that holds one token, like `{x}`.
+fn is_braced(rows: &[u8]) -> bool
+    requires { ⌜ 8 ≤ length (now rows) ⌝ }
+    ensures { λ r. ⌜ (r ≡ true → Braced (now (rows .entry))) ⌝ }
+{
+    if rows[0] != CLAUSE_ARGUMENT {
+        return false;
+    }
+    if rows.len() < 40 {
+        return false;
+    }
+    if mitex_syntax::number(rows, 0) != 4 {
+        return false;
+    }
+    if mitex_syntax::number(rows, 8) != 3 {
+        return false;
+    }
+    if rows[8] != ITEM_CURLY {
+        return false;
+    }
+    if rows[16] != TOKEN_LBRACE {
+        return false;
+    }
+    if rows[32] != TOKEN_RBRACE {
+        return false;
+    }
+    rows[25] == 1
+}
+
+// Whether a command's children are its name and arguments like `{x}`.
+fn is_call(rows: &[u8]) -> bool
+    requires { ⌜ (length (now rows) < cap) × (length (now rows) ≡ 8 * (length (now rows) / 8)) ⌝ }
+    ensures { λ r. ⌜ (r ≡ true → Call (now (rows .entry))) ⌝ }
+{
+    if rows.len() < 8 {
+        return false;
+    }
+    if rows[0] != CLAUSE_COMMAND_NAME {
+        return false;
+    }
+    let mut i = 8;
+    while i < rows.len() {
+        if !is_braced(&rows[i..]) {
+            return false;
+        }
+        i += 40;
+    }
+    true
+}
+
+// What is written before an argument of a call.
+fn put_call_open(out: &mut [u8], at: usize, bracketed: bool) -> usize
+    requires { ⌜ (at ≤ cap) × (length (now out) ≤ cap) ⌝ }
+    ensures { λ r. ⌜ ((last : Bool) (s : List ℕ) → Wrote at (now (out .entry)) (before (callAct bracketed last) s) r (now (out .exit))) ⌝ }
+{
+    if bracketed {
+        return text::put_byte(out, at, b'[');
+    }
+    at
+}
+
+// What the loop over the arguments of a call does with one.
+fn call_act(bracketed: bool, last: bool) -> Act
+    ensures { λ r. ⌜ r ≡ callAct bracketed last ⌝ }
+{
+    if bracketed {
+        return Act::InBrackets;
+    }
+    if last {
+        return Act::Convert;
+    }
+    Act::ThenComma
+}
+
+// What is written behind the arguments of a call.
+fn put_call_end(out: &mut [u8], at: usize, bracketed: bool) -> usize
+    requires { ⌜ (at ≤ cap) × (length (now out) ≤ cap) ⌝ }
+    ensures { λ r. ⌜ Wrote at (now (out .entry)) (callEnd bracketed) r (now (out .exit)) ⌝ }
+{
+    if bracketed {
+        return text::put_byte(out, at, b';');
+    }
+    text::put_byte(out, at, b')')
+}
+
+// A token in braces, as an argument of a call.
+fn put_given(
+    out: &mut [u8],
+    at: usize,
+    bracketed: bool,
+    last: bool,
+    kind: u8,
+    s: &[u8],
+    rules: &[u8],
+    index: &[u32],
+    mode: LaTeXMode,
+    env: LaTeXEnv,
+    indent: usize,
+) -> TokenPut
+    requires { ⌜ (at ≤ cap) × (length (now out) ≤ cap) ⌝ }
+    requires { ⌜ SomeRules (now rules) (now index) ⌝ }
+    ensures { λ r. ⌜ ((rs : List Rule) (l : Label) (said : List ℕ) → rulesOf (now (rules .entry)) ≡ some rs → Puts r l at (now (out .entry)) (now (out .exit)) (turnBy (callAct bracketed last) said (bracedOut (inside rs mode env indent) kind (now (s .entry)) l) (carrying false l))) ⌝ }
+{
+    let p = put_call_open(out, at, bracketed);
+    let a = put_braced(out, p, kind, s, rules, index, mode, env, indent);
+    if a.refusal != 0 {
+        return a;
+    }
+    let q = put_behind(out, a.at, call_act(bracketed, last));
+    TokenPut {
+        at: q,
+        flag: a.flag,
+        refusal: 0,
+    }
+}
+
+// The children of a call, its name among them: its arguments in brackets, or separated by commas, and what stands behind them.
+fn put_arguments(
+    out: &mut [u8],
+    at: usize,
+    bracketed: bool,
+    rows: &[u8],
+    text: &[u8],
+    rules: &[u8],
+    index: &[u32],
+    mode: LaTeXMode,
+    env: LaTeXEnv,
+    indent: usize,
+) -> NodePut
+    requires { ⌜ (at ≤ cap) × (length (now out) ≤ cap) ⌝ }
+    requires { ⌜ SomeRules (now rules) (now index) ⌝ }
+    requires { ⌜ NodeGiven (now rows) (now text) × Call (now rows) ⌝ }
+    ensures { λ r. ⌜ ((rs : List Rule) → rulesOf (now (rules .entry)) ≡ some rs → Nodes (callArm bracketed) (inside rs mode env indent) (now (rows .entry)) (now (text .entry)) at (now (out .entry)) r (now (out .exit)) × (r .taken ≡ true)) ⌝ }
+{
+    let mut w = at;
+    let mut i = 8;
+    let mut j = mitex_syntax::number(rows, 0);
+    while i < rows.len() {
+        let a = j + mitex_syntax::number(rows, i + 16);
+        let b = a + mitex_syntax::number(rows, i + 24);
+        let u = b + mitex_syntax::number(rows, i + 32);
+        let kind = rows[i + 24];
+        let last = i + 40 == rows.len();
+        let s = &text[a..b];
+        let t = put_given(
+            out,
+            w,
+            bracketed,
+            last,
+            kind,
+            s,
+            rules,
+            index,
+            mode,
+            env,
+            indent,
+        );
+        if t.refusal != 0 {
+            return node_put(true, at, t.refusal, 4 + i / 8);
+        }
+        w = t.at;
+        i += 40;
+        j = u;
+    }
+    let p = put_call_end(out, w, bracketed);
+    node_put(true, p, 0, 0)
+}
+
+// A call by its rule, with arguments as in Math or as content; any other command is left to the converter.
+fn put_normal<'a>(
     out: &mut [u8],
     at: usize,
     rows: &[u8],
     text: &[u8],
-    rules: &[u8],
+    rules: &'a [u8],
+    index: &[u32],
+    mode: LaTeXMode,
+    env: LaTeXEnv,
+    indent: usize,
+    name: &'a [u8],
+) -> NodePut
+    requires { ⌜ (at ≤ cap) × (length (now out) ≤ cap) ⌝ }
+    requires { ⌜ SomeRules (now rules) (now index) ⌝ }
+    requires { ⌜ NodeGiven (now rows) (now text) × Call (now rows) ⌝ }
+    ensures { λ r. ⌜ ((rs : List Rule) → rulesOf (now (rules .entry)) ≡ some rs → Nodes (normalCommand (now (name .entry))) (inside rs mode env indent) (now (rows .entry)) (now (text .entry)) at (now (out .entry)) r (now (out .exit))) ⌝ }
+{
+    let found = mitex_spec::get_cmd(rules, index, name);
+    if is_absent(found) {
+        return node_put(true, at, 9, 0);
+    }
+    let written = mitex_spec::written_name(rules, name, found);
+    if is_stack(mode, name, written) {
+        return node_put(false, at, 0, 0);
+    }
+    let takes = arguments_of(class_of(found), mode, name, written);
+    match takes {
+        Arguments::NoArguments => node_put(false, at, 0, 0),
+        Arguments::GreedyArgument => node_put(false, at, 0, 0),
+        Arguments::MathArguments => {
+            let p = put_typst_name(out, at, mode, name, written);
+            let q = text::put_byte(out, p, b'(');
+            put_arguments(out, q, false, rows, text, rules, index, mode, env, indent)
+        }
+        Arguments::TextArguments => {
+            let m = LaTeXMode::Text;
+            let p = put_typst_name(out, at, mode, name, written);
+            put_arguments(out, p, true, rows, text, rules, index, m, env, indent)
+        }
+    }
+}
+
+// `\item`
+fn put_list_item(out: &mut [u8], at: usize, env: LaTeXEnv, indent: usize) -> NodePut
+    requires { ⌜ (at ≤ cap) × (length (now out) ≤ cap) ⌝ }
+    ensures { λ r. ⌜ ((x : Context) → x .env ≡ env → x .indent ≡ indent → (rows text : List ℕ) → Nodes itemArm x rows text at (now (out .entry)) r (now (out .exit))) ⌝ }
+{
+    let mark = mark_of(env);
+    if mark == 0 {
+        return node_put(true, at, 11, 0);
+    }
+    let p = put_item(out, at, indent, mark);
+    node_put(true, p, 0, 0)
+}
+
+// A command, if it is `\item` or a call by its rule.
+fn put_command<'a>(
+    out: &mut [u8],
+    at: usize,
+    rows: &[u8],
+    text: &'a [u8],
+    rules: &'a [u8],
+    index: &[u32],
+    mode: LaTeXMode,
+    env: LaTeXEnv,
+    indent: usize,
+) -> NodePut
+    requires { ⌜ (at ≤ cap) × (length (now out) ≤ cap) ⌝ }
+    requires { ⌜ SomeRules (now rules) (now index) ⌝ }
+    requires { ⌜ NodeGiven (now rows) (now text) ⌝ }
+    ensures { λ r. ⌜ ((rs : List Rule) → rulesOf (now (rules .entry)) ≡ some rs → Nodes command (inside rs mode env indent) (now (rows .entry)) (now (text .entry)) at (now (out .entry)) r (now (out .exit))) ⌝ }
+{
+    if !is_call(rows) {
+        return node_put(false, at, 0, 0);
+    }
+    let a = mitex_syntax::number(rows, 0);
+    let name = mitex_loops::past_first(&text[..a]);
+    let command = command_of(name);
+    match command {
+        Command::Item => put_list_item(out, at, env, indent),
+        Command::Label => node_put(false, at, 0, 0),
+        Command::IncludeGraphics => node_put(false, at, 0, 0),
+        Command::Array => node_put(false, at, 0, 0),
+        Command::Color => node_put(false, at, 0, 0),
+        Command::ColorArguments => node_put(false, at, 0, 0),
+        Command::Normal => put_normal(out, at, rows, text, rules, index, mode, env, indent, name),
+    }
+}
+
+// A node, if it is one that needs no converter.
+fn put_node<'a>(
+    out: &mut [u8],
+    at: usize,
+    kind: u8,
+    rows: &[u8],
+    text: &'a [u8],
+    rules: &'a [u8],
+    index: &[u32],
+    mode: LaTeXMode,
+    env: LaTeXEnv,
+    indent: usize,
+) -> NodePut
+    requires { ⌜ (at ≤ cap) × (length (now out) ≤ cap) ⌝ }
+    requires { ⌜ SomeRules (now rules) (now index) ⌝ }
+    requires { ⌜ NodeGiven (now rows) (now text) ⌝ }
+    ensures { λ r. ⌜ ((rs : List Rule) → rulesOf (now (rules .entry)) ≡ some rs → Nodes (armBy (elementOf kind)) (inside rs mode env indent) (now (rows .entry)) (now (text .entry)) at (now (out .entry)) r (now (out .exit))) ⌝ }
+{
+    match kind {
+        ITEM_ATTACH_COMPONENT => put_attachment(out, at, rows, text, mode),
+        ITEM_CMD => put_command(out, at, rows, text, rules, index, mode, env, indent),
+        _ => node_put(false, at, 0, 0),
+    }
+}
+
+// Whether a node of this kind may be one that needs no converter.
+fn may_be_put(kind: u8) -> bool
+    ensures { λ r. ⌜ (r ≡ true → isEnds kind ≡ false) ⌝ }
+{
+    match kind {
+        ITEM_ATTACH_COMPONENT => true,
+        ITEM_CMD => true,
+        _ => false,
+    }
+}
+
+// The node that these rows begin with, in a steady loop; no rows where it is left to the converter.
+fn put_element<'a>(
+    out: &mut [u8],
+    at: usize,
+    rows: &[u8],
+    text: &'a [u8],
+    rules: &'a [u8],
+    index: &[u32],
+    mode: LaTeXMode,
+    env: LaTeXEnv,
+    indent: usize,
+    flag: bool,
+    how: Loop,
+) -> Run
+    requires { ⌜ (at ≤ cap) × (length (now out) ≤ cap) ⌝ }
+    requires { ⌜ SomeRules (now rules) (now index) ⌝ }
+    requires { ⌜ RunGiven (now rows) (now text) how × (getD (now rows) 1 0 ≡ 1 → ⊥) ⌝ }
+    requires { ⌜ isSteady how ≡ true ⌝ }
+    ensures { λ r. ⌜ ((rs : List Rule) → rulesOf (now (rules .entry)) ≡ some rs → Passes (inside rs mode env indent) flag how (now (rows .entry)) (now (text .entry)) at (now (out .entry)) r (now (out .exit))) ⌝ }
+{
+    let kind = rows[0];
+    if !may_be_put(kind) {
+        return ran(0, 0, at, flag, how, 0);
+    }
+    let s = mitex_syntax::span_at(rows, 0);
+    let e = s.rows;
+    let u = s.text;
+    let below = &rows[8..e];
+    let r = put_node(
+        out,
+        at,
+        kind,
+        below,
+        &text[..u],
+        rules,
+        index,
+        mode,
+        env,
+        indent,
+    );
+    if !r.taken {
+        return ran(0, 0, at, flag, how, 0);
+    }
+    if r.refusal != 0 {
+        return ran(8 * r.row, 0, at, flag, how, r.refusal);
+    }
+    ran(e, u, r.at, false, how, 0)
+}
+
+// What these rows begin with, in a steady loop: words and white space, another token, or a node.
+fn put_part<'a>(
+    out: &mut [u8],
+    at: usize,
+    rows: &[u8],
+    text: &'a [u8],
+    rules: &'a [u8],
+    index: &[u32],
+    mode: LaTeXMode,
+    env: LaTeXEnv,
+    indent: usize,
+    flag: bool,
+    how: Loop,
+) -> Run
+    requires { ⌜ (at ≤ cap) × (length (now out) ≤ cap) ⌝ }
+    requires { ⌜ SomeRules (now rules) (now index) ⌝ }
+    requires { ⌜ RunGiven (now rows) (now text) how ⌝ }
+    requires { ⌜ isSteady how ≡ true ⌝ }
+    ensures { λ r. ⌜ ((rs : List Rule) → rulesOf (now (rules .entry)) ≡ some rs → Passes (inside rs mode env indent) flag how (now (rows .entry)) (now (text .entry)) at (now (out .entry)) r (now (out .exit))) ⌝ }
+{
+    if rows[1] != 1 {
+        return put_element(
+            out,
+            at,
+            rows,
+            text,
+            rules,
+            index,
+            mode,
+            env,
+            indent,
+            flag,
+            how,
+        );
+    }
+    let kind = rows[0];
+    if copies(mode, flag, kind) {
+        return put_copied(out, at, rows, text, how);
+    }
+    let u = mitex_syntax::number(rows, 0);
+    let s = &text[..u];
+    let t = put_next(out, at, kind, s, rules, index, mode, env, indent, flag);
+    if t.refusal != 0 {
+        return ran(0, 0, at, flag, how, t.refusal);
+    }
+    ran(8, u, t.at, t.flag, how, 0)
+}
+
+// Tokens up to the next node that is left to the converter, in a steady loop.
+fn put_run<'a>(
+    out: &mut [u8],
+    at: usize,
+    rows: &[u8],
+    text: &'a [u8],
+    rules: &'a [u8],
     index: &[u32],
     mode: LaTeXMode,
     env: LaTeXEnv,
@@ -641,28 +1116,29 @@ fn put_run(
     let mut i = 0;
     let mut j = 0;
     while i < rows.len() {
-        if rows[i + 1] != 1 {
+        let r = put_part(
+            out,
+            w,
+            &rows[i..],
+            &text[j..],
+            rules,
+            index,
+            mode,
+            env,
+            indent,
+            f,
+            how,
+        );
+        if r.refusal != 0 {
+            return ran(i + r.rows, j, w, f, how, r.refusal);
+        }
+        if r.rows == 0 {
             return ran(i, j, w, f, how, 0);
         }
-        let kind = rows[i];
-        if copies(mode, f, kind) {
-            let r = put_copied(out, w, &rows[i..], &text[j..], how);
-            w = r.at;
-            f = false;
-            i += r.rows;
-            j += r.text;
-            continue;
-        }
-        let u = j + mitex_syntax::number(rows, i);
-        let s = &text[j..u];
-        let t = put_next(out, w, kind, s, rules, index, mode, env, indent, f);
-        if t.refusal != 0 {
-            return ran(i, j, w, f, how, t.refusal);
-        }
-        w = t.at;
-        f = t.flag;
-        i += 8;
-        j = u;
+        w = r.at;
+        f = r.flag;
+        i += r.rows;
+        j += r.text;
     }
     ran(i, j, w, f, how, 0)
 }
@@ -712,44 +1188,15 @@ fn put_one(
     ran(8, u, t.at, t.flag, next, 0)
 }
 
-// Whether the rows begin with an argument in braces that holds one token, like `{x}`.
-fn is_braced(rows: &[u8]) -> bool
-    requires { ⌜ 8 ≤ length (now rows) ⌝ }
-    ensures { λ r. ⌜ (r ≡ true → Braced (now (rows .entry))) ⌝ }
+// Whether what is converted without the converter stands at row byte `i`: a token, or one in braces as an argument.
+pub fn begins_run(rows: &[u8], i: usize) -> bool
+    requires { ⌜ (i + 8 ≤ length (now rows)) × (length (now rows) < cap) ⌝ }
+    ensures { λ r. ⌜ (r ≡ true → BeginsRun (drop i (now (rows .entry)))) ⌝ }
 {
-    if rows[0] != CLAUSE_ARGUMENT {
-        return false;
-    }
-    if rows.len() < 40 {
-        return false;
-    }
-    if mitex_syntax::number(rows, 0) != 4 {
-        return false;
-    }
-    if mitex_syntax::number(rows, 8) != 3 {
-        return false;
-    }
-    if rows[8] != ITEM_CURLY {
-        return false;
-    }
-    if rows[16] != TOKEN_LBRACE {
-        return false;
-    }
-    if rows[32] != TOKEN_RBRACE {
-        return false;
-    }
-    rows[25] == 1
-}
-
-// Whether the rows begin with what is converted without the converter: a token, or one in braces as an argument.
-pub fn begins_run(rows: &[u8]) -> bool
-    requires { ⌜ 8 ≤ length (now rows) ⌝ }
-    ensures { λ r. ⌜ (r ≡ true → BeginsRun (now (rows .entry))) ⌝ }
-{
-    if rows[1] == 1 {
+    if rows[i + 1] == 1 {
         return true;
     }
-    is_braced(rows)
+    is_braced(&rows[i..])
 }
 
 // An argument in braces that holds one token, by what the loop does with it: its five rows are the argument, the group, the brace, the
@@ -801,12 +1248,12 @@ fn put_argument(
 }
 
 // Tokens behind each other, the first of these rows among them: a run in a steady loop, the first alone in any other.
-fn put_tokens(
+fn put_tokens<'a>(
     out: &mut [u8],
     at: usize,
     rows: &[u8],
-    text: &[u8],
-    rules: &[u8],
+    text: &'a [u8],
+    rules: &'a [u8],
     index: &[u32],
     mode: LaTeXMode,
     env: LaTeXEnv,
@@ -851,12 +1298,12 @@ fn put_tokens(
 
 // Tokens behind each other, an argument like `{x}` among them: the first of these rows and those that go with it, as the converter
 // stands.
-pub fn convert_tokens(
+pub fn convert_tokens<'a>(
     out: &mut [u8],
     at: usize,
     rows: &[u8],
-    text: &[u8],
-    rules: &[u8],
+    text: &'a [u8],
+    rules: &'a [u8],
     index: &[u32],
     c: Converter,
     how: Loop,

@@ -23,7 +23,8 @@ use Rattle.mitex_state.specs.declared.ModelPart.{ModelPart}
 use Rattle.mitex_plans.specs.Plans.{ColorGiven}
 use Rattle.mitex.specs.Walks.{Room, Siblings}
 use Rattle.mitex.proofs.Rooms.{siblings-forest}
-use Rattle.mitex.proofs.Commanding.{body-number, arguments-number, command-is, colors-how}
+use Rattle.mitex_commands.proofs.Ruling.{command-is}
+use Rattle.mitex.proofs.Commanding.{body-number, arguments-number, colors-how}
 use borrow.Author.Needs.{needs}
 use Rattle.mitex.proofs.command.Reads as self
 use Rattle.mitex.proofs.+body+command+convert+convert_clause_lr+convert_command_color+convert_curly_group+convert_env+convert_env_figure+convert_env_table+convert_formula+convert_normal_command+each+turn+twice+walk.Lts-command as lts

@@ -1,10 +1,11 @@
 -- The needs of `each`.
-use mathlib.Core.Path.{_∙_}
+use mathlib.Core.Path.{sym, subst, _∙_}
 use lib.ListN.{length}
 use Prim.Native.Nat.{ℕ, _+_, _-_, _≤_, _<_}
 use Rattle.mitex.proofs.Walking.{Looping, Child, looping-start, loop-room, loop-row, child-spans, child, child-given, child-behind, loop-refused, loop-next, run-given, run-high, run-stop, run-some, run-refused, run-next, loop-done}
 use native.Mathlib.Omega.{arith}
-use Rattle.text.proofs.Writing.{rest-length}
+use Rattle.text.proofs.Writing.{part-rest}
+use Rattle.mitex_tokens.specs.Runs.{BeginsRun}
 use borrow.Author.Needs.{needs}
 use Rattle.mitex.proofs.each.Reads as self
 use Rattle.mitex.proofs.+body+command+convert+convert_clause_lr+convert_command_color+convert_curly_group+convert_env+convert_env_figure+convert_env_table+convert_formula+convert_normal_command+each+turn+twice+walk.Lts-each as lts
@@ -28,7 +29,7 @@ entry t c = let known = c .before .before .before .before .before in known .befo
 abbrev looked :
     (t : ℕ) → lts.After-begins-run (calls t) (pre-at t) self.Post each-Inv-loop each-μ-loop
     → lts.In-loop (calls t) (pre-at t) self.Post each-Inv-loop each-μ-loop
-looked t c = c .before .before
+looked t c = c .before
 
 -- a place in a turn of the loop, behind the measuring of the child
 abbrev Here : ℕ → Type 0
@@ -78,21 +79,10 @@ each-loop-holds t c =
     let start = c .before .before .before .before .before in
     looping-start (start .pre .1 .0) (start .pre .1 .1 .0) (start .pre .1 .1 .1 .0) (start .pre .1 .1 .1 .1)
 
-each-sub-begins-run : (t : ℕ) → lts.Need-sub-begins-run (calls t) (pre-at t) self.Post each-Inv-loop each-μ-loop
-each-sub-begins-run t c = omega (arith, c .loop-test .taken)
-
-each-part-begins-run-start : (t : ℕ) → lts.Need-part-begins-run-start (calls t) (pre-at t) self.Post each-Inv-loop each-μ-loop
-each-part-begins-run-start t c = omega (arith, c .loop-test .taken)
-
-each-part-begins-run-end : (t : ℕ) → lts.Need-part-begins-run-end (calls t) (pre-at t) self.Post each-Inv-loop each-μ-loop
-each-part-begins-run-end t c = omega arith
-
 each-begins-run-requires : (t : ℕ) → lts.Need-begins-run-requires (calls t) (pre-at t) self.Post each-Inv-loop each-μ-loop
 each-begins-run-requires t c κs =
-    let in-loop = c .before in
-    let at-loop = in-loop .before in
-    omega
-    (arith, rest-length (entry t at-loop .args .rows .now) (at-loop .loop .i), loop-row (at-loop .loop .inv) (in-loop .loop-test .taken))
+    let at-loop = c .before in
+    (loop-row (at-loop .loop .inv) (c .loop-test .taken), at-loop .loop .inv .room .few)
 
 each-sub-convert-tokens : (t : ℕ) → lts.Need-sub-convert-tokens (calls t) (pre-at t) self.Post each-Inv-loop each-μ-loop
 each-sub-convert-tokens t c =
@@ -129,7 +119,11 @@ each-convert-tokens-requires t c κs =
       (at-loop .loop .inv .stands .place, loop-room (at-loop .loop .inv)),
       (
         at-loop .loop .inv .some-rules,
-        (run-given (at-loop .loop .inv) (in-loop .loop-test .taken), at-if1 .before .begins-run .ensures (at-if1 .if1 .taken)),
+        (
+          run-given (at-loop .loop .inv) (in-loop .loop-test .taken),
+          subst BeginsRun (sym (part-rest (entry t at-loop .args .rows .now) (at-loop .loop .i)))
+              (at-if1 .before .begins-run .ensures (at-if1 .if1 .taken)),
+        ),
       ),
     )
 
@@ -331,9 +325,6 @@ each-closed t =
     each-Inv-loop
     each-μ-loop
     (each-loop-holds t)
-    (each-sub-begins-run t)
-    (each-part-begins-run-start t)
-    (each-part-begins-run-end t)
     (each-begins-run-requires t)
     (each-sub-convert-tokens t)
     (each-part-convert-tokens-start t)

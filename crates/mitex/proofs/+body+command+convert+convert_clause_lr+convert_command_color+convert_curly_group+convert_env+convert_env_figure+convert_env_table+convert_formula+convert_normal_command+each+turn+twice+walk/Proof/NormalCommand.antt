@@ -13,7 +13,8 @@ use Rattle.mitex_syntax.specs.Tree.{Forest}
 use Rattle.mitex_commands.specs.Leaves.{classOf}
 use Rattle.mitex_state.specs.Outcome.{after}
 use Rattle.mitex_state.specs.Commands.{argumentsOf, typstName, normalCommand}
-use Rattle.mitex.proofs.Commanding.{normal-absent, normal-found, normal-written, arguments-missing, arguments-taken}
+use Rattle.mitex_commands.proofs.Ruling.{normal-absent, normal-found}
+use Rattle.mitex.proofs.Commanding.{normal-written, arguments-missing, arguments-taken}
 use native.Mathlib.Omega.{arith}
 use borrow.Author.Needs.{needs}
 use Prim.Native.Nat.{ℕ}
