@@ -421,6 +421,15 @@ impl Maker {
         node(ItemCurly, children)
     }
 
+    /// One token in braces, like `{x}`.
+    fn held(&mut self) -> Made {
+        let inside = self.element(0);
+        node(
+            ItemCurly,
+            vec![token(TokenLBrace, "{"), inside, token(TokenRBrace, "}")],
+        )
+    }
+
     fn argument(&mut self, depth: usize) -> Made {
         let inner = match self.random.below(8) {
             0 => {
@@ -431,6 +440,7 @@ impl Maker {
             }
             1 => self.some(3, depth),
             2 => vec![self.word()],
+            3..=4 => vec![self.held()],
             _ => vec![self.curly(depth)],
         };
         node(ClauseArgument, inner)
@@ -568,12 +578,20 @@ impl Maker {
     }
 
     fn attached(&mut self, depth: usize) -> Made {
-        let mut children = self.some(2, depth);
+        // now and then two words, like `x^2`
+        let plain = self.random.chance(400);
+        let mut children = match plain {
+            true => vec![self.word()],
+            false => self.some(2, depth),
+        };
         let (kind, text) = *self
             .random
             .pick(&[(TokenCaret, "^"), (TokenUnderscore, "_")]);
         children.push(token(kind, text));
-        children.extend(self.some(3, depth));
+        match plain {
+            true => children.push(self.word()),
+            false => children.extend(self.some(3, depth)),
+        }
         node(ItemAttachComponent, children)
     }
 
