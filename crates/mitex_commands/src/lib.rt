@@ -44,7 +44,7 @@ use mitex_syntax::SCOPE_ROOT;
 use mitex_syntax::TOKEN_ERROR;
 
 // `\item` stands where the environment is no list.
-const NO_LIST: u8 = 11;
+pub const NO_LIST: u8 = 11;
 
 // A label is too long to be held.
 const LONG_LABEL: u8 = 14;

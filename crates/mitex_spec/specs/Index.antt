@@ -79,8 +79,8 @@ pub record SomeRule (file index : List ℕ) (k : ℕ) : Type 0 where
   pub numbered : Numbered file index
   pub few : k < length (numbered .rules)
 
--- what a look-up asks, and the check establishes (`checked-rules`, proofs/Index.antt): the index begins with the offsets of
--- these rules, and the table stands where it begins
+-- what a look-up asks, and the check establishes (`checked-rules`, proofs/Index.antt): the file has these rules, the index
+-- begins with their offsets, and from `firstsAt` on it has the table
 pub record Ready (file index : List ℕ) (rules : List Rule) : Type 0 where
   pub decodes : rulesOf file ≡ some rules
   pub holds : take (length rules) index ≡ offsetsFrom 0 rules

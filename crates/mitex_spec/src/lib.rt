@@ -25,7 +25,7 @@ const FILE_MOST: usize = 65536;
 
 const NO_ALIAS: usize = 65535;
 
-// The places of an index: where each name begins, of at most 8,191, and a table of 257.
+// The places of an index: 8,192 for where names begin, of which there are at most 8,191, and a table of 257.
 pub const INDEX_SIZE: usize = 8449;
 
 // Where the table of first bytes begins in the index.

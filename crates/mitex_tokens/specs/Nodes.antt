@@ -1,5 +1,5 @@
--- Nodes that are worked out with the tokens, without the converter: an attachment like `x^2` in Math, and a command whose arguments are
--- all like `{x}`.
+-- Nodes that are worked out with the tokens, without the converter: an attachment like `x^2` in Math, a call by its rule whose arguments
+-- are all like `{x}`, and `\item`.
 use mathlib.Core.Path.{_≡_}
 use mathlib.Core.Bool.{Bool, true, false, cond}
 use mathlib.Core.List.{List, []}
@@ -60,7 +60,7 @@ abbrev pub callEnd : Bool → List ℕ
 callEnd true = semicolon
 callEnd false = rightParen
 
--- with an argument, the last or not
+-- what the loop does with an argument, by whether it is the last
 abbrev pub callAct : Bool → Bool → Act
 callAct true last = InBrackets
 callAct false last = cond last Convert ThenComma
@@ -84,7 +84,8 @@ pub record Written (arm : Arm) (x : Context) (f : Forest) (n : ℕ) (at : ℕ) (
   pub is : (l : Label) → arm (convert n) x f (carrying false l) ≡ done (carrying false l) written
 
 -- by the arm of the node: it is left to the converter, with nothing written; or it is refused or written as the definitions say, whatever
--- children are spelt and whatever label is held, at every level that is high enough
+-- children are spelt and whatever label is held, at every level that is high enough. To leave a node is always allowed: it costs time, and
+-- the converter does it
 pub record Nodes (arm : Arm) (x : Context) (rows text : List ℕ) (at : ℕ) (out : List ℕ) (r : NodePut) (out′ : List ℕ) : Type 0 where
   pub leaves : r .taken ≡ false → out′ ≡ out
   pub high : 8 * r .row ≤ length rows

@@ -1,5 +1,5 @@
--- Tokens that stand one behind the other, as children in a loop, and a token in braces: they are worked out without the converter, whose
--- label none of them touches.
+-- Tokens that stand one behind the other, as children in a loop, the nodes of Nodes.antt among them, and a token in braces: they are
+-- worked out without the converter, whose label none of them touches.
 use mathlib.Core.Path.{_≡_}
 use mathlib.Core.Bool.{Bool, false}
 use mathlib.Core.List.{List}
@@ -56,8 +56,8 @@ pub record Copies (how : Loop) (rows text : List ℕ) (at : ℕ) (out : List ℕ
       (x : Context) → x .mode ≡ Text → (f : Forest) (n : ℕ) → SpellsAll f rows text → sizes f ≤ n
       → Gone x false how f n rows text at out r out′
 
--- what is promised: a run of at least one token, or the refusal of a token, which stands so many rows behind; whatever elements are spelt, at every level
--- that is high enough
+-- what is promised: a run of at least one element, or a refusal, of an element that stands so many rows behind; whatever elements are
+-- spelt, at every level that is high enough
 pub record Runs (x : Context) (flag : Bool) (how : Loop) (rows text : List ℕ) (at : ℕ) (out : List ℕ) (r : Run) (out′ : List ℕ) : Type 0 where
   pub high : r .rows ≤ length rows
   pub stop : r .text ≤ length text

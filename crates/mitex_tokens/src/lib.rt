@@ -1,4 +1,5 @@
-// What a token writes: a leaf of the converter, since a token has no children.
+// What a token writes: a leaf of the converter, since a token has no children. And what nodes with tokens alone below them come to:
+// attachments like `x^2`, calls like `\frac{x}{y}`, `\item`.
 ghost use mathlib.Core.Path.{_≡_};
 ghost use mathlib.Core.Bool.{Bool, true, false};
 ghost use mathlib.Core.Option.Option.{some};
@@ -28,6 +29,7 @@ ghost use Rattle.mitex_state.specs.Groups.{attachComponent};
 ghost use Rattle.mitex_state.specs.Commands.{normalCommand, command};
 ghost use Rattle.mitex_state.specs.Conversion.{elementOf, armBy};
 ghost use Rattle.mitex_state.specs.declared.LaTeXMode.the-variants.{Text, Math};
+use mitex_commands::NO_LIST;
 use mitex_commands::arguments_of;
 use mitex_commands::class_of;
 use mitex_commands::command_of;
@@ -495,8 +497,8 @@ pub fn convert_token(
     settled(a, row, c)
 }
 
-// Tokens behind each other, as children in a loop: how many bytes of rows and of text they have, the next place, the flag and the loop's
-// state behind them, with refusal 0; or a refusal, of the token that stands behind them.
+// Tokens and nodes behind each other, as children in a loop: how many bytes of rows and of text they have, the next place, the flag and
+// the loop's state behind them, with refusal 0; or a refusal, and how many bytes of rows stand before the element that is refused.
 pub struct Run {
     pub rows: usize,
     pub text: usize,
@@ -644,7 +646,7 @@ pub struct NodePut {
     pub row: usize,
 }
 
-// A node up to here.
+// The answer of a node.
 fn node_put(taken: bool, at: usize, refusal: u8, row: usize) -> NodePut
     ensures { λ r. ⌜ r ≡ nodeOf taken at refusal row ⌝ }
 {
@@ -785,8 +787,8 @@ fn put_call_end(out: &mut [u8], at: usize, bracketed: bool) -> usize
     text::put_byte(out, at, b')')
 }
 
-// A token in braces, as an argument of a call.
-fn put_given(
+// A token in braces, as an argument of a call: its turn, for the three acts of such a loop alone.
+fn put_call_argument(
     out: &mut [u8],
     at: usize,
     bracketed: bool,
@@ -844,7 +846,7 @@ fn put_arguments(
         let kind = rows[i + 24];
         let last = i + 40 == rows.len();
         let s = &text[a..b];
-        let t = put_given(
+        let t = put_call_argument(
             out,
             w,
             bracketed,
@@ -868,7 +870,8 @@ fn put_arguments(
     node_put(true, p, 0, 0)
 }
 
-// A call by its rule, with arguments as in Math or as content; any other command is left to the converter.
+// A call by its rule, with arguments as in Math or as content. A name that has no rule is refused; any other command is left to the
+// converter.
 fn put_normal<'a>(
     out: &mut [u8],
     at: usize,
@@ -918,7 +921,7 @@ fn put_list_item(out: &mut [u8], at: usize, env: LaTeXEnv, indent: usize) -> Nod
 {
     let mark = mark_of(env);
     if mark == 0 {
-        return node_put(true, at, 11, 0);
+        return node_put(true, at, NO_LIST, 0);
     }
     let p = put_item(out, at, indent, mark);
     node_put(true, p, 0, 0)
@@ -1091,7 +1094,7 @@ fn put_part<'a>(
     ran(8, u, t.at, t.flag, how, 0)
 }
 
-// Tokens up to the next node that is left to the converter, in a steady loop.
+// Tokens and nodes up to the next node that is left to the converter, in a steady loop.
 fn put_run<'a>(
     out: &mut [u8],
     at: usize,
@@ -1247,7 +1250,8 @@ fn put_argument(
     ran(40, u, t.at, t.flag, next, 0)
 }
 
-// Tokens behind each other, the first of these rows among them: a run in a steady loop, the first alone in any other.
+// Tokens behind each other, the first of these rows among them: in a steady loop a run, with the nodes in it; in any other the first
+// alone.
 fn put_tokens<'a>(
     out: &mut [u8],
     at: usize,
@@ -1296,8 +1300,8 @@ fn put_tokens<'a>(
     )
 }
 
-// Tokens behind each other, an argument like `{x}` among them: the first of these rows and those that go with it, as the converter
-// stands.
+// Tokens behind each other, nodes like `x^2` and arguments like `{x}` among them: the first of these rows and those that go with it, as
+// the converter stands.
 pub fn convert_tokens<'a>(
     out: &mut [u8],
     at: usize,

@@ -40,7 +40,7 @@ start c =
 abbrev turn : tie.After-number4 Inv-loop μ-loop → tie.In-loop Inv-loop μ-loop
 turn c = c .before .before .before
 
-abbrev read : tie.After-put-given Inv-loop μ-loop → tie.After-number4 Inv-loop μ-loop
+abbrev read : tie.After-put-call-argument Inv-loop μ-loop → tie.After-number4 Inv-loop μ-loop
 read c = c .before .before .before .before
 
 -- how far the loop has gone, by the rules that are given
@@ -159,8 +159,8 @@ part-s-end c =
     let d = c .before in
     omega (arith, text-here (turn d), d .before .before .number2 .ensures .0, d .before .number3 .ensures .0)
 
-put-given-requires : tie.Need-put-given-requires Inv-loop μ-loop
-put-given-requires c κs =
+put-call-argument-requires : tie.Need-put-call-argument-requires Inv-loop μ-loop
+put-call-argument-requires c κs =
     let l = turn (c .before .before .before) .before in
     let p = start l .pre in
     let g = node-run (p .1 .1 .0) (p .1 .1 .1 .some) (start l .args .bracketed) in
@@ -179,7 +179,7 @@ same-length c =
     let h = c .before .before .before .before .before in
     let l = turn (read h) .before in
     let p = start l .pre in
-    h .put-given .kept .0 ∙ ran-long (node-run (p .1 .1 .0) (p .1 .1 .1 .some) (start l .args .bracketed)) (here l)
+    h .put-call-argument .kept .0 ∙ ran-long (node-run (p .1 .1 .0) (p .1 .1 .1 .some) (start l .args .bracketed)) (here l)
 
 returns : tie.Need-returns Inv-loop μ-loop
 returns c =
@@ -189,7 +189,7 @@ returns c =
     let p = start l .pre in
     λ rs e. (
       nodes-as (c .node-put .ensures)
-          (call-refused (p .1 .1 .0) (p .1 .1 .1) _ (start l .args .bracketed) _ _ (p .0 .0) (p .0 .1) (l .loop .inv .1 rs e) (turn d .loop-test .taken) (l .loop .inv .0) _ refl _ (said d) (λ c said. h .put-given .ensures rs c said e) (c .before .if1 .taken)),
+          (call-refused (p .1 .1 .0) (p .1 .1 .1) _ (start l .args .bracketed) _ _ (p .0 .0) (p .0 .1) (l .loop .inv .1 rs e) (turn d .loop-test .taken) (l .loop .inv .0) _ refl _ (said d) (λ c said. h .put-call-argument .ensures rs c said e) (c .before .if1 .taken)),
       ap (λ (y : NodePut). y .taken) (c .node-put .ensures),
     )
 
@@ -220,7 +220,7 @@ loop-again c =
     ) in (
       argument-behind (p .1 .1 .0) (p .1 .1 .1) _ (start l .args .bracketed) _ _ (p .0 .0) (p .0 .1) (here l) (turn d .loop-test .taken) (l .loop .inv .0),
       λ rs e.
-          ran-argument (p .1 .1 .0) (p .1 .1 .1) _ (start l .args .bracketed) _ _ (p .0 .0) (p .0 .1) (l .loop .inv .1 rs e) (turn d .loop-test .taken) (l .loop .inv .0) _ refl _ (said d) (λ c said. h .put-given .ensures rs c said e) (c .if1 .left) _ ends,
+          ran-argument (p .1 .1 .0) (p .1 .1 .1) _ (start l .args .bracketed) _ _ (p .0 .0) (p .0 .1) (l .loop .inv .1 rs e) (turn d .loop-test .taken) (l .loop .inv .0) _ refl _ (said d) (λ c said. h .put-call-argument .ensures rs c said e) (c .if1 .left) _ ends,
     )
 
 put-call-end-requires : tie.Need-put-call-end-requires Inv-loop μ-loop
@@ -275,7 +275,7 @@ put-arguments-spec =
     sub-s
     part-s-start
     part-s-end
-    put-given-requires
+    put-call-argument-requires
     add-node-put
     node-put-requires
     same-length

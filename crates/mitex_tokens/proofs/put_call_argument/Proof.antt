@@ -1,4 +1,4 @@
--- `mitex_tokens::put_given` meets its contract: what stands before the argument, its token, and what stands behind it.
+-- `mitex_tokens::put_call_argument` meets its contract: what stands before the argument, its token, and what stands behind it.
 use mathlib.Core.Path.{refl, subst}
 use mathlib.Core.Bool.{false}
 use mathlib.Core.List.{List, []}
@@ -16,8 +16,8 @@ use Rattle.mitex_tokens.specs.Nodes.{callAct}
 use Rattle.mitex_tokens.proofs.Putting.{puts-low, puts-refused, puts-around}
 use Rattle.mitex_tokens.proofs.Calling.{call-converts}
 use borrow.Author.Needs.{needs}
-use Rattle.mitex_tokens.proofs.put_given.Statement.{statement}
-use Rattle.mitex_tokens.proofs.put_given.Tie as tie
+use Rattle.mitex_tokens.proofs.put_call_argument.Statement.{statement}
+use Rattle.mitex_tokens.proofs.put_call_argument.Tie as tie
 
 -- the function's entry, and the token behind what stands before it
 abbrev start : tie.After-put-call-open → tie.Start
@@ -85,8 +85,8 @@ returns-2 c =
     (subst (λ (y : Act). Wrote (h .put-braced .result .at) (h .put-braced .last .0) (behind y) (c .before .before .put-behind .result) (c .before .before .put-behind .last .0))
     (d .call-act .ensures) (c .before .before .put-behind .ensures)) refl refl refl
 
-pub put-given-spec : {M : Type 1} → statement M
-put-given-spec =
+pub put-call-argument-spec : {M : Type 1} → statement M
+put-call-argument-spec =
     tie.close
     (tie.spec
     put-call-open-requires
