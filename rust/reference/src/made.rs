@@ -421,7 +421,7 @@ impl Maker {
         node(ItemCurly, children)
     }
 
-    /// One token in braces, like `{x}`.
+    /// One element in braces, like `{x}`: a token but for faults.
     fn held(&mut self) -> Made {
         let inside = self.element(0);
         node(
@@ -578,7 +578,7 @@ impl Maker {
     }
 
     fn attached(&mut self, depth: usize) -> Made {
-        // now and then two words, like `x^2`
+        // in two of five two words, like `x^2`
         let plain = self.random.chance(400);
         let mut children = match plain {
             true => vec![self.word()],
