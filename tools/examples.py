@@ -1,5 +1,5 @@
 #!/usr/bin/env python3
-"""Writes the tables of worked conversions in crates/mitex_state/specs/Examples*.antt.
+"""Writes the tables of worked conversions in crates/mitex_meaning/specs/Examples*.antt.
 
 usage: tools/examples.py VECTORS
 
@@ -261,10 +261,10 @@ NAMES = [
     ("Rattle.text.specs.Ascii", ["ascii"]),
     ("Rattle.mitex_syntax.specs.Syntax", KINDS),
     ("Rattle.mitex_syntax.specs.Tree.Tree", ["token"]),
-    ("Rattle.mitex_state.specs.Examples", """Case case hold few usual rule ruleAs ruleBy writes over tok word name sym space break
+    ("Rattle.mitex_meaning.specs.Examples", """Case case hold few usual rule ruleAs ruleBy writes over tok word name sym space break
         newline comment ampersand dollar times curly bracket arg braced bracketed cmd env""".split()),
-    ("Rattle.mitex_state.specs.Examples.Answer", ["text", "refusal"]),
-    ("Rattle.mitex_state.specs.declared.LaTeXMode.the-variants", ["Text", "Math"]),
+    ("Rattle.mitex_meaning.specs.Examples.Answer", ["text", "refusal"]),
+    ("Rattle.mitex_meaning.specs.declared.LaTeXMode.the-variants", ["Text", "Math"]),
 ]
 
 

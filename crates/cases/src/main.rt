@@ -6,8 +6,8 @@ ghost use Prim.Native.Nat.{_+_, _≤_};
 ghost use lib.ListN.{length};
 ghost use Rattle.io.specs.Counts.{Counts};
 ghost use Rattle.cases.specs.Held.{bufferMost, Within, Held};
-use edit::Converted;
-use edit::Edited;
+use calls::Converted;
+use calls::Edited;
 use libc::STDIN_FILENO;
 use libc::STDOUT_FILENO;
 use text::put;
@@ -211,7 +211,7 @@ fn ask(input: &[u8], at: usize, c: Case, text: &mut [u8], ledger: &mut [u8]) -> 
     let tree = &input[t_from..t_to];
     let mode = input[at + 4];
     if read_u32(input, at) == 0 {
-        return converted(edit::convert(
+        return converted(calls::convert(
             mode,
             rules,
             tree,
@@ -221,7 +221,7 @@ fn ask(input: &[u8], at: usize, c: Case, text: &mut [u8], ledger: &mut [u8]) -> 
     }
     let block = read_u32(input, at + 8);
     let kept = read_u32(input, at + 12);
-    edited(edit::edit(
+    edited(calls::edit(
         mode,
         rules,
         tree,

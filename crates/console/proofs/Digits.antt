@@ -10,7 +10,7 @@ use borrow.Author.Tests.{ltb-true, ltb-false, leb-true, leb-false, lt-ltb, le-lt
 use lib.ListN.{length, drop, getD, drop-of-length-le}
 use lib.Seq.{drop-cons}
 use Rattle.text.proofs.Compare.{by-test}
-use Rattle.console.specs.Request.{numberEnd, withDigit, goesOn, numberFrom, numberOf}
+use Rattle.console.specs.Request.{numberEnd, withDigit, goesOn, numberFrom, numberSpelt}
 use Rattle.console.specs.declared.Spelt.the-variants.{Nothing as NoNumber, Number}
 
 -- ---- one digit
@@ -50,26 +50,26 @@ number-at :
 unfolding numberFrom
 number-at l n i h = rw (add-one, drop-cons l i 0 h)
 
-pub number-empty : (l : List ℕ) → length l ≡ 0 → NoNumber ≡ numberOf l
+pub number-empty : (l : List ℕ) → length l ≡ 0 → NoNumber ≡ numberSpelt l
 number-empty [] h = refl
 number-empty (x ∷ l) h = absurd (omega arith)
 
-pub number-starts : (l : List ℕ) → (length l ≡ 0 → ⊥) → numberOf l ≡ numberFrom 0 (drop 0 l)
+pub number-starts : (l : List ℕ) → (length l ≡ 0 → ⊥) → numberSpelt l ≡ numberFrom 0 (drop 0 l)
 number-starts [] h = absurd (h refl)
 number-starts (x ∷ l) h = refl
 
 pub number-next :
-    (l : List ℕ) (n i : ℕ) → i < length l → goesOn n (getD l i 0) ≡ true → numberOf l ≡ numberFrom n (drop i l)
-    → numberOf l ≡ numberFrom (withDigit n (getD l i 0)) (drop (i + 1) l)
+    (l : List ℕ) (n i : ℕ) → i < length l → goesOn n (getD l i 0) ≡ true → numberSpelt l ≡ numberFrom n (drop i l)
+    → numberSpelt l ≡ numberFrom (withDigit n (getD l i 0)) (drop (i + 1) l)
 number-next l n i h g e =
     e ∙ number-at l n i h ∙ ap (λ t. cond t (numberFrom (withDigit n (getD l i 0)) (drop (i + 1) l)) NoNumber) g
 
 pub number-stops :
-    (l : List ℕ) (n i : ℕ) → i < length l → goesOn n (getD l i 0) ≡ false → numberOf l ≡ numberFrom n (drop i l)
-    → NoNumber ≡ numberOf l
+    (l : List ℕ) (n i : ℕ) → i < length l → goesOn n (getD l i 0) ≡ false → numberSpelt l ≡ numberFrom n (drop i l)
+    → NoNumber ≡ numberSpelt l
 number-stops l n i h g e =
     sym (e ∙ number-at l n i h ∙ ap (λ t. cond t (numberFrom (withDigit n (getD l i 0)) (drop (i + 1) l)) NoNumber) g)
 
-pub number-ends : (l : List ℕ) (n i : ℕ) → length l ≤ i → numberOf l ≡ numberFrom n (drop i l) → Number n ≡ numberOf l
+pub number-ends : (l : List ℕ) (n i : ℕ) → length l ≤ i → numberSpelt l ≡ numberFrom n (drop i l) → Number n ≡ numberSpelt l
 unfolding numberFrom
 number-ends l n i h e = sym (e ∙ ap (numberFrom n) (drop-of-length-le l h))

@@ -32,9 +32,9 @@ numberFrom n [] = Number n
 numberFrom n (x ∷ l) = cond (goesOn n x) (numberFrom (withDigit n x) l) NoNumber
 
 -- the number that digits spell, at least one
-abbrev pub numberOf : List ℕ → Spelt
-numberOf [] = NoNumber
-numberOf (x ∷ l) = numberFrom 0 (x ∷ l)
+abbrev pub numberSpelt : List ℕ → Spelt
+numberSpelt [] = NoNumber
+numberSpelt (x ∷ l) = numberFrom 0 (x ∷ l)
 
 -- ---- the line
 
@@ -55,7 +55,7 @@ abbrev pub lineRequest : List ℕ → Request
 lineRequest [] = NoRequest
 lineRequest (letter ∷ []) = NoRequest
 lineRequest (letter ∷ space ∷ rest) =
-    cond (eqb space 32) (both (modeBy letter) (numberOf (before 32 rest)) (numberOf (behind 32 rest))) NoRequest
+    cond (eqb space 32) (both (modeBy letter) (numberSpelt (before 32 rest)) (numberSpelt (behind 32 rest))) NoRequest
 
 -- so many bytes are more than any line of the form needs
 abbrev pub lineMost : ℕ

@@ -7,7 +7,7 @@ ghost use lib.ListN.{length};
 ghost use Rattle.io.specs.Counts.{Counts};
 ghost use Rattle.text.specs.Writing.{cap, Wrote};
 ghost use Rattle.console.specs.Mode.{modeBy, modeIn};
-ghost use Rattle.console.specs.Request.{goesOn, withDigit, numberOf, before, behind, both, lineRequest, requestIn};
+ghost use Rattle.console.specs.Request.{goesOn, withDigit, numberSpelt, before, behind, both, lineRequest, requestIn};
 ghost use Rattle.console.specs.Answers.{difference, refusalLine, editedLine};
 use text::index_of;
 use text::put;
@@ -101,7 +101,7 @@ fn with_digit(n: usize, x: u8) -> usize
 
 // The number that digits spell: at least one, and no more than 64 bits hold.
 fn number(digits: &[u8]) -> Spelt
-    ensures { λ r. ⌜ r ≡ numberOf (now (digits .entry)) ⌝ }
+    ensures { λ r. ⌜ r ≡ numberSpelt (now (digits .entry)) ⌝ }
 {
     if digits.len() == 0 {
         return Spelt::Nothing;
@@ -138,7 +138,7 @@ fn both(mode: u8, block: Spelt, kept: Spelt) -> Request
 
 // The request whose numbers are these, with a space between them.
 fn numbers(mode: u8, rest: &[u8]) -> Request
-    ensures { λ r. ⌜ r ≡ both mode (numberOf (before 32 (now (rest .entry)))) (numberOf (behind 32 (now (rest .entry)))) ⌝ }
+    ensures { λ r. ⌜ r ≡ both mode (numberSpelt (before 32 (now (rest .entry)))) (numberSpelt (behind 32 (now (rest .entry)))) ⌝ }
 {
     let space = index_of(rest, b' ');
     if rest.len() <= space {

@@ -1,6 +1,7 @@
 // Edits a document that was kept: rules.bin, tree.bin (the new tree), text.bin and ledger.bin (both buffers, whole) in the current
 // folder, and a line `t 3 120` on standard input: the mode's letter, the block and the kept length. Writes `ok LENGTH GROWTH COUNT`
 // or `refused N at R`, a line feed, and every byte of both buffers.
+use calls::Edited;
 use console::ANSWER_MOST;
 use console::LINE_MOST;
 use console::Request;
@@ -8,7 +9,6 @@ use console::put_edited;
 use console::put_refusal;
 use console::read_file;
 use console::request_in;
-use edit::Edited;
 use libc::STDIN_FILENO;
 use libc::STDOUT_FILENO;
 
@@ -45,7 +45,7 @@ fn edit_block(mode: u8, block: usize, kept: usize, text: &mut [u8], ledger: &mut
     let rules_size = read_file(b"rules.bin", &mut rules);
     let mut tree = [0u8; FILE_READ];
     let tree_size = read_file(b"tree.bin", &mut tree);
-    match edit::edit(
+    match calls::edit(
         mode,
         &rules[..rules_size],
         &tree[..tree_size],

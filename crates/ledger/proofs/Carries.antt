@@ -7,10 +7,10 @@ use lib.ListN.{take}
 use borrow.Author.Tests.{not-true, not-false}
 use Rattle.text.specs.Compare.{same}
 use Rattle.text.proofs.Compare.{beq-true, same-refl, same-true}
-use Rattle.mitex_state.specs.Outcome.{Label, Carry}
-use Rattle.mitex_state.specs.Outcome.Label.{unheld, held}
-use Rattle.mitex_state.specs.State.{labelOf}
-use Rattle.mitex_state.specs.Keeping.{labelBytes}
+use Rattle.mitex_meaning.specs.Outcome.{Label, Carry}
+use Rattle.mitex_meaning.specs.Outcome.Label.{unheld, held}
+use Rattle.mitex_meaning.specs.State.{labelOf}
+use Rattle.mitex_meaning.specs.Keeping.{labelBytes}
 use Rattle.ledger.specs.Ledger.{isHeld, sameLabel, sameCarry}
 
 beq-refl : (a : Bool) → Bool·beq a a ≡ true

@@ -3,11 +3,11 @@ use mathlib.Core.Path.{_≡_, refl, ap, _∙_}
 use mathlib.Core.Bool.{Bool, true, false, true≢false, false≢true}
 use mathlib.Core.List.{List}
 use Prim.Native.Nat.{ℕ}
-use Rattle.mitex_state.specs.Outcome.{Label, Carry, flagged, labelled}
-use Rattle.mitex_state.specs.Outcome.Label.{unheld, held}
-use Rattle.mitex_state.specs.State.{carryOf, Carried}
-use Rattle.mitex_state.specs.Keeping.{labelBytes}
-use Rattle.mitex_state.specs.declared.Converter.{Converter}
+use Rattle.mitex_meaning.specs.Outcome.{Label, Carry, flagged, labelled}
+use Rattle.mitex_meaning.specs.Outcome.Label.{unheld, held}
+use Rattle.mitex_meaning.specs.State.{carryOf, Carried}
+use Rattle.mitex_meaning.specs.Keeping.{labelBytes}
+use Rattle.mitex_meaning.specs.declared.Converter.{Converter}
 use Rattle.ledger.specs.Ledger.{isHeld}
 
 label-held : (a : Label) {b : List ℕ} → isHeld a ≡ true → b ≡ labelBytes a → held b ≡ a

@@ -1,4 +1,4 @@
--- Rows moved one after the other: those that are moved stand before the rest, which is as it was (`Moved`).
+-- Rows moved one after the other: those that are moved stand before the rest, which is as it was (`RowsMoved`).
 use mathlib.Core.Path.{_≡_, refl, sym, ap, ap₂, subst, _∙_}
 use mathlib.Core.List.{List, _++_, append-assoc, append-nil}
 use Prim.Native.Nat.{ℕ, zero, suc, _+_, _*_, _-_, _≤_}
@@ -34,12 +34,12 @@ moveRows-more (suc n) old new l =
     ∙ ap (λ r. moveRows (suc n) old new l ++ moveRow old new r) (drop-drop (rowSize * n) rowSize l ∙ ap (λ k. drop k l) e)
 
 -- the rows from `from` up to i are moved
-pub record Moved (from old new : ℕ) (l₀ l : List ℕ) (i : ℕ) : Type 0 where
+pub record RowsMoved (from old new : ℕ) (l₀ l : List ℕ) (i : ℕ) : Type 0 where
   pub above : from ≤ i
   pub within : rowSize * i ≤ length l₀
   pub are : l ≡ sets l₀ (rowSize * from) (moveRows (i - from) old new (drop (rowSize * from) l₀))
 
-pub moved-none : (from old new : ℕ) (l : List ℕ) → rowSize * from ≤ length l → Moved from old new l l from
+pub moved-none : (from old new : ℕ) (l : List ℕ) → rowSize * from ≤ length l → RowsMoved from old new l l from
 moved-none from old new l h =
     let e : 0 ≡ from - from = omega arith in
     record {
@@ -48,7 +48,7 @@ moved-none from old new l h =
       are = ap (λ n. sets l (rowSize * from) (moveRows n old new (drop (rowSize * from) l))) e;
     }
 
-module _ {from old new : ℕ} {l₀ l : List ℕ} {i : ℕ} (m : Moved from old new l₀ l i) where
+module _ {from old new : ℕ} {l₀ l : List ℕ} {i : ℕ} (m : RowsMoved from old new l₀ l i) where
   moved-length : rowSize * from + length (moveRows (i - from) old new (drop (rowSize * from) l₀)) ≡ rowSize * i
   moved-length =
       let a = m .above in
@@ -76,7 +76,7 @@ module _ {from old new : ℕ} {l₀ l : List ℕ} {i : ℕ} (m : Moved from old 
       record { behind = omega arith; small = omega arith }
 
   pub moved-more : {l′ : List ℕ} → rowSize * (i + 1) ≤ length l₀ → l′ ≡ sets l (rowSize * i) (moveRow old new (drop (rowSize * i) l))
-      → Moved from old new l₀ l′ (i + 1)
+      → RowsMoved from old new l₀ l′ (i + 1)
   moved-more {l′} h e =
       let a = m .above in
       let k : ℕ = i - from in

@@ -13,9 +13,9 @@ use lib.Seq.{getD-drop, drop-drop, drop-cons}
 use lib.Dec.{leb, eqb}
 use Rattle.text.specs.Numbers.{fourAt}
 use Rattle.text.proofs.Numbers.{fourAt-drop}
-use Rattle.mitex_state.specs.Outcome.{labelMost}
-use Rattle.mitex_state.specs.State.{labelOf}
-use Rattle.mitex_state.specs.Keeping.{labelBytes, Short}
+use Rattle.mitex_meaning.specs.Outcome.{labelMost}
+use Rattle.mitex_meaning.specs.State.{labelOf}
+use Rattle.mitex_meaning.specs.Keeping.{labelBytes, Short}
 use Rattle.ledger.specs.Ledger.{rowSize, isHeld, decodeRow, rowAt, allZero, marksFit, rowFits}
 
 isHeld-labelOf : (b : Bool) (n : ℕ) (l : List ℕ) → isHeld (labelOf b n l) ≡ b

@@ -12,10 +12,10 @@ use lib.Seq.{take-append-seam, drop-append-seam, take-at, drop-at}
 use lib.Dec.{leb, eqb}
 use Rattle.text.specs.Numbers.{four, fourAt}
 use Rattle.text.proofs.Numbers.{fourAt-four}
-use Rattle.mitex_state.specs.Outcome.{Label, Carry, labelMost}
-use Rattle.mitex_state.specs.Outcome.Label.{unheld, held}
-use Rattle.mitex_state.specs.State.{labelOf}
-use Rattle.mitex_state.specs.Keeping.{labelBytes, Short}
+use Rattle.mitex_meaning.specs.Outcome.{Label, Carry, labelMost}
+use Rattle.mitex_meaning.specs.Outcome.Label.{unheld, held}
+use Rattle.mitex_meaning.specs.State.{labelOf}
+use Rattle.mitex_meaning.specs.Keeping.{labelBytes, Short}
 use Rattle.ledger.specs.Ledger.{Row, rowSize, mark, isHeld, encodeCarry, encodeRow, encodeRows, decodeRow, decodeRows, allZero, marksFit, rowFits, rowsFit, fits, moveRow, moveRows, Piece, written, rowsFrom}
 
 -- rows that can be written

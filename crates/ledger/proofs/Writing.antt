@@ -10,10 +10,10 @@ use lib.ListN.{length, take, drop, replicate, length-append, length-take, length
 use lib.Seq.{sets, sets-eq, length-sets, take-at, drop-at, drop-drop, length-take-le}
 use Rattle.text.specs.Numbers.{four}
 use Rattle.text.proofs.Writing.{sets-append}
-use Rattle.mitex_state.specs.Outcome.{labelMost}
-use Rattle.mitex_state.specs.State.{labelOf, carryOf}
-use Rattle.mitex_state.specs.Keeping.{labelBytes, Short}
-use Rattle.mitex_state.specs.declared.Converter.{Converter}
+use Rattle.mitex_meaning.specs.Outcome.{labelMost}
+use Rattle.mitex_meaning.specs.State.{labelOf, carryOf}
+use Rattle.mitex_meaning.specs.Keeping.{labelBytes, Short}
+use Rattle.mitex_meaning.specs.declared.Converter.{Converter}
 use Rattle.ledger.specs.Ledger.{Row, rowSize, mark, isHeld, encodeCarry, encodeRow, HasRow, rowAt, decodeRow, moveRow}
 use Rattle.ledger.proofs.Rows.{encodeRow-length}
 

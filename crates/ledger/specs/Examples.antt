@@ -4,7 +4,7 @@ use mathlib.Core.Bool.{true, false}
 use mathlib.Core.List.{List, [], _∷_, _++_}
 use Prim.Native.Nat.{ℕ}
 use lib.ListN.{replicate}
-use Rattle.mitex_state.specs.Outcome.Label.{unheld, held}
+use Rattle.mitex_meaning.specs.Outcome.Label.{unheld, held}
 use Rattle.ledger.specs.Ledger.{Row, encodeCarry, encodeRow, decodeRow, allZero, marksFit, rowFits, fits, moveRow, sameCarry, rowsFrom, encodeRows}
 
 abbrev labelled : Row

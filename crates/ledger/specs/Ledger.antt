@@ -14,10 +14,10 @@ use lib.ListN.{length, take, drop, getD, replicate}
 use lib.Dec.{leb, eqb}
 use Rattle.text.specs.Numbers.{four, fourAt}
 use Rattle.text.specs.Compare.{same}
-use Rattle.mitex_state.specs.Outcome.{Label, Carry, labelMost}
-use Rattle.mitex_state.specs.Outcome.Label.{unheld, held}
-use Rattle.mitex_state.specs.State.{labelOf}
-use Rattle.mitex_state.specs.Keeping.{labelBytes}
+use Rattle.mitex_meaning.specs.Outcome.{Label, Carry, labelMost}
+use Rattle.mitex_meaning.specs.Outcome.Label.{unheld, held}
+use Rattle.mitex_meaning.specs.State.{labelOf}
+use Rattle.mitex_meaning.specs.Keeping.{labelBytes}
 
 abbrev pub rowSize : ℕ
 rowSize = 8 + labelMost

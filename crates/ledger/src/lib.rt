@@ -1,6 +1,6 @@
 // The ledger: a row of 128 bytes for each block, read and written. specs/Ledger.antt has the layout.
-use mitex_state::Converter;
-use mitex_state::LABEL_MOST;
+use mitex_meaning::Converter;
+use mitex_meaning::LABEL_MOST;
 use text::clear;
 use text::put;
 use text::read_u32;
@@ -14,9 +14,9 @@ ghost use Prim.Native.Nat.{ℕ, _+_, _-_, _*_, _≤_, _<_};
 ghost use lib.ListN.{length, take, drop, replicate};
 ghost use lib.Seq.{sets};
 ghost use Rattle.text.specs.Compare.{same};
-ghost use Rattle.mitex_state.specs.Outcome.{labelMost};
-ghost use Rattle.mitex_state.specs.State.{carryOf, Carried};
-ghost use Rattle.mitex_state.specs.Keeping.{labelBytes};
+ghost use Rattle.mitex_meaning.specs.Outcome.{labelMost};
+ghost use Rattle.mitex_meaning.specs.State.{carryOf, Carried};
+ghost use Rattle.mitex_meaning.specs.Keeping.{labelBytes};
 ghost use Rattle.ledger.specs.Ledger.{rowSize, mark, isHeld, encodeRow, HasRow, RowFits, rowAt, allZero, marksFit, rowFits, fits, Movable, moveRow, moveRows, sameLabel, sameCarry};
 
 // The bytes of a row.

@@ -7,20 +7,20 @@ use Prim.Native.Nat.{ℕ}
 use Rattle.text.specs.Compare.{same}
 use Rattle.mitex_spec.specs.Rules.{Rule}
 use Rattle.mitex_syntax.specs.Tree.{Forest}
-use Rattle.mitex_state.specs.Outcome.{Context, Carry, Conv, after, inEnv}
-use Rattle.mitex_state.specs.Outcome.Outcome.{refused}
-use Rattle.mitex_state.specs.State.{contextOf}
-use Rattle.mitex_state.specs.Texts.{leftParen, leftBracket, substackName}
-use Rattle.mitex_state.specs.Colors.{colorAlias, bodyLoop, argumentsLoop}
-use Rattle.mitex_state.specs.Commands.{argumentsOf, argumentsBy, stackEnv, written, command}
-use Rattle.mitex_state.specs.declared.LaTeXMode.{LaTeXMode}
-use Rattle.mitex_state.specs.declared.LaTeXMode.the-variants.{Text, Math}
-use Rattle.mitex_state.specs.declared.LaTeXEnv.the-variants.{SubStack}
-use Rattle.mitex_state.specs.declared.Arguments.{Arguments}
-use Rattle.mitex_state.specs.declared.Converter.{Converter}
-use Rattle.mitex_state.specs.declared.Walked.{Walked}
-use Rattle.mitex_state.specs.declared.ModelPart.{ModelPart}
-use Rattle.mitex_state.specs.declared.Loop.{Loop}
+use Rattle.mitex_meaning.specs.Outcome.{Context, Carry, Conv, after, inEnv}
+use Rattle.mitex_meaning.specs.Outcome.Outcome.{refused}
+use Rattle.mitex_meaning.specs.State.{contextOf}
+use Rattle.mitex_meaning.specs.Texts.{leftParen, leftBracket, substackName}
+use Rattle.mitex_meaning.specs.Colors.{colorAlias, bodyLoop, argumentsLoop}
+use Rattle.mitex_meaning.specs.Commands.{argumentsOf, argumentsBy, stackEnv, written, command}
+use Rattle.mitex_meaning.specs.declared.LaTeXMode.{LaTeXMode}
+use Rattle.mitex_meaning.specs.declared.LaTeXMode.the-variants.{Text, Math}
+use Rattle.mitex_meaning.specs.declared.LaTeXEnv.the-variants.{SubStack}
+use Rattle.mitex_meaning.specs.declared.Arguments.{Arguments}
+use Rattle.mitex_meaning.specs.declared.Converter.{Converter}
+use Rattle.mitex_meaning.specs.declared.Walked.{Walked}
+use Rattle.mitex_meaning.specs.declared.ModelPart.{ModelPart}
+use Rattle.mitex_meaning.specs.declared.Loop.{Loop}
 use Rattle.mitex.specs.Walks.{Colors}
 use Rattle.mitex_loops.specs.Given.{numberOf}
 use Rattle.mitex_plans.specs.Plans.{Means, argumentsIn, opening, ArgumentsMean}

@@ -22,21 +22,21 @@ use Rattle.mitex_syntax.specs.Tree.Forest.{none, more}
 use Rattle.mitex_syntax.specs.Spells.{SpellsAll}
 use Rattle.mitex_syntax.specs.Views.{isOf, envName, textIn, inner, firstBy, firstOf, childrenOf, childrenIn, beginOf, goodEnds}
 use Rattle.mitex_syntax.proofs.Trees.{size-more, length-rowss}
-use Rattle.mitex_state.specs.Outcome.{Context, Carry, Conv, after, inEnv}
-use Rattle.mitex_state.specs.Outcome.Outcome.{refused}
-use Rattle.mitex_state.specs.Texts.{leftParen, hash}
-use Rattle.mitex_state.specs.Children.{each}
-use Rattle.mitex_state.specs.Tables.{lettersFit, tableHead}
-use Rattle.mitex_state.specs.Environments.{Caption, isCaption, captionAt, orLater, lastCaption, captioned, figureEnv, tableBy, tableWith, envOf, envWith, envBy, environment, envBody, plainEnv, mathEnv}
-use Rattle.mitex_state.specs.Environments.Caption.{absent, bare, caption}
-use Rattle.mitex_state.specs.Parts.{CaptionFound}
-use Rattle.mitex_state.specs.Parts.CaptionFound.{no-caption, bare-caption, caption-at}
-use Rattle.mitex_state.proofs.LaTeXEnv.{the-type as env-type}
-use Rattle.mitex_state.specs.declared.LaTeXEnv.{LaTeXEnv}
-use Rattle.mitex_state.specs.declared.LaTeXEnv.the-variants.{None, Figure, Itemize, Enumerate, Math, Matrix, Cases, SubStack, MathCurlyGroup}
-use Rattle.mitex_state.specs.declared.LaTeXEnv.the-variants.{Table as TableEnv}
-use Rattle.mitex_state.specs.declared.Loop.the-variants.{Table}
-use Rattle.mitex_state.specs.declared.CaptionPart.{CaptionPart}
+use Rattle.mitex_meaning.specs.Outcome.{Context, Carry, Conv, after, inEnv}
+use Rattle.mitex_meaning.specs.Outcome.Outcome.{refused}
+use Rattle.mitex_meaning.specs.Texts.{leftParen, hash}
+use Rattle.mitex_meaning.specs.Children.{each}
+use Rattle.mitex_meaning.specs.Tables.{lettersFit, tableHead}
+use Rattle.mitex_meaning.specs.Environments.{Caption, isCaption, captionAt, orLater, lastCaption, captioned, figureEnv, tableBy, tableWith, envOf, envWith, envBy, environment, envBody, plainEnv, mathEnv}
+use Rattle.mitex_meaning.specs.Environments.Caption.{absent, bare, caption}
+use Rattle.mitex_meaning.specs.Parts.{CaptionFound}
+use Rattle.mitex_meaning.specs.Parts.CaptionFound.{no-caption, bare-caption, caption-at}
+use Rattle.mitex_meaning.proofs.LaTeXEnv.{the-type as env-type}
+use Rattle.mitex_meaning.specs.declared.LaTeXEnv.{LaTeXEnv}
+use Rattle.mitex_meaning.specs.declared.LaTeXEnv.the-variants.{None, Figure, Itemize, Enumerate, Math, Matrix, Cases, SubStack, MathCurlyGroup}
+use Rattle.mitex_meaning.specs.declared.LaTeXEnv.the-variants.{Table as TableEnv}
+use Rattle.mitex_meaning.specs.declared.Loop.the-variants.{Table}
+use Rattle.mitex_meaning.specs.declared.CaptionPart.{CaptionPart}
 use Rattle.mitex_commands.specs.Leaves.{isAbsent, classOf}
 use Rattle.mitex_plans.specs.Plans.{isBare, bareRow}
 

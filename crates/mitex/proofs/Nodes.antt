@@ -11,22 +11,22 @@ use Rattle.mitex_syntax.specs.Tree.Tree.{node}
 use Rattle.mitex_syntax.specs.Tree.Forest.{none, more}
 use Rattle.mitex_syntax.specs.Spells.{Sound, Spells, SpellsAll, SomeTree}
 use Rattle.mitex_syntax.proofs.Trees.{under, size-node, size-some}
-use Rattle.mitex_state.specs.Outcome.{Context, Carry, Outcome, Conv, flagged, shift}
-use Rattle.mitex_state.specs.Outcome.Outcome.{refused}
-use Rattle.mitex_state.specs.State.{contextOf, carryOf, Carried}
-use Rattle.mitex_state.specs.Contract.{Place, placeOf, Agrees}
-use Rattle.mitex_state.specs.Tokens.{tokenOut}
-use Rattle.mitex_state.specs.Children.{each}
-use Rattle.mitex_state.specs.Groups.{children}
-use Rattle.mitex_state.specs.declared.Loop.the-variants.{Plain}
-use Rattle.mitex_state.specs.Conversion.{elementOf, armBy, step, convert}
-use Rattle.mitex_state.specs.declared.Element.{Element}
-use Rattle.mitex_state.specs.declared.Element.the-variants.{Unexpected, Token}
-use Rattle.mitex_state.specs.declared.Converter.{Converter}
-use Rattle.mitex_state.specs.declared.Walked.{Walked}
+use Rattle.mitex_meaning.specs.Outcome.{Context, Carry, Outcome, Conv, flagged, shift}
+use Rattle.mitex_meaning.specs.Outcome.Outcome.{refused}
+use Rattle.mitex_meaning.specs.State.{contextOf, carryOf, Carried}
+use Rattle.mitex_meaning.specs.Contract.{Place, placeOf, Agrees}
+use Rattle.mitex_meaning.specs.Tokens.{tokenOut}
+use Rattle.mitex_meaning.specs.Children.{each}
+use Rattle.mitex_meaning.specs.Groups.{children}
+use Rattle.mitex_meaning.specs.declared.Loop.the-variants.{Plain}
+use Rattle.mitex_meaning.specs.Conversion.{elementOf, armBy, step, convert}
+use Rattle.mitex_meaning.specs.declared.Element.{Element}
+use Rattle.mitex_meaning.specs.declared.Element.the-variants.{Unexpected, Token}
+use Rattle.mitex_meaning.specs.declared.Converter.{Converter}
+use Rattle.mitex_meaning.specs.declared.Walked.{Walked}
 use Rattle.mitex.specs.Walks.{Room, Siblings, Converts, Walks}
-use Rattle.mitex_state.proofs.Agreeing.{agrees-as}
-use Rattle.mitex_state.proofs.Loops.{each-at}
+use Rattle.mitex_meaning.proofs.Agreeing.{agrees-as}
+use Rattle.mitex_meaning.proofs.Loops.{each-at}
 use Rattle.mitex_plans.specs.Plans.{Single}
 use Rattle.mitex_loops.proofs.Plainly.{each-one}
 use Rattle.mitex_commands.proofs.Elements.{ofNode, element-node, element-token, element-unexpected}

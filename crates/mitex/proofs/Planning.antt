@@ -10,21 +10,21 @@ use Rattle.mitex_spec.specs.Rules.{Rule}
 use Rattle.mitex_spec.specs.Index.{Ready, SomeRules}
 use Rattle.mitex_syntax.specs.Tree.{Forest, sizes}
 use Rattle.mitex_syntax.specs.Spells.{SpellsAll}
-use Rattle.mitex_state.specs.Outcome.{Context, Carry, Outcome, Conv, Arm, after, closing}
-use Rattle.mitex_state.specs.Outcome.Outcome.{refused}
+use Rattle.mitex_meaning.specs.Outcome.{Context, Carry, Outcome, Conv, Arm, after, closing}
+use Rattle.mitex_meaning.specs.Outcome.Outcome.{refused}
 use Rattle.mitex_syntax.specs.Views.{isValid}
-use Rattle.mitex_state.specs.State.{contextOf, carryOf, placed}
-use Rattle.mitex_state.specs.Groups.{formula}
-use Rattle.mitex_state.specs.Contract.{Place, placeOf, Agrees, Went, Takes, Declined}
-use Rattle.mitex_state.specs.Conversion.{convert}
-use Rattle.mitex_state.proofs.Agreeing.{Good, good, agrees-as, agrees-after, agrees-shift, agrees-close, agrees-takes}
-use Rattle.mitex_state.proofs.Outcomes.{after-after}
-use Rattle.mitex_state.specs.Environments.{takeLabel}
-use Rattle.mitex_state.specs.declared.LaTeXMode.{LaTeXMode}
-use Rattle.mitex_state.specs.declared.Converter.{Converter}
-use Rattle.mitex_state.specs.Parts.{rowsIn, textIn}
-use Rattle.mitex_state.specs.declared.Loop.{Loop}
-use Rattle.mitex_state.specs.declared.Walked.{Walked}
+use Rattle.mitex_meaning.specs.State.{contextOf, carryOf, placed}
+use Rattle.mitex_meaning.specs.Groups.{formula}
+use Rattle.mitex_meaning.specs.Contract.{Place, placeOf, Agrees, Went, Takes, Declined}
+use Rattle.mitex_meaning.specs.Conversion.{convert}
+use Rattle.mitex_meaning.proofs.Agreeing.{Good, good, agrees-as, agrees-after, agrees-shift, agrees-close, agrees-takes}
+use Rattle.mitex_meaning.proofs.Outcomes.{after-after}
+use Rattle.mitex_meaning.specs.Environments.{takeLabel}
+use Rattle.mitex_meaning.specs.declared.LaTeXMode.{LaTeXMode}
+use Rattle.mitex_meaning.specs.declared.Converter.{Converter}
+use Rattle.mitex_meaning.specs.Parts.{rowsIn, textIn}
+use Rattle.mitex_meaning.specs.declared.Loop.{Loop}
+use Rattle.mitex_meaning.specs.declared.Walked.{Walked}
 use Rattle.mitex_plans.specs.Plans.{endText, planned, Given, Means, MeansBoth}
 use Rattle.mitex_plans.specs.declared.Plan.{Plan}
 use Rattle.mitex_plans.specs.declared.Plans.{Plans}

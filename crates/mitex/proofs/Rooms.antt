@@ -9,10 +9,10 @@ use Rattle.text.proofs.Writing.{wrote-low}
 use Rattle.mitex_syntax.specs.Spells.{SomeForest}
 use Rattle.mitex_syntax.proofs.Trees.{all-begins}
 use Rattle.mitex_syntax.proofs.Places.{some-forest}
-use Rattle.mitex_state.specs.Outcome.{labelMost}
-use Rattle.mitex_state.specs.Parts.{Inside, between}
-use Rattle.mitex_state.specs.declared.Part.{Part}
-use Rattle.mitex_state.specs.declared.Converter.{Converter}
+use Rattle.mitex_meaning.specs.Outcome.{labelMost}
+use Rattle.mitex_meaning.specs.Parts.{Inside, between}
+use Rattle.mitex_meaning.specs.declared.Part.{Part}
+use Rattle.mitex_meaning.specs.declared.Converter.{Converter}
 use Rattle.mitex_plans.proofs.Parting.{between-length}
 use Rattle.mitex.specs.Walks.{Room, Siblings}
 

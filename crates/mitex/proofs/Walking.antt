@@ -17,25 +17,25 @@ use Rattle.mitex_syntax.specs.Tree.{Tree, Forest, size, sizes, kindOf, textOf}
 use Rattle.mitex_syntax.specs.Spells.{Spells, SpellsAll, SomeTree}
 use Rattle.mitex_syntax.specs.Rows.{extentOf, tokenSum, Spans}
 use Rattle.mitex_syntax.proofs.Trees.{Element, element, all-begins, spans, kind-at, rows-e, text-n, part, part-spells, part-length, part-short, past-exact, no-left, size-more, length-rowss}
-use Rattle.mitex_state.specs.Outcome.{Context, Label, Carry, Outcome, after, andThen, closing, shift, labelMost}
-use Rattle.mitex_state.specs.Outcome.Outcome.{done}
-use Rattle.mitex_state.specs.State.{contextOf, carryOf, labelOf}
-use Rattle.mitex_state.specs.Contract.{Place, placeOf, Agrees, Went, Declined}
-use Rattle.mitex_state.specs.Contract.Agrees.{declines, accepts}
-use Rattle.mitex_state.specs.Children.{actOf, before, converts, behind, nextLoop, loopEnd, turn, each}
-use Rattle.mitex_state.specs.Conversion.{convert}
+use Rattle.mitex_meaning.specs.Outcome.{Context, Label, Carry, Outcome, after, andThen, closing, shift, labelMost}
+use Rattle.mitex_meaning.specs.Outcome.Outcome.{done}
+use Rattle.mitex_meaning.specs.State.{contextOf, carryOf, labelOf}
+use Rattle.mitex_meaning.specs.Contract.{Place, placeOf, Agrees, Went, Declined}
+use Rattle.mitex_meaning.specs.Contract.Agrees.{declines, accepts}
+use Rattle.mitex_meaning.specs.Children.{actOf, before, converts, behind, nextLoop, loopEnd, turn, each}
+use Rattle.mitex_meaning.specs.Conversion.{convert}
 use Rattle.mitex_loops.specs.Given.{numberOf, ChildGiven, OthersGiven, Decides}
 use Rattle.mitex_loops.proofs.Closing.{passes-alone}
 use Rattle.mitex_tokens.specs.Puts.{carrying}
 use Rattle.mitex_tokens.specs.Runs.{RunGiven, Runs}
 use Rattle.mitex_tokens.specs.declared.Run.{Run}
 use Rattle.mitex_loops.proofs.Acting.{number-next}
-use Rattle.mitex_state.specs.declared.Loop.{Loop}
-use Rattle.mitex_state.specs.declared.Act.{Act}
-use Rattle.mitex_state.specs.declared.Converter.{Converter}
-use Rattle.mitex_state.specs.declared.Walked.{Walked}
-use Rattle.mitex_state.proofs.Agreeing.{Closed, Good, good, agrees-as, agrees-done, agrees-refused, agrees-after, agrees-close, agrees-shift, then-done, then-refused}
-use Rattle.mitex_state.proofs.Loops.{turn-converts, turn-passes, each-none, each-more}
+use Rattle.mitex_meaning.specs.declared.Loop.{Loop}
+use Rattle.mitex_meaning.specs.declared.Act.{Act}
+use Rattle.mitex_meaning.specs.declared.Converter.{Converter}
+use Rattle.mitex_meaning.specs.declared.Walked.{Walked}
+use Rattle.mitex_meaning.proofs.Agreeing.{Closed, Good, good, agrees-as, agrees-done, agrees-refused, agrees-after, agrees-close, agrees-shift, then-done, then-refused}
+use Rattle.mitex_meaning.proofs.Loops.{turn-converts, turn-passes, each-none, each-more}
 use Rattle.mitex.specs.Walks.{Room, Siblings, Converts, Turns}
 
 -- ---- where a loop stands

@@ -7,21 +7,21 @@ use Rattle.mitex_spec.specs.Rules.{Rule, getCmd}
 use Rattle.mitex_spec.specs.Index.{Ready}
 use Rattle.mitex_syntax.specs.Tree.{Tree, Forest, size, sizes}
 use Rattle.mitex_syntax.specs.Spells.{Spells, SpellsAll}
-use Rattle.mitex_state.specs.Outcome.{Arm, andThen, labelMost}
-use Rattle.mitex_state.specs.State.{contextOf, carryOf}
-use Rattle.mitex_state.specs.Contract.{placeOf, Agrees}
-use Rattle.mitex_state.specs.Children.{turn, each}
-use Rattle.mitex_state.specs.Colors.{Model, withModel, colorAlias}
-use Rattle.mitex_state.specs.Conversion.{convert}
-use Rattle.mitex_state.specs.Parts.{rowsIn, textIn, ModelFound}
+use Rattle.mitex_meaning.specs.Outcome.{Arm, andThen, labelMost}
+use Rattle.mitex_meaning.specs.State.{contextOf, carryOf}
+use Rattle.mitex_meaning.specs.Contract.{placeOf, Agrees}
+use Rattle.mitex_meaning.specs.Children.{turn, each}
+use Rattle.mitex_meaning.specs.Colors.{Model, withModel, colorAlias}
+use Rattle.mitex_meaning.specs.Conversion.{convert}
+use Rattle.mitex_meaning.specs.Parts.{rowsIn, textIn, ModelFound}
 use Rattle.mitex_plans.specs.Plans.{planned}
 use Rattle.mitex_plans.specs.declared.Plan.{Plan}
 use Rattle.mitex_plans.specs.declared.Plans.{Plans}
-use Rattle.mitex_state.specs.declared.ModelPart.{ModelPart}
-use Rattle.mitex_state.specs.declared.Loop.{Loop}
-use Rattle.mitex_state.specs.declared.Act.{Act}
-use Rattle.mitex_state.specs.declared.Converter.{Converter}
-use Rattle.mitex_state.specs.declared.Walked.{Walked}
+use Rattle.mitex_meaning.specs.declared.ModelPart.{ModelPart}
+use Rattle.mitex_meaning.specs.declared.Loop.{Loop}
+use Rattle.mitex_meaning.specs.declared.Act.{Act}
+use Rattle.mitex_meaning.specs.declared.Converter.{Converter}
+use Rattle.mitex_meaning.specs.declared.Walked.{Walked}
 
 -- ---- what is asked
 

@@ -21,15 +21,15 @@ use Rattle.mitex_syntax.specs.Tree.{Tree, Forest, size, sizes, rowsOf, textOf, 
 use Rattle.mitex_syntax.specs.Tree.Forest.{none, more}
 use Rattle.mitex_syntax.specs.Views.{firstOf, offsetBy, offsetOf, beforeBy, fromBy, isOf, isSolid, childrenIn, inner}
 use Rattle.mitex_syntax.specs.Spells.{Sound, SpellsAll}
-use Rattle.mitex_syntax.specs.Places.{Stands}
+use Rattle.mitex_syntax.specs.Places.{FirstAt}
 use Rattle.mitex_syntax.specs.declared.Cursor.{Cursor}
 use Rattle.mitex_syntax.proofs.Trees.{length-rowss}
-use Rattle.mitex_state.specs.Texts.{leftBracket, rightBracket, mitexcolor, noModel}
-use Rattle.mitex_state.specs.Colors.{Rest, rest, Model, model, seek, pastFirst, inModel, bracketModel, modelIn}
-use Rattle.mitex_state.specs.Colors.{greedyModel, isModel, firstModel, modelFirst, withModel, colorAlias, bodyLoop}
-use Rattle.mitex_state.specs.Parts.{between, modelText, ModelFound}
-use Rattle.mitex_state.specs.declared.ModelPart.{ModelPart}
-use Rattle.mitex_colors.specs.Scanning.{Left, Sought, Passed, modelAt, ColorFound}
+use Rattle.mitex_meaning.specs.Texts.{leftBracket, rightBracket, mitexcolor, noModel}
+use Rattle.mitex_meaning.specs.Colors.{Rest, rest, Model, model, seek, pastFirst, inModel, bracketModel, modelIn}
+use Rattle.mitex_meaning.specs.Colors.{greedyModel, isModel, firstModel, modelFirst, withModel, colorAlias, bodyLoop}
+use Rattle.mitex_meaning.specs.Parts.{between, modelText, ModelFound}
+use Rattle.mitex_meaning.specs.declared.ModelPart.{ModelPart}
+use Rattle.mitex_colors.specs.Scanning.{ElementsLeft, Sought, FirstPassed, modelAt, ColorFound}
 use Rattle.mitex_colors.proofs.Scans.{drop-take, between-take, left-exact, left-first, left-kind, moved-then}
 use Rattle.mitex_colors.proofs.Standing.{node-there, smaller}
 
@@ -84,7 +84,7 @@ pub model-found :
     {m n : Model} {f : Forest} {rows text : List ℕ} {b : Bool} {from to : ℕ} {r : ModelPart}
     → (at : Cursor) → r ≡ modelAt (length rows) (length text) b from to at → m ≡ n → n .text ≡ modelText b (between from to text)
     → from ≤ to → to ≤ length text
-    → Left rows text [] (at .row) (at .text) (n .behind .elements) → 8 * n .behind .rows ≡ 8 + at .row → sizes (n .behind .elements) ≤ sizes f
+    → ElementsLeft rows text [] (at .row) (at .text) (n .behind .elements) → 8 * n .behind .rows ≡ 8 + at .row → sizes (n .behind .elements) ≤ sizes f
     → ModelFound m f rows text r
 model-found {m} {n} {f} {rows} {text} {b} {from} {to} {r} at e q w h k l o z =
     let p = modelAt (length rows) (length text) b from to at in
@@ -117,9 +117,9 @@ bare-found {first = first} a q o e =
 pub held-found :
     {rows text : List ℕ} {i j : ℕ} {s : Rest} {first begin end beyond behind : Cursor} {r : ModelPart}
     → Sought isSolid rows text [] i j s first
-    → Passed rows text [] (first .row) (first .text) (seek isSolid s) begin
+    → FirstPassed rows text [] (first .row) (first .text) (seek isSolid s) begin
     → Sought (isOf TokenRBracket) rows text [] (begin .row) (begin .text) (pastFirst (seek isSolid s)) end
-    → Passed rows text [] (end .row) (end .text) (seek (isOf TokenRBracket) (pastFirst (seek isSolid s))) beyond
+    → FirstPassed rows text [] (end .row) (end .text) (seek (isOf TokenRBracket) (pastFirst (seek isSolid s))) beyond
     → Sought isSolid rows text [] (beyond .row) (beyond .text) (pastFirst (seek (isOf TokenRBracket) (pastFirst (seek isSolid s)))) behind
     → first .row < length rows → getD rows (first .row) 0 ≡ TokenLBracket → 8 * s .rows ≡ 8 + i
     → r ≡ modelAt (length rows) (length text) true (begin .text) (end .text) behind → ModelFound (modelIn (seek isSolid s)) (s .elements) rows text r
@@ -154,7 +154,7 @@ model-wide a b l h k e =
 pub argument-found :
     {rows text : List ℕ} {i j : ℕ} {s : Rest} {first next behind : Cursor} {r : ModelPart}
     → Sought (isOf ClauseArgument) rows text [] i j s first
-    → Passed rows text [] (first .row) (first .text) (seek (isOf ClauseArgument) s) next
+    → FirstPassed rows text [] (first .row) (first .text) (seek (isOf ClauseArgument) s) next
     → Sought (isOf ClauseArgument) rows text [] (next .row) (next .text) (pastFirst (seek (isOf ClauseArgument) s)) behind
     → first .row < length rows → isModel (between (first .text) (next .text) text) ≡ true → 8 * s .rows ≡ 8 + i
     → r ≡ modelAt (length rows) (length text) true (first .text + 1) (next .text - 1) behind
@@ -200,7 +200,7 @@ model-further {m} {f} {g} {rows} {text} {b} {d} {r} hb hd hf x =
 
 -- without an argument there is no model, and nothing at the end
 module _ {f : Forest} {rows text : List ℕ} (sp : SpellsAll f rows text) where
-  at-end : Left rows text [] (length rows) (length text) none
+  at-end : ElementsLeft rows text [] (length rows) (length text) none
   unfolding rowsOf textOf Sound
   at-end = record { low = omega arith; begun = omega arith; rows-are = drop-length rows; text-is = drop-length text; sound = tt }
 
@@ -220,7 +220,7 @@ module _ {f : Forest} {rows text : List ℕ} (sp : SpellsAll f rows text) where
       }
 
 -- with one, the model is found among its children
-module _ {f : Forest} {rows text : List ℕ} {a b c d : ℕ} (s : Stands (isOf ClauseArgument) f rows text 0 a b c d) where
+module _ {f : Forest} {rows text : List ℕ} {a b c d : ℕ} (s : FirstAt (isOf ClauseArgument) f rows text 0 a b c d) where
   abbrev pub argument-rest : Rest
   argument-rest = rest (2 + offsetOf ClauseArgument f) (node-there s refl .0)
 

@@ -16,9 +16,9 @@ use Rattle.mitex_syntax.specs.Spells.{Sound, SpellsAll, Begins, SomeForest}
 use Rattle.mitex_syntax.specs.declared.Cursor.{Cursor}
 use Rattle.mitex_syntax.proofs.Trees.{Element, element, spans, rows-e, text-n, left, no-left, length-rows, size-more, size-some}
 use Rattle.mitex_syntax.proofs.Seeking.{kind-here}
-use Rattle.mitex_state.specs.Colors.{Rest, rest, seek, past, pastFirst}
-use Rattle.mitex_state.specs.Parts.{between}
-use Rattle.mitex_colors.specs.Scanning.{stopsAt, picks, Left, Moved, Sought, Passed}
+use Rattle.mitex_meaning.specs.Colors.{Rest, rest, seek, past, pastFirst}
+use Rattle.mitex_meaning.specs.Parts.{between}
+use Rattle.mitex_colors.specs.Scanning.{stopsAt, picks, ElementsLeft, CursorMoved, Sought, FirstPassed}
 use Rattle.mitex_colors.specs.declared.Stop.{Stop}
 use Rattle.mitex_colors.specs.declared.Stop.the-variants.{Solid, Kind}
 
@@ -46,19 +46,19 @@ between-take a b n l h = ap (take (b - a)) (drop-take a n l) ∙ take-take (b - 
 -- ---- elements that are left
 
 module _ {rows text : List ℕ} {i j : ℕ} where
-  pub some-left : (s : SomeForest rows text i j) → Left rows text (s .begins .rest) i j (s .forest)
+  pub some-left : (s : SomeForest rows text i j) → ElementsLeft rows text (s .begins .rest) i j (s .forest)
   some-left s =
       let b = s .begins in
       record { low = s .low; begun = s .begun; rows-are = b .rows-are; text-is = b .text-is; sound = b .sound }
 
-  pub exact-left : {f : Forest} → i ≤ length rows → j ≤ length text → SpellsAll f (drop i rows) (drop j text) → Left rows text [] i j f
+  pub exact-left : {f : Forest} → i ≤ length rows → j ≤ length text → SpellsAll f (drop i rows) (drop j text) → ElementsLeft rows text [] i j f
   exact-left {f} h k sp =
       record { low = h; begun = k; rows-are = sp .rows-are; text-is = sp .text-is ∙ sym (append-nil (textsOf f)); sound = sp .sound }
 
-  pub left-exact : {f : Forest} → Left rows text [] i j f → SpellsAll f (drop i rows) (drop j text)
+  pub left-exact : {f : Forest} → ElementsLeft rows text [] i j f → SpellsAll f (drop i rows) (drop j text)
   left-exact {f} l = record { rows-are = l .rows-are; text-is = l .text-is ∙ append-nil (textsOf f); sound = l .sound }
 
-  module _ {tail : List ℕ} {f : Forest} (l : Left rows text tail i j f) where
+  module _ {tail : List ℕ} {f : Forest} (l : ElementsLeft rows text tail i j f) where
     pub left-begins : Begins f (drop i rows) (drop j text)
     left-begins = record { rows-are = l .rows-are; rest = tail; text-is = l .text-is; sound = l .sound }
 
@@ -77,8 +77,8 @@ module _ {rows text : List ℕ} {i j : ℕ} where
     left-kind t g e = kind-here rows i t (rowsOfs g) (l .rows-are ∙ ap rowsOfs e)
 
 -- behind the first of them
-module _ {rows text tail : List ℕ} {i j : ℕ} {t : Tree} {f : Forest} (l : Left rows text tail i j (more t f)) where
-  left-past : Left rows text tail (i + 8 * size t) (j + length (textOf t)) f
+module _ {rows text tail : List ℕ} {i j : ℕ} {t : Tree} {f : Forest} (l : ElementsLeft rows text tail i j (more t f)) where
+  left-past : ElementsLeft rows text tail (i + 8 * size t) (j + length (textOf t)) f
   unfolding rowsOf textOf Sound
   left-past =
       let er = l .rows-are in
@@ -104,14 +104,14 @@ module _ {rows text tail : List ℕ} {i j : ℕ} {t : Tree} {f : Forest} (l : Le
 
 -- ---- a step
 
-module _ {rows text tail : List ℕ} {i j : ℕ} (s : Rest) (l : Left rows text tail i j (s .elements)) where
-  pub passed-none : length rows ≤ i → Passed rows text tail i j s (record { row = i; text = j })
+module _ {rows text tail : List ℕ} {i j : ℕ} (s : Rest) (l : ElementsLeft rows text tail i j (s .elements)) where
+  pub passed-none : length rows ≤ i → FirstPassed rows text tail i j s (record { row = i; text = j })
   passed-none h =
       let e = left-none l h in
       record {
         moved =
-            subst (λ (r : Rest). Moved rows text tail i j s r (record { row = i; text = j })) (sym (ap (past (s .rows)) e))
-            (record { there = subst (Left rows text tail i j) e l; row = refl; onward = omega arith; fits = let z = ap sizes e in omega arith });
+            subst (λ (r : Rest). CursorMoved rows text tail i j s r (record { row = i; text = j })) (sym (ap (past (s .rows)) e))
+            (record { there = subst (ElementsLeft rows text tail i j) e l; row = refl; onward = omega arith; fits = let z = ap sizes e in omega arith });
         over = λ t f q. let z : _≡_ {A = ℕ} 0 1 = cc in absurd (omega arith);
       }
 
@@ -124,21 +124,21 @@ module _ {rows text tail : List ℕ} {i j : ℕ} (s : Rest) (l : Left rows text 
 
     pub passed :
         (e n : ℕ) → e ≡ extentOf (drop i rows) → n ≡ tokenSum (take (extentOf (drop i rows)) (drop i rows))
-        → Passed rows text tail i j s (record { row = i + e; text = j + n })
+        → FirstPassed rows text tail i j s (record { row = i + e; text = j + n })
     passed e n is-e is-n =
         let t = first .tree in
         let g = first .others in
         let q : s .elements ≡ more t g = first .is in
-        let m : Left rows text tail i j (more t g) = subst (Left rows text tail i j) q l in
+        let m : ElementsLeft rows text tail i j (more t g) = subst (ElementsLeft rows text tail i j) q l in
         let re = rows-e first e n is-e is-n in
         let tn = text-n first e n is-e is-n in
         record {
           moved =
-              subst (λ (r : Rest). Moved rows text tail i j s r (record { row = i + e; text = j + n })) (sym (ap (past (s .rows)) q))
+              subst (λ (r : Rest). CursorMoved rows text tail i j s r (record { row = i + e; text = j + n })) (sym (ap (past (s .rows)) q))
               (record {
                 there =
-                    subst (λ (k : ℕ). Left rows text tail (i + k) (j + n) g) (sym re)
-                    (subst (λ (k : ℕ). Left rows text tail (i + 8 * size t) (j + k) g) (sym tn) (left-past m));
+                    subst (λ (k : ℕ). ElementsLeft rows text tail (i + k) (j + n) g) (sym re)
+                    (subst (λ (k : ℕ). ElementsLeft rows text tail (i + 8 * size t) (j + k) g) (sym tn) (left-past m));
                 row = omega arith;
                 onward = omega arith;
                 fits = omega (arith, ap sizes q, size-more t g);
@@ -149,15 +149,15 @@ module _ {rows text tail : List ℕ} {i j : ℕ} (s : Rest) (l : Left rows text 
         }
 
     -- a step goes on
-    pub passed-far : (at : Cursor) → Passed rows text tail i j s at → i < at .row
+    pub passed-far : (at : Cursor) → FirstPassed rows text tail i j s at → i < at .row
     passed-far at w =
         let q = first .is in
         omega (arith, w .moved .row, ap (λ (f : Forest). past (s .rows) f .rows) q, size-some (first .tree))
 
 -- one step after another
 pub moved-then :
-    {rows text tail : List ℕ} {i j : ℕ} {r s u : Rest} {a b : Cursor} → Moved rows text tail i j r s a
-    → Moved rows text tail (a .row) (a .text) s u b → Moved rows text tail i j r u b
+    {rows text tail : List ℕ} {i j : ℕ} {r s u : Rest} {a b : Cursor} → CursorMoved rows text tail i j r s a
+    → CursorMoved rows text tail (a .row) (a .text) s u b → CursorMoved rows text tail i j r u b
 moved-then p q =
     record {
       there = q .there;
@@ -206,12 +206,12 @@ module _ (p : Tree → Bool) where
   -- from r, at i₀ and j₀, a scan has come to `now`, at i and j
   pub record Scans (rows text tail : List ℕ) (i₀ j₀ : ℕ) (r : Rest) (i j : ℕ) : Type 0 where
     pub now : Rest
-    pub moved : Moved rows text tail i₀ j₀ r now (record { row = i; text = j })
+    pub moved : CursorMoved rows text tail i₀ j₀ r now (record { row = i; text = j })
     pub still : seek p r ≡ seek p now
     pub before : textsOf (beforeBy p (r .elements)) ≡ between j₀ j text ++ textsOf (beforeBy p (now .elements))
 
   pub scan-start :
-      {rows text tail : List ℕ} {i j : ℕ} (r : Rest) → Left rows text tail i j (r .elements) → Scans rows text tail i j r i j
+      {rows text tail : List ℕ} {i j : ℕ} (r : Rest) → ElementsLeft rows text tail i j (r .elements) → Scans rows text tail i j r i j
   scan-start {rows} {text} {tail} {i} {j} r l =
       record {
         now = r;
@@ -224,12 +224,12 @@ module _ (p : Tree → Bool) where
     pub scan-stop : Stopped (s .now) → Sought p rows text tail i₀ j₀ r (record { row = i; text = j })
     scan-stop z =
         record {
-          moved = subst (λ (u : Rest). Moved rows text tail i₀ j₀ r u (record { row = i; text = j })) (sym (s .still ∙ z .here)) (s .moved);
+          moved = subst (λ (u : Rest). CursorMoved rows text tail i₀ j₀ r u (record { row = i; text = j })) (sym (s .still ∙ z .here)) (s .moved);
           before = s .before ∙ ap (λ (w : List ℕ). between j₀ j text ++ w) (z .nothing-before) ∙ append-nil (between j₀ j text);
         }
 
     pub scan-next :
-        (at : Cursor) → Passed rows text tail i j (s .now) at → (t : Tree) (f : Forest) → s .now .elements ≡ more t f → p t ≡ false
+        (at : Cursor) → FirstPassed rows text tail i j (s .now) at → (t : Tree) (f : Forest) → s .now .elements ≡ more t f → p t ≡ false
         → Scans rows text tail i₀ j₀ r (at .row) (at .text)
     scan-next at w t f q e =
         let o = s .now .rows in
@@ -267,7 +267,7 @@ module _ (stop : Stop) {rows text tail : List ℕ} {i₀ j₀ : ℕ} {r : Rest} 
         let x = left-first (s .moved .there) h in
         scan-stop (picks stop) s (stopped-here (picks stop) (s .now) (x .0) (x .1 .0) (x .1 .1) (picked (x .0) (x .1 .0) (x .1 .1) ∙ e))
 
-    pub scan-again : b ≡ false → (at : Cursor) → Passed rows text tail i j (s .now) at → Scans (picks stop) rows text tail i₀ j₀ r (at .row) (at .text)
+    pub scan-again : b ≡ false → (at : Cursor) → FirstPassed rows text tail i j (s .now) at → Scans (picks stop) rows text tail i₀ j₀ r (at .row) (at .text)
     scan-again e at w =
         let x = left-first (s .moved .there) h in
         scan-next (picks stop) s at w (x .0) (x .1 .0) (x .1 .1) (picked (x .0) (x .1 .0) (x .1 .1) ∙ e)

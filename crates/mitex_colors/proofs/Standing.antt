@@ -16,16 +16,16 @@ use Rattle.mitex_syntax.specs.Tree.{Tree, Forest, size, sizes, kindOf}
 use Rattle.mitex_syntax.specs.Tree.Tree.{node}
 use Rattle.mitex_syntax.specs.Views.{firstBy, isOf, childrenOf}
 use Rattle.mitex_syntax.specs.Spells.{Spells, SpellsAll, SomeForest}
-use Rattle.mitex_syntax.specs.Places.{Stands}
+use Rattle.mitex_syntax.specs.Places.{FirstAt}
 use Rattle.mitex_syntax.proofs.Trees.{kind-spelt, token-spelt, node-spelt, as-node, under, size-node}
-use Rattle.mitex_state.specs.Commands.{isArgument, greedyIn}
-use Rattle.mitex_state.specs.Parts.{between, GreedyFound}
-use Rattle.mitex_state.specs.Parts.GreedyFound.{no-greedy, greedy-at}
-use Rattle.mitex_state.specs.declared.GreedyPart.the-variants.{NoGreedy, GreedyAt}
-use Rattle.mitex_colors.specs.Scanning.{Left}
+use Rattle.mitex_meaning.specs.Commands.{isArgument, greedyIn}
+use Rattle.mitex_meaning.specs.Parts.{between, GreedyFound}
+use Rattle.mitex_meaning.specs.Parts.GreedyFound.{no-greedy, greedy-at}
+use Rattle.mitex_meaning.specs.declared.GreedyPart.the-variants.{NoGreedy, GreedyAt}
+use Rattle.mitex_colors.specs.Scanning.{ElementsLeft}
 use Rattle.mitex_colors.proofs.Scans.{drop-take, exact-left, left-some}
 
-module _ {p : Tree → Bool} {f : Forest} {rows text : List ℕ} {a b c d : ℕ} (s : Stands p f rows text 0 a b c d) where
+module _ {p : Tree → Bool} {f : Forest} {rows text : List ℕ} {a b c d : ℕ} (s : FirstAt p f rows text 0 a b c d) where
   -- the second byte of its rows
   mark-there : getD (between a b rows) 1 0 ≡ getD rows (a + 1) 0
   mark-there = let h = s .some-rows in getD-take (b - a) (drop a rows) 1 0 (omega arith) ∙ getD-drop a rows 1 0
@@ -42,7 +42,7 @@ module _ {p : Tree → Bool} {f : Forest} {rows text : List ℕ} {a b c d : ℕ}
   smaller {k} {g} e = omega (arith, s .fits, ap size e, size-node k g)
 
   -- the same in the rows and the text up to its end
-  pub children-left : {k : ℕ} {g : Forest} → s .tree ≡ node k g → Left (take b rows) (take d text) [] (a + 8) c g
+  pub children-left : {k : ℕ} {g : Forest} → s .tree ≡ node k g → ElementsLeft (take b rows) (take d text) [] (a + 8) c g
   children-left {k} {g} e =
       let h = s .some-rows in
       let r = s .some-text in
@@ -52,14 +52,14 @@ module _ {p : Tree → Bool} {f : Forest} {rows text : List ℕ} {a b c d : ℕ}
 
 -- what is of a kind that no token has is a node
 pub node-there :
-    {k : ℕ} {f : Forest} {rows text : List ℕ} {a b c d : ℕ} (s : Stands (isOf k) f rows text 0 a b c d) → isToken k ≡ false
+    {k : ℕ} {f : Forest} {rows text : List ℕ} {a b c d : ℕ} (s : FirstAt (isOf k) f rows text 0 a b c d) → isToken k ≡ false
     → (g : Forest) × (s .tree ≡ node k g)
 node-there {k} {f} s h =
     as-node (s .tree) k (s .spells) (kind-spelt (s .tree) (s .spells) ∙ eqb-true _ k (first-picked (isOf k) f (s .is))) h
 
 -- what looking among its children asks
 pub children-ask :
-    (k : ℕ) {f : Forest} {rows text : List ℕ} {a b c d : ℕ} → Stands (isOf k) f rows text 0 a b c d → isToken k ≡ false → length rows < cap
+    (k : ℕ) {f : Forest} {rows text : List ℕ} {a b c d : ℕ} → FirstAt (isOf k) f rows text 0 a b c d → isToken k ≡ false → length rows < cap
     → length text < cap → SomeForest (take b rows) (take d text) (a + 8) c
 children-ask k {rows = rows} {text = text} {b = b} {d = d} s h few short =
     left-some (children-left s (node-there s h .1)) (omega (arith, length-take-le b rows (s .end), s .end))
@@ -70,7 +70,7 @@ children-ask k {rows = rows} {text = text} {b = b} {d = d} s h few short =
 pub greedy-missing : {f : Forest} {rows text : List ℕ} → firstBy isArgument f ≡ nothing → GreedyFound f rows text NoGreedy
 greedy-missing e = no-greedy (λ conv o c. ap (λ (x : Option Tree). greedyIn conv o x c) e)
 
-module _ {f : Forest} {rows text : List ℕ} {a b c d : ℕ} (s : Stands isArgument f rows text 0 a b c d) where
+module _ {f : Forest} {rows text : List ℕ} {a b c d : ℕ} (s : FirstAt isArgument f rows text 0 a b c d) where
   pub greedy-token : getD rows (a + 1) 0 ≡ 1 → GreedyFound f rows text NoGreedy
   greedy-token h =
       let e = token-spelt (s .tree) (s .spells) (mark-there s ∙ h) in

@@ -13,11 +13,11 @@ use Rattle.mitex_syntax.specs.Tree.Forest.{more}
 use Rattle.mitex_syntax.specs.Views.{beforeBy, isOf, isSolid}
 use Rattle.mitex_syntax.specs.Spells.{Sounds}
 use Rattle.mitex_syntax.specs.declared.Cursor.{Cursor}
-use Rattle.mitex_state.specs.Outcome.{Context, Carry, Conv}
-use Rattle.mitex_state.specs.Colors.{Rest, Model, seek, pastFirst, withModel, colorAlias, bodyLoop}
-use Rattle.mitex_state.specs.Commands.{color}
-use Rattle.mitex_state.specs.Parts.{between, ModelFound}
-use Rattle.mitex_state.specs.declared.ModelPart.{ModelPart}
+use Rattle.mitex_meaning.specs.Outcome.{Context, Carry, Conv}
+use Rattle.mitex_meaning.specs.Colors.{Rest, Model, seek, pastFirst, withModel, colorAlias, bodyLoop}
+use Rattle.mitex_meaning.specs.Commands.{color}
+use Rattle.mitex_meaning.specs.Parts.{between, ModelFound}
+use Rattle.mitex_meaning.specs.declared.ModelPart.{ModelPart}
 use Rattle.mitex_colors.specs.declared.Stop.{Stop}
 use Rattle.mitex_colors.specs.declared.Stop.the-variants.{Solid, Kind}
 
@@ -31,7 +31,7 @@ picks Solid = isSolid
 picks (Kind k) = isOf k
 
 -- the rows from i on are those of these elements, and the text from j on is theirs and a tail
-pub record Left (rows text tail : List ℕ) (i j : ℕ) (f : Forest) : Type 0 where
+pub record ElementsLeft (rows text tail : List ℕ) (i j : ℕ) (f : Forest) : Type 0 where
   pub low : i ≤ length rows
   pub begun : j ≤ length text
   pub rows-are : drop i rows ≡ rowsOfs f
@@ -39,20 +39,20 @@ pub record Left (rows text tail : List ℕ) (i j : ℕ) (f : Forest) : Type 0 wh
   pub sound : Sounds f
 
 -- the cursor at r has gone on to s
-pub record Moved (rows text tail : List ℕ) (i j : ℕ) (r s : Rest) (at : Cursor) : Type 0 where
-  pub there : Left rows text tail (at .row) (at .text) (s .elements)
+pub record CursorMoved (rows text tail : List ℕ) (i j : ℕ) (r s : Rest) (at : Cursor) : Type 0 where
+  pub there : ElementsLeft rows text tail (at .row) (at .text) (s .elements)
   pub row : at .row + 8 * r .rows ≡ i + 8 * s .rows
   pub onward : j ≤ at .text
   pub fits : sizes (s .elements) ≤ sizes (r .elements)
 
 -- to the first element that a test picks
 pub record Sought (p : Tree → Bool) (rows text tail : List ℕ) (i j : ℕ) (r : Rest) (at : Cursor) : Type 0 where
-  pub moved : Moved rows text tail i j r (seek p r) at
+  pub moved : CursorMoved rows text tail i j r (seek p r) at
   pub before : textsOf (beforeBy p (r .elements)) ≡ between j (at .text) text
 
 -- past the first element, if there is one
-pub record Passed (rows text tail : List ℕ) (i j : ℕ) (r : Rest) (at : Cursor) : Type 0 where
-  pub moved : Moved rows text tail i j r (pastFirst r) at
+pub record FirstPassed (rows text tail : List ℕ) (i j : ℕ) (r : Rest) (at : Cursor) : Type 0 where
+  pub moved : CursorMoved rows text tail i j r (pastFirst r) at
   pub over : (t : Tree) (f : Forest) → r .elements ≡ more t f → textOf t ≡ between j (at .text) text
 
 -- a model's text, and all elements from a cursor on behind it

@@ -10,14 +10,14 @@ ghost use Rattle.mitex_spec.specs.LookUp.{aliasOf, ruleOf, endOf};
 ghost use Rattle.mitex_syntax.specs.Tree.{Forest};
 ghost use Rattle.mitex_syntax.specs.Views.{isSolid};
 ghost use Rattle.mitex_syntax.specs.Spells.{SpellsAll, SomeForest};
-ghost use Rattle.mitex_state.specs.Texts.{leftParen, leftBracket, mitexcolor};
-ghost use Rattle.mitex_state.specs.Colors.{Rest, seek, modelIn, isModel, argumentModel, colorAlias};
-ghost use Rattle.mitex_state.specs.Parts.{between, modelText, GreedyFound, ModelFound};
-ghost use Rattle.mitex_colors.specs.Scanning.{stopsAt, picks, Left, Sought, Passed, modelAt, ColorFound};
+ghost use Rattle.mitex_meaning.specs.Texts.{leftParen, leftBracket, mitexcolor};
+ghost use Rattle.mitex_meaning.specs.Colors.{Rest, seek, modelIn, isModel, argumentModel, colorAlias};
+ghost use Rattle.mitex_meaning.specs.Parts.{between, modelText, GreedyFound, ModelFound};
+ghost use Rattle.mitex_colors.specs.Scanning.{stopsAt, picks, ElementsLeft, Sought, FirstPassed, modelAt, ColorFound};
+use mitex_meaning::GreedyPart;
+use mitex_meaning::ModelPart;
+use mitex_meaning::Part;
 use mitex_spec::Found;
-use mitex_state::GreedyPart;
-use mitex_state::ModelPart;
-use mitex_state::Part;
 use mitex_syntax::CLAUSE_ARGUMENT;
 use mitex_syntax::CLAUSE_COMMAND_NAME;
 use mitex_syntax::Cursor;
@@ -79,7 +79,7 @@ fn stops(kind: u8, stop: Stop) -> bool
 // Past the first element from a cursor on, if there is one.
 fn past_first(rows: &[u8], text: &[u8], at: Cursor) -> Cursor
     requires { ⌜ SomeForest (now rows) (now text) (at .row) (at .text) ⌝ }
-    ensures { λ r. ⌜ ((tail : List ℕ) (s : Rest) → Left (now (rows .entry)) (now (text .entry)) tail (at .row) (at .text) (s .elements) → Passed (now (rows .entry)) (now (text .entry)) tail (at .row) (at .text) s r) ⌝ }
+    ensures { λ r. ⌜ ((tail : List ℕ) (s : Rest) → ElementsLeft (now (rows .entry)) (now (text .entry)) tail (at .row) (at .text) (s .elements) → FirstPassed (now (rows .entry)) (now (text .entry)) tail (at .row) (at .text) s r) ⌝ }
 {
     let i = at.row;
     if rows.len() <= i {
@@ -95,7 +95,7 @@ fn past_first(rows: &[u8], text: &[u8], at: Cursor) -> Cursor
 // The first element from a cursor on that a scan stops at, or the end.
 fn seek(rows: &[u8], text: &[u8], at: Cursor, stop: Stop) -> Cursor
     requires { ⌜ SomeForest (now rows) (now text) (at .row) (at .text) ⌝ }
-    ensures { λ r. ⌜ ((tail : List ℕ) (s : Rest) → Left (now (rows .entry)) (now (text .entry)) tail (at .row) (at .text) (s .elements) → Sought (picks stop) (now (rows .entry)) (now (text .entry)) tail (at .row) (at .text) s r) ⌝ }
+    ensures { λ r. ⌜ ((tail : List ℕ) (s : Rest) → ElementsLeft (now (rows .entry)) (now (text .entry)) tail (at .row) (at .text) (s .elements) → Sought (picks stop) (now (rows .entry)) (now (text .entry)) tail (at .row) (at .text) s r) ⌝ }
 {
     let mut i = at.row;
     let mut j = at.text;
@@ -133,7 +133,7 @@ fn model_part(rows: &[u8], text: &[u8], held: bool, from: usize, to: usize, at: 
 // `\color`: a model from a cursor on, in brackets, with trivia around it passed over.
 fn greedy_model(rows: &[u8], text: &[u8], at: Cursor) -> ModelPart
     requires { ⌜ SomeForest (now rows) (now text) (at .row) (at .text) ⌝ }
-    ensures { λ r. ⌜ ((s : Rest) → Left (now (rows .entry)) (now (text .entry)) [] (at .row) (at .text) (s .elements) → 8 * s .rows ≡ 8 + at .row → ModelFound (modelIn (seek isSolid s)) (s .elements) (now (rows .entry)) (now (text .entry)) r) ⌝ }
+    ensures { λ r. ⌜ ((s : Rest) → ElementsLeft (now (rows .entry)) (now (text .entry)) [] (at .row) (at .text) (s .elements) → 8 * s .rows ≡ 8 + at .row → ModelFound (modelIn (seek isSolid s)) (s .elements) (now (rows .entry)) (now (text .entry)) r) ⌝ }
 {
     let first = seek(rows, text, at, Stop::Solid);
     let i = first.row;

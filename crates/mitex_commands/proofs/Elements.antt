@@ -15,12 +15,12 @@ use Rattle.mitex_syntax.specs.Tree.{Tree, Forest, kindOf}
 use Rattle.mitex_syntax.specs.Tree.Tree.{token, node}
 use Rattle.mitex_syntax.specs.Spells.{Sound, Spells}
 use Rattle.mitex_syntax.proofs.Trees.{kind-spelt, as-node, as-token}
-use Rattle.mitex_state.specs.Outcome.{Context, Carry, Conv, flagged}
-use Rattle.mitex_state.specs.Outcome.Outcome.{refused}
-use Rattle.mitex_state.specs.Tokens.{tokenOut}
-use Rattle.mitex_state.specs.Conversion.{elementOf, armBy, step}
-use Rattle.mitex_state.specs.declared.Element.{Element}
-use Rattle.mitex_state.specs.declared.Element.the-variants.{Children, Formula, CurlyGroup, ClauseLr, AttachComponent, Silent, Command, Environment, TypstCode, Unexpected, Token}
+use Rattle.mitex_meaning.specs.Outcome.{Context, Carry, Conv, flagged}
+use Rattle.mitex_meaning.specs.Outcome.Outcome.{refused}
+use Rattle.mitex_meaning.specs.Tokens.{tokenOut}
+use Rattle.mitex_meaning.specs.Conversion.{elementOf, armBy, step}
+use Rattle.mitex_meaning.specs.declared.Element.{Element}
+use Rattle.mitex_meaning.specs.declared.Element.the-variants.{Children, Formula, CurlyGroup, ClauseLr, AttachComponent, Silent, Command, Environment, TypstCode, Unexpected, Token}
 
 -- the kinds that have an arm other than that of tokens
 abbrev pub elements : List (ℕ × Element)

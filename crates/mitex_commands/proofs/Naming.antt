@@ -4,10 +4,10 @@ use mathlib.Core.Bool.{true, false}
 use mathlib.Core.List.{List}
 use Prim.Native.Nat.{ℕ}
 use Rattle.text.specs.Compare.{same}
-use Rattle.mitex_state.specs.Texts.{strong, emph, textbfName, textitName, substackName}
-use Rattle.mitex_state.specs.Commands.{typstName, otherArguments}
-use Rattle.mitex_state.specs.declared.LaTeXMode.{LaTeXMode}
-use Rattle.mitex_state.specs.declared.LaTeXMode.the-variants.{Text, Math}
+use Rattle.mitex_meaning.specs.Texts.{strong, emph, textbfName, textitName, substackName}
+use Rattle.mitex_meaning.specs.Commands.{typstName, otherArguments}
+use Rattle.mitex_meaning.specs.declared.LaTeXMode.{LaTeXMode}
+use Rattle.mitex_meaning.specs.declared.LaTeXMode.the-variants.{Text, Math}
 
 module _ (name written : List ℕ) {m : LaTeXMode} where
   pub name-strong : m ≡ Text → same name textbfName ≡ true → typstName m name written ≡ strong

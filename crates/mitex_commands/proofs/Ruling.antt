@@ -12,10 +12,10 @@ use Rattle.mitex_spec.specs.declared.Found.{Found}
 use Rattle.mitex_spec.specs.declared.Found.the-variants.{Absent, Plain, Aliased}
 use Rattle.mitex_syntax.specs.Tree.{Forest}
 use Rattle.mitex_syntax.specs.Views.{cmdName}
-use Rattle.mitex_state.specs.Outcome.{Context, Carry, Conv}
-use Rattle.mitex_state.specs.Outcome.Outcome.{refused}
-use Rattle.mitex_state.specs.Commands.{typstName, written, normalBy, commandOf, commandBy, command}
-use Rattle.mitex_state.specs.declared.Command.{Command}
+use Rattle.mitex_meaning.specs.Outcome.{Context, Carry, Conv}
+use Rattle.mitex_meaning.specs.Outcome.Outcome.{refused}
+use Rattle.mitex_meaning.specs.Commands.{typstName, written, normalBy, commandOf, commandBy, command}
+use Rattle.mitex_meaning.specs.declared.Command.{Command}
 use Rattle.mitex_commands.specs.Leaves.{isAbsent, classOf}
 
 -- ---- by name

@@ -5,11 +5,11 @@ use Prim.Native.Nat.{ℕ}
 use Rattle.text.specs.Compare.{same}
 use Rattle.mitex_spec.specs.declared.Found.{Found}
 use Rattle.mitex_spec.specs.declared.Found.the-variants.{Absent, Plain, Aliased}
-use Rattle.mitex_state.specs.Texts.{colorName, textcolorName, colorboxName}
-use Rattle.mitex_state.specs.declared.LaTeXEnv.{LaTeXEnv}
-use Rattle.mitex_state.specs.declared.LaTeXEnv.the-variants.{None, Figure, Table, Itemize, Enumerate, Math, Matrix, Cases, SubStack, MathCurlyGroup}
-use Rattle.mitex_state.specs.declared.Command.{Command}
-use Rattle.mitex_state.specs.declared.Command.the-variants.{Color, ColorArguments, Normal}
+use Rattle.mitex_meaning.specs.Texts.{colorName, textcolorName, colorboxName}
+use Rattle.mitex_meaning.specs.declared.LaTeXEnv.{LaTeXEnv}
+use Rattle.mitex_meaning.specs.declared.LaTeXEnv.the-variants.{None, Figure, Table, Itemize, Enumerate, Math, Matrix, Cases, SubStack, MathCurlyGroup}
+use Rattle.mitex_meaning.specs.declared.Command.{Command}
+use Rattle.mitex_meaning.specs.declared.Command.the-variants.{Color, ColorArguments, Normal}
 
 -- the last of the names of `commandOf`
 abbrev pub colorOf : List ℕ → Command

@@ -10,21 +10,21 @@ ghost use Rattle.mitex_syntax.specs.Syntax.{ClauseArgument};
 ghost use Rattle.mitex_syntax.specs.Tree.{Forest};
 ghost use Rattle.mitex_syntax.specs.Views.{firstOf, textIn};
 ghost use Rattle.mitex_syntax.specs.Spells.{Begins, SpellsAll, SomeForest};
-ghost use Rattle.mitex_state.specs.Outcome.{labelMost};
-ghost use Rattle.mitex_state.specs.State.{carryOf};
-ghost use Rattle.mitex_state.specs.Contract.{placeOf, Agrees};
-ghost use Rattle.mitex_state.specs.Texts.{space, labelMark, substackName};
-ghost use Rattle.mitex_state.specs.Commands.{commandOf, itemText, itemIn, labelNow, labelHeld, labelIn, labelText, typstName, otherArguments, argumentsOf};
-ghost use Rattle.mitex_state.specs.Conversion.{elementOf};
+ghost use Rattle.mitex_meaning.specs.Outcome.{labelMost};
+ghost use Rattle.mitex_meaning.specs.State.{carryOf};
+ghost use Rattle.mitex_meaning.specs.Contract.{placeOf, Agrees};
+ghost use Rattle.mitex_meaning.specs.Texts.{space, labelMark, substackName};
+ghost use Rattle.mitex_meaning.specs.Commands.{commandOf, itemText, itemIn, labelNow, labelHeld, labelIn, labelText, typstName, otherArguments, argumentsOf};
+ghost use Rattle.mitex_meaning.specs.Conversion.{elementOf};
 ghost use Rattle.mitex_commands.specs.Leaves.{colorOf, markOf, writesNow, isAbsent, classOf};
+use mitex_meaning::Arguments;
+use mitex_meaning::Command;
+use mitex_meaning::Converter;
+use mitex_meaning::Element;
+use mitex_meaning::LaTeXEnv;
+use mitex_meaning::LaTeXMode;
+use mitex_meaning::Walked;
 use mitex_spec::Found;
-use mitex_state::Arguments;
-use mitex_state::Command;
-use mitex_state::Converter;
-use mitex_state::Element;
-use mitex_state::LaTeXEnv;
-use mitex_state::LaTeXMode;
-use mitex_state::Walked;
 use mitex_syntax::CLAUSE_ARGUMENT;
 use mitex_syntax::CLAUSE_LR;
 use mitex_syntax::ITEM_ATTACH_COMPONENT;
@@ -168,11 +168,11 @@ pub fn convert_command_item(out: &mut [u8], at: usize, row: usize, c: Converter)
     let env = c.env;
     let mark = mark_of(env);
     if mark == 0 {
-        return mitex_state::refuse(c, NO_LIST, row);
+        return mitex_meaning::refuse(c, NO_LIST, row);
     }
     let indent = c.indent;
     let p = put_item(out, at, indent, mark);
-    mitex_state::went(c, p)
+    mitex_meaning::went(c, p)
 }
 
 // ---- `\label`
@@ -215,9 +215,9 @@ fn write_label(out: &mut [u8], at: usize, s: &[u8], c: Converter) -> Walked
     match mode {
         LaTeXMode::Text => {
             let p = put_label(out, at, s);
-            mitex_state::went(c, p)
+            mitex_meaning::went(c, p)
         }
-        LaTeXMode::Math => mitex_state::went(c, at),
+        LaTeXMode::Math => mitex_meaning::went(c, at),
     }
 }
 
@@ -227,10 +227,10 @@ fn hold_label(s: &[u8], at: usize, row: usize, c: Converter) -> Walked
     requires { ⌜ c .«label_len» ≤ labelMost ⌝ }
     ensures { λ r. ⌜ ((out : List ℕ) → Agrees r (placeOf c) row at out out (labelHeld (now (s .entry)) (carryOf c))) ⌝ }
 {
-    if s.len() <= mitex_state::LABEL_MOST {
-        return mitex_state::went(c.with_label(s), at);
+    if s.len() <= mitex_meaning::LABEL_MOST {
+        return mitex_meaning::went(c.with_label(s), at);
     }
-    mitex_state::refuse(c, LONG_LABEL, row)
+    mitex_meaning::refuse(c, LONG_LABEL, row)
 }
 
 // The text of the first argument; none where there is none.

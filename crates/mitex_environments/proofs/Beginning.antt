@@ -14,14 +14,14 @@ use Rattle.mitex_syntax.specs.Tree.Tree.{token, node}
 use Rattle.mitex_syntax.specs.Tree.Forest.{none}
 use Rattle.mitex_syntax.specs.Views.{firstBy, offsetOf, isOf, childrenOf, childrenIn, beginOf}
 use Rattle.mitex_syntax.specs.Spells.{Sound, Spells, SpellsAll, Begins}
-use Rattle.mitex_syntax.specs.Places.{Stands}
+use Rattle.mitex_syntax.specs.Places.{FirstAt}
 use Rattle.mitex_syntax.proofs.Trees.{kind-spelt, as-node, size-children}
 use Rattle.mitex_syntax.proofs.Places.{found-children, children-found}
-use Rattle.mitex_state.specs.Outcome.{shift}
-use Rattle.mitex_state.specs.Children.{each}
-use Rattle.mitex_state.specs.Parts.{BeginFound}
-use Rattle.mitex_state.proofs.Outcomes.{shift-shift}
-use Rattle.mitex_state.proofs.Loops.{each-at, each-none}
+use Rattle.mitex_meaning.specs.Outcome.{shift}
+use Rattle.mitex_meaning.specs.Children.{each}
+use Rattle.mitex_meaning.specs.Parts.{BeginFound}
+use Rattle.mitex_meaning.proofs.Outcomes.{shift-shift}
+use Rattle.mitex_meaning.proofs.Loops.{each-at, each-none}
 
 -- what the children of a node begin with, they are
 node-exact : (t : Tree) {k : ℕ} {g : Forest} {l v m : List ℕ} → Spells t l v → Begins (childrenOf t) m v → t ≡ node k g → SpellsAll (childrenOf t) m v
@@ -29,7 +29,7 @@ unfolding textOf Sound
 node-exact (token j s) sp w e = let z : _≡_ {A = ℕ} 0 1 = cc in absurd (omega arith)
 node-exact (node j h) sp w e = record { rows-are = w .rows-are; text-is = sp .text-is; sound = sp .sound .1 }
 
-module _ (k : ℕ) {f : Forest} {rows text : List ℕ} {i a b c d : ℕ} (s : Stands (isOf k) f rows text i a b c d) where
+module _ (k : ℕ) {f : Forest} {rows text : List ℕ} {i a b c d : ℕ} (s : FirstAt (isOf k) f rows text i a b c d) where
   -- a child of a kind that no token has is a node, and its children are spelt exactly
   pub found-exact : isToken k ≡ false → SpellsAll (childrenOf (s .tree)) (take (b - (a + 8)) (drop (a + 8) rows)) (take (d - c) (drop c text))
   found-exact h =
@@ -39,7 +39,7 @@ module _ (k : ℕ) {f : Forest} {rows text : List ℕ} {i a b c d : ℕ} (s : St
 
 module _ {f : Forest} {rows text : List ℕ} where
   pub begin-found :
-      {a b c d : ℕ} → Stands (isOf ItemBegin) f rows text 0 a b c d → BeginFound f rows text (record { i = a + 8; e = b; j = c; u = d })
+      {a b c d : ℕ} → FirstAt (isOf ItemBegin) f rows text 0 a b c d → BeginFound f rows text (record { i = a + 8; e = b; j = c; u = d })
   begin-found {a} {b} {c} {d} s =
       let g = childrenOf (s .tree) in
       let is : beginOf f ≡ g = children-found s in

@@ -16,15 +16,15 @@ use Rattle.mitex_syntax.specs.Tree.Forest.{none, more}
 use Rattle.mitex_syntax.specs.Rows.{extentOf, tokenSum}
 use Rattle.mitex_syntax.specs.Views.{isOf, firstOf, offsetOf, childrenOf}
 use Rattle.mitex_syntax.specs.Spells.{Spells, Begins, SomeForest}
-use Rattle.mitex_syntax.specs.Places.{Stands}
+use Rattle.mitex_syntax.specs.Places.{FirstAt}
 use Rattle.mitex_syntax.proofs.Trees.{kind-spelt, children-begin, getD-here, size-children, size-more, no-left, Element, element, rows-e, part-spells, past, child}
 use Rattle.mitex_syntax.proofs.Places.{some-forest}
-use Rattle.mitex_state.specs.Environments.{Caption, isCaption, captionAt, orLater, lastCaption}
-use Rattle.mitex_state.specs.Environments.Caption.{absent, bare, caption}
-use Rattle.mitex_state.specs.Parts.{between, CaptionFound}
-use Rattle.mitex_state.specs.Parts.CaptionFound.{no-caption, bare-caption, caption-at}
-use Rattle.mitex_state.specs.declared.CaptionPart.{CaptionPart}
-use Rattle.mitex_state.specs.declared.CaptionPart.the-variants.{NoCaption, BareCaption, CaptionAt}
+use Rattle.mitex_meaning.specs.Environments.{Caption, isCaption, captionAt, orLater, lastCaption}
+use Rattle.mitex_meaning.specs.Environments.Caption.{absent, bare, caption}
+use Rattle.mitex_meaning.specs.Parts.{between, CaptionFound}
+use Rattle.mitex_meaning.specs.Parts.CaptionFound.{no-caption, bare-caption, caption-at}
+use Rattle.mitex_meaning.specs.declared.CaptionPart.{CaptionPart}
+use Rattle.mitex_meaning.specs.declared.CaptionPart.the-variants.{NoCaption, BareCaption, CaptionAt}
 use Rattle.mitex_environments.specs.Captions.{ChildAt, captionIn, Shows, laterPart}
 use Rattle.mitex_environments.specs.Captions.Shows.{shows-none, shows-bare, shows-at}
 
@@ -113,7 +113,7 @@ other-shows t o e z = shows-none (ap (λ (x : Bool). cond x (captionAt o t (firs
 
 -- the first argument of a caption
 module _ {rows text : List ℕ} {i e j u : ℕ} {p : Tree → Bool} {f : Forest} {a b c d : ℕ} (k : ChildAt rows text i e j u)
-    (s : Stands p f (between (i + 8) e rows) (between j u text) 0 a b c d) where
+    (s : FirstAt p f (between (i + 8) e rows) (between j u text) 0 a b c d) where
   pub argument-high : i + 8 + b ≤ length rows
   argument-high = let z = k .end in omega (arith, part-long rows (i + 8) e (k .some-rows) z, s .end)
 
@@ -122,7 +122,7 @@ module _ {rows text : List ℕ} {i e j u : ℕ} {p : Tree → Bool} {f : Forest}
 
 pub argument-shows :
     (t : Tree) {rows text : List ℕ} (i e j u : ℕ) {a b c d : ℕ} (o : ℕ) → i ≡ 8 * o → i + 8 ≤ e → e ≤ length rows → j ≤ u → u ≤ length text
-    → Stands (isOf ClauseArgument) (childrenOf t) (between (i + 8) e rows) (between j u text) 0 a b c d
+    → FirstAt (isOf ClauseArgument) (childrenOf t) (between (i + 8) e rows) (between j u text) 0 a b c d
     → Shows (captionAt (1 + o) t (firstOf ClauseArgument (childrenOf t))) (size t) rows text
     (CaptionAt (record { i = i + 8 + a; e = i + 8 + b; j = j + c; u = j + d }))
 argument-shows t {rows} {text} i e j u {a} {b} {c} {d} o q some end some-text stop s =

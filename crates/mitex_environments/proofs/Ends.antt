@@ -3,10 +3,10 @@ use mathlib.Core.Path.{_≡_, refl, sym, ap, _∙_}
 use mathlib.Core.Bool.{Bool, true, false, cond}
 use mathlib.Core.List.{List, [], _∷_, _++_}
 use Prim.Native.Nat.{ℕ}
-use Rattle.mitex_state.specs.Texts.{leftBracket, hash}
-use Rattle.mitex_state.specs.Environments.{envBegin}
-use Rattle.mitex_state.specs.declared.LaTeXEnv.{LaTeXEnv}
-use Rattle.mitex_state.specs.declared.LaTeXEnv.the-variants.{None, Figure, Table, Itemize, Enumerate, Math, Matrix, Cases, SubStack, MathCurlyGroup}
+use Rattle.mitex_meaning.specs.Texts.{leftBracket, hash}
+use Rattle.mitex_meaning.specs.Environments.{envBegin}
+use Rattle.mitex_meaning.specs.declared.LaTeXEnv.{LaTeXEnv}
+use Rattle.mitex_meaning.specs.declared.LaTeXEnv.the-variants.{None, Figure, Table, Itemize, Enumerate, Math, Matrix, Cases, SubStack, MathCurlyGroup}
 use Rattle.mitex_environments.specs.Plain.{isPlain}
 
 abbrev pub classes : List (ℕ × LaTeXEnv)

@@ -5,15 +5,15 @@ use mathlib.Core.List.{List, []}
 use Prim.Native.Nat.{ℕ, _≤_}
 use Rattle.text.specs.Writing.{cap, Wrote}
 use Rattle.text.proofs.Writing.{wrote-nil}
-use Rattle.mitex_state.specs.Outcome.{Carry, Label, labelMost, labelled}
-use Rattle.mitex_state.specs.Outcome.Label.{unheld}
-use Rattle.mitex_state.specs.State.{carryOf, Carried}
-use Rattle.mitex_state.specs.Contract.{placeOf, Went, Takes}
-use Rattle.mitex_state.specs.Environments.{taken, dropped, heldText}
-use Rattle.mitex_state.specs.declared.LaTeXMode.{LaTeXMode}
-use Rattle.mitex_state.specs.declared.LaTeXMode.the-variants.{Text, Math}
-use Rattle.mitex_state.specs.declared.Converter.{Converter}
-use Rattle.mitex_state.specs.declared.Walked.{Walked}
+use Rattle.mitex_meaning.specs.Outcome.{Carry, Label, labelMost, labelled}
+use Rattle.mitex_meaning.specs.Outcome.Label.{unheld}
+use Rattle.mitex_meaning.specs.State.{carryOf, Carried}
+use Rattle.mitex_meaning.specs.Contract.{placeOf, Went, Takes}
+use Rattle.mitex_meaning.specs.Environments.{taken, dropped, heldText}
+use Rattle.mitex_meaning.specs.declared.LaTeXMode.{LaTeXMode}
+use Rattle.mitex_meaning.specs.declared.LaTeXMode.the-variants.{Text, Math}
+use Rattle.mitex_meaning.specs.declared.Converter.{Converter}
+use Rattle.mitex_meaning.specs.declared.Walked.{Walked}
 
 taken-math : (list : Bool) (l : Label) → taken list Math l ≡ []
 taken-math true l = refl

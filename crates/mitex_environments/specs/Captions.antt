@@ -9,12 +9,12 @@ use Rattle.mitex_syntax.specs.Syntax.{ClauseArgument}
 use Rattle.mitex_syntax.specs.Tree.{Tree, size}
 use Rattle.mitex_syntax.specs.Views.{firstOf, childrenOf}
 use Rattle.mitex_syntax.specs.Spells.{Spells, SomeTree}
-use Rattle.mitex_state.specs.Environments.{Caption, isCaption, captionAt}
-use Rattle.mitex_state.specs.Environments.Caption.{absent, bare, caption}
-use Rattle.mitex_state.specs.Parts.{between, rowsIn, textIn, Inside}
-use Rattle.mitex_state.specs.declared.Part.{Part}
-use Rattle.mitex_state.specs.declared.CaptionPart.{CaptionPart}
-use Rattle.mitex_state.specs.declared.CaptionPart.the-variants.{NoCaption, BareCaption, CaptionAt}
+use Rattle.mitex_meaning.specs.Environments.{Caption, isCaption, captionAt}
+use Rattle.mitex_meaning.specs.Environments.Caption.{absent, bare, caption}
+use Rattle.mitex_meaning.specs.Parts.{between, rowsIn, textIn, Inside}
+use Rattle.mitex_meaning.specs.declared.Part.{Part}
+use Rattle.mitex_meaning.specs.declared.CaptionPart.{CaptionPart}
+use Rattle.mitex_meaning.specs.declared.CaptionPart.the-variants.{NoCaption, BareCaption, CaptionAt}
 
 -- a child stands in rows i to e and text j to u, and all bytes are few enough to be counted
 pub record ChildAt (rows text : List ℕ) (i e j u : ℕ) : Type 0 where

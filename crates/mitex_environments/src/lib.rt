@@ -10,20 +10,20 @@ ghost use Rattle.mitex_syntax.specs.Syntax.{ClauseArgument};
 ghost use Rattle.mitex_syntax.specs.Tree.{Tree, Forest, size};
 ghost use Rattle.mitex_syntax.specs.Views.{firstOf, textIn, beginOf, childrenOf};
 ghost use Rattle.mitex_syntax.specs.Spells.{Spells, SpellsAll, SomeForest};
-ghost use Rattle.mitex_state.specs.Outcome.{labelMost};
-ghost use Rattle.mitex_state.specs.Texts.{leftParen, hash};
-ghost use Rattle.mitex_state.specs.State.{labelOf};
-ghost use Rattle.mitex_state.specs.Contract.{Place, Takes};
-ghost use Rattle.mitex_state.specs.Environments.{envOf, isList, envBegin, heldText, isCaption, captionAt};
-ghost use Rattle.mitex_state.specs.Parts.{between, BeginFound, CaptionFound};
+ghost use Rattle.mitex_meaning.specs.Outcome.{labelMost};
+ghost use Rattle.mitex_meaning.specs.Texts.{leftParen, hash};
+ghost use Rattle.mitex_meaning.specs.State.{labelOf};
+ghost use Rattle.mitex_meaning.specs.Contract.{Place, Takes};
+ghost use Rattle.mitex_meaning.specs.Environments.{envOf, isList, envBegin, heldText, isCaption, captionAt};
+ghost use Rattle.mitex_meaning.specs.Parts.{between, BeginFound, CaptionFound};
 ghost use Rattle.mitex_environments.specs.Plain.{isPlain};
 ghost use Rattle.mitex_environments.specs.Captions.{ChildAt, captionIn, Shows, laterPart};
-use mitex_state::CaptionPart;
-use mitex_state::Converter;
-use mitex_state::LaTeXEnv;
-use mitex_state::LaTeXMode;
-use mitex_state::Part;
-use mitex_state::Walked;
+use mitex_meaning::CaptionPart;
+use mitex_meaning::Converter;
+use mitex_meaning::LaTeXEnv;
+use mitex_meaning::LaTeXMode;
+use mitex_meaning::Part;
+use mitex_meaning::Walked;
 use mitex_syntax::CLAUSE_ARGUMENT;
 use mitex_syntax::ITEM_CMD;
 use mitex_syntax::Place;
@@ -151,7 +151,7 @@ fn drop_label(out: &mut [u8], a: Walked) -> Walked
     let c = a.converter;
     let at = a.at;
     let p = put_held(out, at, c);
-    mitex_state::went(c.without_label(), p)
+    mitex_meaning::went(c.without_label(), p)
 }
 
 // The end of an environment: any but a list that ends in Text takes the held label.

@@ -9,8 +9,8 @@ use lib.ListN.{length, take}
 use lib.Seq.{length-take-le}
 use Rattle.text.specs.Compare.{endsWith}
 use Rattle.text.proofs.Compare.{by-test, ends-short}
-use Rattle.mitex_state.specs.Texts.{ofPage, textwidth, textheight}
-use Rattle.mitex_state.specs.Images.{stripped, withoutEnd, lengthText}
+use Rattle.mitex_meaning.specs.Texts.{ofPage, textwidth, textheight}
+use Rattle.mitex_meaning.specs.Images.{stripped, withoutEnd, lengthText}
 
 -- ---- an ending
 

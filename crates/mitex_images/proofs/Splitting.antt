@@ -17,9 +17,9 @@ use Rattle.utf8.proofs.Trimming.{trim-length}
 use Rattle.mitex_syntax.specs.Syntax.{ItemCurly, ItemBracket}
 use Rattle.mitex_syntax.specs.Tree.{Tree, Forest}
 use Rattle.mitex_syntax.specs.Views.{inner, textIn, argumentWith}
-use Rattle.mitex_state.specs.Texts.{quote, commaSpace, colonSpace, imageBegin, imageEnd, widthName, heightName}
-use Rattle.mitex_state.specs.Images.{extend, split, commaByte, equalsByte, lengthText, keyOf, valueOf, keyText, pairText}
-use Rattle.mitex_state.specs.Images.{optionText, optionsText, innerText, optionArgument, image}
+use Rattle.mitex_meaning.specs.Texts.{quote, commaSpace, colonSpace, imageBegin, imageEnd, widthName, heightName}
+use Rattle.mitex_meaning.specs.Images.{extend, split, commaByte, equalsByte, lengthText, keyOf, valueOf, keyText, pairText}
+use Rattle.mitex_meaning.specs.Images.{optionText, optionsText, innerText, optionArgument, image}
 
 -- ---- the first part
 

@@ -10,9 +10,9 @@ ghost use Rattle.text.specs.Writing.{cap, Wrote};
 ghost use Rattle.mitex_syntax.specs.Tree.{Forest};
 ghost use Rattle.mitex_syntax.specs.Views.{argumentWith};
 ghost use Rattle.mitex_syntax.specs.Spells.{Begins, SomeForest};
-ghost use Rattle.mitex_state.specs.Texts.{ofPage, widthName, heightName};
-ghost use Rattle.mitex_state.specs.Images.{split, withoutEnd, equalsByte, commaByte, lengthText, valueOf};
-ghost use Rattle.mitex_state.specs.Images.{keyText, optionText, optionsText, innerText, image};
+ghost use Rattle.mitex_meaning.specs.Texts.{ofPage, widthName, heightName};
+ghost use Rattle.mitex_meaning.specs.Images.{split, withoutEnd, equalsByte, commaByte, lengthText, valueOf};
+ghost use Rattle.mitex_meaning.specs.Images.{keyText, optionText, optionsText, innerText, image};
 
 const COMMA: u8 = b',';
 

@@ -12,13 +12,13 @@ use Rattle.mitex_syntax.specs.Tree.{Tree, kindOf, textOf}
 use Rattle.mitex_syntax.specs.Views.{childrenOf}
 use Rattle.mitex_syntax.specs.Spells.{Spells, SomeForest}
 use Rattle.mitex_syntax.proofs.Trees.{kind-spelt, children-begin}
-use Rattle.mitex_state.specs.Children.{isSplit, attachAct, cellAct, nextAttach, nextLoop}
-use Rattle.mitex_state.specs.declared.Attach.{Attach}
-use Rattle.mitex_state.specs.declared.Attach.the-variants.{Bare, Based, Split}
-use Rattle.mitex_state.specs.declared.Act.{Act}
-use Rattle.mitex_state.specs.declared.Act.the-variants.{Convert, Open}
-use Rattle.mitex_state.specs.declared.Loop.{Loop}
-use Rattle.mitex_state.specs.declared.Loop.the-variants.{Plain, Curly, Spaced, Attached, Greedy, Separated, Bracketed, Dollars, Arguments, Named, Inside, Figure, Table}
+use Rattle.mitex_meaning.specs.Children.{isSplit, attachAct, cellAct, nextAttach, nextLoop}
+use Rattle.mitex_meaning.specs.declared.Attach.{Attach}
+use Rattle.mitex_meaning.specs.declared.Attach.the-variants.{Bare, Based, Split}
+use Rattle.mitex_meaning.specs.declared.Act.{Act}
+use Rattle.mitex_meaning.specs.declared.Act.the-variants.{Convert, Open}
+use Rattle.mitex_meaning.specs.declared.Loop.{Loop}
+use Rattle.mitex_meaning.specs.declared.Loop.the-variants.{Plain, Curly, Spaced, Attached, Greedy, Separated, Bracketed, Dollars, Arguments, Named, Inside, Figure, Table}
 use Rattle.mitex_loops.specs.Given.{ChildGiven, numberOf}
 
 -- ---- the bytes of a child, and the tree

@@ -5,9 +5,9 @@ use mathlib.Core.List.{[], _∷_}
 use Prim.Native.Nat.{ℕ}
 use native.Mathlib.Omega.{arith}
 use borrow.Author.Tests.{ne-eqb}
-use Rattle.mitex_state.specs.Children.{converts, behind}
-use Rattle.mitex_state.specs.declared.Act.{Act}
-use Rattle.mitex_state.specs.declared.Act.the-variants.{Skip, Convert, ThenSpace, Space, ThenComma, InBrackets, InDollars, SplitBare, SplitBased, Name, Empty, EmptyLast, ThinRule, ThickRule, Open, Close, CloseLast}
+use Rattle.mitex_meaning.specs.Children.{converts, behind}
+use Rattle.mitex_meaning.specs.declared.Act.{Act}
+use Rattle.mitex_meaning.specs.declared.Act.the-variants.{Skip, Convert, ThenSpace, Space, ThenComma, InBrackets, InDollars, SplitBare, SplitBased, Name, Empty, EmptyLast, ThinRule, ThickRule, Open, Close, CloseLast}
 use Rattle.mitex_loops.specs.Marks.{behindByte, markOf}
 
 pub some-mark : (b : ℕ) → (b ≡ 0 → ⊥) → b ∷ [] ≡ markOf b

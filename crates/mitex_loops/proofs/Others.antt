@@ -16,7 +16,7 @@ use Rattle.mitex_syntax.specs.Tree.Forest.{none, more}
 use Rattle.mitex_syntax.specs.Rows.{extentOf}
 use Rattle.mitex_syntax.proofs.Trees.{length-rows, extent-tree, size-some, no-left}
 use Rattle.mitex_syntax.proofs.Seeking.{kind-first}
-use Rattle.mitex_state.specs.Children.{follows, othersFollow}
+use Rattle.mitex_meaning.specs.Children.{follows, othersFollow}
 
 -- ---- whether a child follows
 

@@ -4,17 +4,17 @@ use mathlib.Core.List.{[]}
 use Prim.Native.Nat.{_+_}
 use Rattle.mitex_syntax.specs.Tree.{Tree, size}
 use Rattle.mitex_syntax.specs.Tree.Forest.{none, more}
-use Rattle.mitex_state.specs.Outcome.{Carry, Outcome, after, andThen, closing, shift, stepOf}
-use Rattle.mitex_state.specs.Outcome.Outcome.{done}
-use Rattle.mitex_state.specs.Children.{each}
-use Rattle.mitex_state.specs.Groups.{groupEnv}
-use Rattle.mitex_state.specs.declared.LaTeXEnv.{LaTeXEnv}
-use Rattle.mitex_state.specs.declared.LaTeXEnv.the-variants.{None, Figure, Itemize, Enumerate, Matrix, Cases, SubStack, MathCurlyGroup}
-use Rattle.mitex_state.specs.declared.LaTeXEnv.the-variants.{Math as MathEnv, Table as TableEnv}
-use Rattle.mitex_state.specs.declared.Loop.the-variants.{Plain}
-use Rattle.mitex_state.specs.declared.Act.the-variants.{Convert}
-use Rattle.mitex_state.proofs.Outcomes.{after-nil, andThen-same, andThen-done, closing-nil, shift-zero}
-use Rattle.mitex_state.proofs.Loops.{turn-converts, each-none, each-more}
+use Rattle.mitex_meaning.specs.Outcome.{Carry, Outcome, after, andThen, closing, shift, stepOf}
+use Rattle.mitex_meaning.specs.Outcome.Outcome.{done}
+use Rattle.mitex_meaning.specs.Children.{each}
+use Rattle.mitex_meaning.specs.Groups.{groupEnv}
+use Rattle.mitex_meaning.specs.declared.LaTeXEnv.{LaTeXEnv}
+use Rattle.mitex_meaning.specs.declared.LaTeXEnv.the-variants.{None, Figure, Itemize, Enumerate, Matrix, Cases, SubStack, MathCurlyGroup}
+use Rattle.mitex_meaning.specs.declared.LaTeXEnv.the-variants.{Math as MathEnv, Table as TableEnv}
+use Rattle.mitex_meaning.specs.declared.Loop.the-variants.{Plain}
+use Rattle.mitex_meaning.specs.declared.Act.the-variants.{Convert}
+use Rattle.mitex_meaning.proofs.Outcomes.{after-nil, andThen-same, andThen-done, closing-nil, shift-zero}
+use Rattle.mitex_meaning.proofs.Loops.{turn-converts, each-none, each-more}
 
 -- no text before and none behind
 pub bare : (o : Outcome) → o ≡ after [] (closing [] o)

@@ -7,10 +7,10 @@ use lib.ListN.{length}
 use Rattle.text.specs.Writing.{cap}
 use Rattle.mitex_syntax.specs.Tree.{Tree, Forest, rowsOfs}
 use Rattle.mitex_syntax.specs.Spells.{Spells, SomeTree, SomeRows}
-use Rattle.mitex_state.specs.Children.{actOf}
-use Rattle.mitex_state.specs.declared.Loop.{Loop}
-use Rattle.mitex_state.specs.declared.Loop.the-variants.{Plain, Curly, Spaced, Attached, Greedy, Separated, Bracketed, Dollars, Arguments, Named, Inside, Figure, Table}
-use Rattle.mitex_state.specs.declared.Act.{Act}
+use Rattle.mitex_meaning.specs.Children.{actOf}
+use Rattle.mitex_meaning.specs.declared.Loop.{Loop}
+use Rattle.mitex_meaning.specs.declared.Loop.the-variants.{Plain, Curly, Spaced, Attached, Greedy, Separated, Bracketed, Dollars, Arguments, Named, Inside, Figure, Table}
+use Rattle.mitex_meaning.specs.declared.Act.{Act}
 
 -- some child is spelt, in bytes that are few enough to be counted
 pub record ChildGiven (rows text : List ℕ) : Type 0 where

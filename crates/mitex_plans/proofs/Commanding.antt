@@ -14,28 +14,28 @@ use Rattle.mitex_syntax.specs.Spells.{SpellsAll, SomeForest}
 use Rattle.mitex_syntax.specs.Views.{offsetBy}
 use Rattle.mitex_syntax.proofs.Trees.{all-begins, no-left}
 use Rattle.mitex_syntax.proofs.Places.{some-forest}
-use Rattle.mitex_state.specs.Outcome.{Context, Carry, Outcome, Conv, after, andThen, closing, shift, inMode, inEnv}
-use Rattle.mitex_state.specs.Outcome.Outcome.{done}
-use Rattle.mitex_state.specs.State.{contextOf}
-use Rattle.mitex_state.specs.Texts.{leftParen, rightParen, black, colorEnd}
-use Rattle.mitex_state.specs.Children.{each}
-use Rattle.mitex_state.specs.Colors.{Model, colored, bodyEnd}
-use Rattle.mitex_state.specs.Commands.{isArgument, greedyIn, greedyArgument, mathArguments, textArguments}
-use Rattle.mitex_state.specs.Parts.{rowsIn, textIn, Inside, GreedyStands, GreedyFound, ModelFound}
-use Rattle.mitex_state.specs.Parts.GreedyFound.{no-greedy, greedy-at}
-use Rattle.mitex_state.proofs.Outcomes.{after-nil, andThen-same, andThen-closing, shift-shift, shift-closing}
-use Rattle.mitex_state.proofs.Loops.{each-at}
-use Rattle.mitex_state.specs.declared.LaTeXMode.the-variants.{Text}
-use Rattle.mitex_state.specs.declared.LaTeXEnv.{LaTeXEnv}
-use Rattle.mitex_state.specs.declared.LaTeXEnv.the-variants.{SubStack}
-use Rattle.mitex_state.specs.declared.Loop.{Loop}
-use Rattle.mitex_state.specs.declared.Loop.the-variants.{Plain, Greedy, Separated, Bracketed}
-use Rattle.mitex_state.specs.declared.Arguments.{Arguments}
-use Rattle.mitex_state.specs.declared.Arguments.the-variants.{NoArguments, GreedyArgument, MathArguments, TextArguments}
-use Rattle.mitex_state.specs.declared.Part.{Part}
-use Rattle.mitex_state.specs.declared.GreedyPart.{GreedyPart}
-use Rattle.mitex_state.specs.declared.ModelPart.{ModelPart}
-use Rattle.mitex_state.specs.declared.Converter.{Converter}
+use Rattle.mitex_meaning.specs.Outcome.{Context, Carry, Outcome, Conv, after, andThen, closing, shift, inMode, inEnv}
+use Rattle.mitex_meaning.specs.Outcome.Outcome.{done}
+use Rattle.mitex_meaning.specs.State.{contextOf}
+use Rattle.mitex_meaning.specs.Texts.{leftParen, rightParen, black, colorEnd}
+use Rattle.mitex_meaning.specs.Children.{each}
+use Rattle.mitex_meaning.specs.Colors.{Model, colored, bodyEnd}
+use Rattle.mitex_meaning.specs.Commands.{isArgument, greedyIn, greedyArgument, mathArguments, textArguments}
+use Rattle.mitex_meaning.specs.Parts.{rowsIn, textIn, Inside, GreedyStands, GreedyFound, ModelFound}
+use Rattle.mitex_meaning.specs.Parts.GreedyFound.{no-greedy, greedy-at}
+use Rattle.mitex_meaning.proofs.Outcomes.{after-nil, andThen-same, andThen-closing, shift-shift, shift-closing}
+use Rattle.mitex_meaning.proofs.Loops.{each-at}
+use Rattle.mitex_meaning.specs.declared.LaTeXMode.the-variants.{Text}
+use Rattle.mitex_meaning.specs.declared.LaTeXEnv.{LaTeXEnv}
+use Rattle.mitex_meaning.specs.declared.LaTeXEnv.the-variants.{SubStack}
+use Rattle.mitex_meaning.specs.declared.Loop.{Loop}
+use Rattle.mitex_meaning.specs.declared.Loop.the-variants.{Plain, Greedy, Separated, Bracketed}
+use Rattle.mitex_meaning.specs.declared.Arguments.{Arguments}
+use Rattle.mitex_meaning.specs.declared.Arguments.the-variants.{NoArguments, GreedyArgument, MathArguments, TextArguments}
+use Rattle.mitex_meaning.specs.declared.Part.{Part}
+use Rattle.mitex_meaning.specs.declared.GreedyPart.{GreedyPart}
+use Rattle.mitex_meaning.specs.declared.ModelPart.{ModelPart}
+use Rattle.mitex_meaning.specs.declared.Converter.{Converter}
 use Rattle.mitex_loops.specs.Given.{numberOf}
 use Rattle.mitex_plans.specs.Plans.{endText, planned, MeansBoth, argumentsIn, ArgumentsMean, ColorGiven, coloredBy}
 use Rattle.mitex_plans.specs.Plans.ArgumentsMean.{missing, takes}

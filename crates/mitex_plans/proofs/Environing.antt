@@ -11,23 +11,23 @@ use Rattle.mitex_syntax.specs.Spells.{SpellsAll}
 use Rattle.mitex_syntax.specs.Views.{beginOf, offsetOf}
 use Rattle.mitex_syntax.specs.Syntax.{ItemBegin}
 use Rattle.mitex_syntax.proofs.Trees.{spells-alone}
-use Rattle.mitex_state.specs.Outcome.{Context, Carry, Outcome, Conv, after, andThen, closing, shift, stepOf}
-use Rattle.mitex_state.specs.State.{contextOf}
-use Rattle.mitex_state.specs.Texts.{leftParen, rightParen, hash, bodyBegin, blockEnd, captionBegin, captionEnd, dollarBegin, dollarEnd}
-use Rattle.mitex_state.specs.Children.{each}
-use Rattle.mitex_state.specs.Environments.{Caption, mathEnv, lastCaption, captioned, figureEnv}
-use Rattle.mitex_state.specs.Environments.Caption.{caption}
-use Rattle.mitex_state.specs.Parts.{BeginFound, CaptionFound}
-use Rattle.mitex_state.specs.Parts.CaptionFound.{no-caption, bare-caption, caption-at}
-use Rattle.mitex_state.proofs.Outcomes.{after-after, andThen-same, andThen-closing, shift-closing}
-use Rattle.mitex_state.proofs.Outcomes.{closing-nil, closing-closing, closing-andThen}
-use Rattle.mitex_state.specs.declared.LaTeXMode.the-variants.{Math}
-use Rattle.mitex_state.specs.declared.LaTeXEnv.{LaTeXEnv}
-use Rattle.mitex_state.specs.declared.LaTeXEnv.the-variants.{Figure}
-use Rattle.mitex_state.specs.declared.Loop.the-variants.{Plain, Named, Inside, Figure as FigureLoop}
-use Rattle.mitex_state.specs.declared.Part.{Part}
-use Rattle.mitex_state.specs.declared.CaptionPart.{CaptionPart}
-use Rattle.mitex_state.specs.declared.Converter.{Converter}
+use Rattle.mitex_meaning.specs.Outcome.{Context, Carry, Outcome, Conv, after, andThen, closing, shift, stepOf}
+use Rattle.mitex_meaning.specs.State.{contextOf}
+use Rattle.mitex_meaning.specs.Texts.{leftParen, rightParen, hash, bodyBegin, blockEnd, captionBegin, captionEnd, dollarBegin, dollarEnd}
+use Rattle.mitex_meaning.specs.Children.{each}
+use Rattle.mitex_meaning.specs.Environments.{Caption, mathEnv, lastCaption, captioned, figureEnv}
+use Rattle.mitex_meaning.specs.Environments.Caption.{caption}
+use Rattle.mitex_meaning.specs.Parts.{BeginFound, CaptionFound}
+use Rattle.mitex_meaning.specs.Parts.CaptionFound.{no-caption, bare-caption, caption-at}
+use Rattle.mitex_meaning.proofs.Outcomes.{after-after, andThen-same, andThen-closing, shift-closing}
+use Rattle.mitex_meaning.proofs.Outcomes.{closing-nil, closing-closing, closing-andThen}
+use Rattle.mitex_meaning.specs.declared.LaTeXMode.the-variants.{Math}
+use Rattle.mitex_meaning.specs.declared.LaTeXEnv.{LaTeXEnv}
+use Rattle.mitex_meaning.specs.declared.LaTeXEnv.the-variants.{Figure}
+use Rattle.mitex_meaning.specs.declared.Loop.the-variants.{Plain, Named, Inside, Figure as FigureLoop}
+use Rattle.mitex_meaning.specs.declared.Part.{Part}
+use Rattle.mitex_meaning.specs.declared.CaptionPart.{CaptionPart}
+use Rattle.mitex_meaning.specs.declared.Converter.{Converter}
 use Rattle.mitex_plans.specs.Plans.{endText, planned, MeansBoth, isBare, captionText}
 use Rattle.mitex_plans.specs.Making.{noPart, wholePart, planAs, captionPlan}
 use Rattle.mitex_plans.specs.declared.End.{End}

@@ -12,24 +12,24 @@ use Rattle.mitex_syntax.specs.Tree.Forest.{none, more}
 use Rattle.mitex_syntax.specs.Spells.{SpellsAll}
 use Rattle.mitex_syntax.specs.Views.{isValid, isInline}
 use Rattle.mitex_syntax.specs.declared.Span.{Span}
-use Rattle.mitex_state.specs.Outcome.{Context, Carry, Outcome, Conv, after, closing, shift, inEnv, stepOf}
-use Rattle.mitex_state.specs.Outcome.Outcome.{refused, done}
-use Rattle.mitex_state.specs.State.{contextOf}
-use Rattle.mitex_state.specs.Texts.{leftParen, hash, formulaBegin, formulaEnd}
-use Rattle.mitex_state.specs.Children.{each}
-use Rattle.mitex_state.specs.Groups.{children, formula, groupEnv, curlyIn, curlyGroup, lrBegin, lrEnd, clauseLr}
-use Rattle.mitex_state.specs.Groups.{attachLoop, attachComponent}
-use Rattle.mitex_state.specs.Environments.{envBegin, envEnd, plainEnv}
-use Rattle.mitex_state.proofs.Outcomes.{closing-nil, shift-closing}
-use Rattle.mitex_state.proofs.Loops.{each-none, each-at}
-use Rattle.mitex_state.specs.declared.LaTeXMode.{LaTeXMode}
-use Rattle.mitex_state.specs.declared.LaTeXMode.the-variants.{Text, Math}
-use Rattle.mitex_state.specs.declared.LaTeXEnv.{LaTeXEnv}
-use Rattle.mitex_state.specs.declared.LaTeXEnv.the-variants.{None, Figure, Itemize, Enumerate, Matrix, Cases, SubStack, MathCurlyGroup}
-use Rattle.mitex_state.specs.declared.LaTeXEnv.the-variants.{Math as MathEnv, Table as TableEnv}
-use Rattle.mitex_state.specs.declared.Loop.the-variants.{Plain, Curly, Spaced, Inside as InsideLoop, Table}
-use Rattle.mitex_state.specs.declared.Part.{Part}
-use Rattle.mitex_state.specs.declared.Converter.{Converter}
+use Rattle.mitex_meaning.specs.Outcome.{Context, Carry, Outcome, Conv, after, closing, shift, inEnv, stepOf}
+use Rattle.mitex_meaning.specs.Outcome.Outcome.{refused, done}
+use Rattle.mitex_meaning.specs.State.{contextOf}
+use Rattle.mitex_meaning.specs.Texts.{leftParen, hash, formulaBegin, formulaEnd}
+use Rattle.mitex_meaning.specs.Children.{each}
+use Rattle.mitex_meaning.specs.Groups.{children, formula, groupEnv, curlyIn, curlyGroup, lrBegin, lrEnd, clauseLr}
+use Rattle.mitex_meaning.specs.Groups.{attachLoop, attachComponent}
+use Rattle.mitex_meaning.specs.Environments.{envBegin, envEnd, plainEnv}
+use Rattle.mitex_meaning.proofs.Outcomes.{closing-nil, shift-closing}
+use Rattle.mitex_meaning.proofs.Loops.{each-none, each-at}
+use Rattle.mitex_meaning.specs.declared.LaTeXMode.{LaTeXMode}
+use Rattle.mitex_meaning.specs.declared.LaTeXMode.the-variants.{Text, Math}
+use Rattle.mitex_meaning.specs.declared.LaTeXEnv.{LaTeXEnv}
+use Rattle.mitex_meaning.specs.declared.LaTeXEnv.the-variants.{None, Figure, Itemize, Enumerate, Matrix, Cases, SubStack, MathCurlyGroup}
+use Rattle.mitex_meaning.specs.declared.LaTeXEnv.the-variants.{Math as MathEnv, Table as TableEnv}
+use Rattle.mitex_meaning.specs.declared.Loop.the-variants.{Plain, Curly, Spaced, Inside as InsideLoop, Table}
+use Rattle.mitex_meaning.specs.declared.Part.{Part}
+use Rattle.mitex_meaning.specs.declared.Converter.{Converter}
 use Rattle.mitex_loops.specs.Given.{numberOf}
 use Rattle.mitex_loops.proofs.Plainly.{bare, group-step}
 use Rattle.mitex_plans.specs.Plans.{endText, Means, lrName, tableCells}

@@ -13,8 +13,8 @@ use Rattle.mitex_syntax.specs.Spells.{Spells, SpellsAll, SomeForest}
 use Rattle.mitex_syntax.specs.Rows.{extentOf, tokenSum, Spans}
 use Rattle.mitex_syntax.specs.declared.Span.{Span}
 use Rattle.mitex_syntax.proofs.Trees.{length-rows, length-rowss, extent-tree, size-some, Element, element, all-begins, spells-alone, no-left, spans, rows-e, text-n, part-spells, past-exact}
-use Rattle.mitex_state.specs.Parts.{between, rowsIn, textIn, Inside}
-use Rattle.mitex_state.specs.declared.Part.{Part}
+use Rattle.mitex_meaning.specs.Parts.{between, rowsIn, textIn, Inside}
+use Rattle.mitex_meaning.specs.declared.Part.{Part}
 use Rattle.mitex_colors.proofs.Scans.{between-take}
 use Rattle.mitex_plans.specs.Plans.{Single, lrName}
 use Rattle.mitex_plans.specs.Making.{firstOnly, behindFirst, FirstApart, Halved}

@@ -9,19 +9,19 @@ use Rattle.mitex_spec.specs.Rules.{Rule}
 use Rattle.mitex_syntax.specs.Tree.{Tree, Forest, size, sizes, rowsOf, textOf}
 use Rattle.mitex_syntax.specs.Tree.Forest.{none, more}
 use Rattle.mitex_syntax.specs.Spells.{SpellsAll, Sound}
-use Rattle.mitex_state.specs.Outcome.{Context, Carry, Outcome, Conv, Arm, after, closing, shift, inEnv, stepOf}
-use Rattle.mitex_state.specs.Outcome.Outcome.{done}
-use Rattle.mitex_state.specs.State.{contextOf}
-use Rattle.mitex_state.specs.Children.{each}
-use Rattle.mitex_state.specs.Parts.{rowsIn, textIn}
-use Rattle.mitex_state.proofs.Outcomes.{shift-closing}
-use Rattle.mitex_state.proofs.Loops.{each-none, each-at}
-use Rattle.mitex_state.specs.declared.LaTeXMode.{LaTeXMode}
-use Rattle.mitex_state.specs.declared.LaTeXEnv.{LaTeXEnv}
-use Rattle.mitex_state.specs.declared.Loop.{Loop}
-use Rattle.mitex_state.specs.declared.Loop.the-variants.{Plain}
-use Rattle.mitex_state.specs.declared.Part.{Part}
-use Rattle.mitex_state.specs.declared.Converter.{Converter}
+use Rattle.mitex_meaning.specs.Outcome.{Context, Carry, Outcome, Conv, Arm, after, closing, shift, inEnv, stepOf}
+use Rattle.mitex_meaning.specs.Outcome.Outcome.{done}
+use Rattle.mitex_meaning.specs.State.{contextOf}
+use Rattle.mitex_meaning.specs.Children.{each}
+use Rattle.mitex_meaning.specs.Parts.{rowsIn, textIn}
+use Rattle.mitex_meaning.proofs.Outcomes.{shift-closing}
+use Rattle.mitex_meaning.proofs.Loops.{each-none, each-at}
+use Rattle.mitex_meaning.specs.declared.LaTeXMode.{LaTeXMode}
+use Rattle.mitex_meaning.specs.declared.LaTeXEnv.{LaTeXEnv}
+use Rattle.mitex_meaning.specs.declared.Loop.{Loop}
+use Rattle.mitex_meaning.specs.declared.Loop.the-variants.{Plain}
+use Rattle.mitex_meaning.specs.declared.Part.{Part}
+use Rattle.mitex_meaning.specs.declared.Converter.{Converter}
 use Rattle.mitex_loops.specs.Given.{numberOf}
 use Rattle.mitex_plans.specs.Plans.{endText, planned, Given, Means, MeansBoth}
 use Rattle.mitex_plans.specs.Making.{noPart, wholePart, planAs}

@@ -8,18 +8,18 @@ use Rattle.mitex_syntax.specs.Tree.{Forest, size}
 use Rattle.mitex_syntax.specs.Tree.Forest.{none, more}
 use Rattle.mitex_syntax.specs.Spells.{SpellsAll}
 use Rattle.mitex_syntax.specs.declared.Span.{Span}
-use Rattle.mitex_state.specs.Parts.{between, rowsIn, textIn, Inside}
-use Rattle.mitex_state.specs.declared.LaTeXMode.{LaTeXMode}
-use Rattle.mitex_state.specs.declared.LaTeXEnv.{LaTeXEnv}
-use Rattle.mitex_state.specs.declared.LaTeXEnv.the-variants.{Figure, SubStack}
-use Rattle.mitex_state.specs.declared.Loop.{Loop}
-use Rattle.mitex_state.specs.declared.Loop.the-variants.{Plain, Greedy}
-use Rattle.mitex_state.specs.declared.Part.{Part}
-use Rattle.mitex_state.specs.declared.GreedyPart.{GreedyPart}
-use Rattle.mitex_state.specs.declared.GreedyPart.the-variants.{NoGreedy, GreedyAt}
-use Rattle.mitex_state.specs.declared.CaptionPart.{CaptionPart}
-use Rattle.mitex_state.specs.declared.CaptionPart.the-variants.{NoCaption, BareCaption, CaptionAt}
-use Rattle.mitex_state.specs.declared.Converter.{Converter}
+use Rattle.mitex_meaning.specs.Parts.{between, rowsIn, textIn, Inside}
+use Rattle.mitex_meaning.specs.declared.LaTeXMode.{LaTeXMode}
+use Rattle.mitex_meaning.specs.declared.LaTeXEnv.{LaTeXEnv}
+use Rattle.mitex_meaning.specs.declared.LaTeXEnv.the-variants.{Figure, SubStack}
+use Rattle.mitex_meaning.specs.declared.Loop.{Loop}
+use Rattle.mitex_meaning.specs.declared.Loop.the-variants.{Plain, Greedy}
+use Rattle.mitex_meaning.specs.declared.Part.{Part}
+use Rattle.mitex_meaning.specs.declared.GreedyPart.{GreedyPart}
+use Rattle.mitex_meaning.specs.declared.GreedyPart.the-variants.{NoGreedy, GreedyAt}
+use Rattle.mitex_meaning.specs.declared.CaptionPart.{CaptionPart}
+use Rattle.mitex_meaning.specs.declared.CaptionPart.the-variants.{NoCaption, BareCaption, CaptionAt}
+use Rattle.mitex_meaning.specs.declared.Converter.{Converter}
 use Rattle.mitex_plans.specs.declared.End.{End}
 use Rattle.mitex_plans.specs.declared.End.the-variants.{Paren, Body, CaptionBody}
 use Rattle.mitex_plans.specs.declared.Plan.{Plan}

@@ -9,25 +9,25 @@ use Rattle.mitex_spec.specs.Rules.{Rule}
 use Rattle.mitex_syntax.specs.Tree.{Tree, Forest, sizes, textOf}
 use Rattle.mitex_syntax.specs.Tree.Forest.{none, more}
 use Rattle.mitex_syntax.specs.Spells.{SpellsAll}
-use Rattle.mitex_state.specs.Outcome.{Context, Carry, Outcome, Conv, Arm, after, andThen, closing, shift, inEnv}
-use Rattle.mitex_state.specs.Outcome.Outcome.{refused}
-use Rattle.mitex_state.specs.State.{contextOf}
-use Rattle.mitex_state.specs.Texts.{leftParen, rightParen, rightBracket, space, semicolon, bodyBegin, blockEnd, formulaEnd, dollarEnd, captionBegin, captionEnd, black, colorEnd}
-use Rattle.mitex_state.specs.Children.{each}
-use Rattle.mitex_state.specs.Colors.{Model, colored}
-use Rattle.mitex_state.specs.Commands.{argumentsBy}
-use Rattle.mitex_state.specs.Parts.{Inside, rowsIn, textIn, ModelFound}
+use Rattle.mitex_meaning.specs.Outcome.{Context, Carry, Outcome, Conv, Arm, after, andThen, closing, shift, inEnv}
+use Rattle.mitex_meaning.specs.Outcome.Outcome.{refused}
+use Rattle.mitex_meaning.specs.State.{contextOf}
+use Rattle.mitex_meaning.specs.Texts.{leftParen, rightParen, rightBracket, space, semicolon, bodyBegin, blockEnd, formulaEnd, dollarEnd, captionBegin, captionEnd, black, colorEnd}
+use Rattle.mitex_meaning.specs.Children.{each}
+use Rattle.mitex_meaning.specs.Colors.{Model, colored}
+use Rattle.mitex_meaning.specs.Commands.{argumentsBy}
+use Rattle.mitex_meaning.specs.Parts.{Inside, rowsIn, textIn, ModelFound}
 use Rattle.mitex_loops.specs.Given.{numberOf}
-use Rattle.mitex_state.specs.declared.LaTeXMode.the-variants.{Text}
-use Rattle.mitex_state.specs.declared.LaTeXEnv.the-variants.{SubStack}
-use Rattle.mitex_state.specs.declared.LaTeXEnv.the-variants.{Table as TableEnv}
-use Rattle.mitex_state.specs.declared.Loop.{Loop}
-use Rattle.mitex_state.specs.declared.Loop.the-variants.{Table}
-use Rattle.mitex_state.specs.declared.Arguments.{Arguments}
-use Rattle.mitex_state.specs.declared.ModelPart.{ModelPart}
-use Rattle.mitex_state.specs.declared.CaptionPart.{CaptionPart}
-use Rattle.mitex_state.specs.declared.CaptionPart.the-variants.{NoCaption, BareCaption, CaptionAt}
-use Rattle.mitex_state.specs.declared.Converter.{Converter}
+use Rattle.mitex_meaning.specs.declared.LaTeXMode.the-variants.{Text}
+use Rattle.mitex_meaning.specs.declared.LaTeXEnv.the-variants.{SubStack}
+use Rattle.mitex_meaning.specs.declared.LaTeXEnv.the-variants.{Table as TableEnv}
+use Rattle.mitex_meaning.specs.declared.Loop.{Loop}
+use Rattle.mitex_meaning.specs.declared.Loop.the-variants.{Table}
+use Rattle.mitex_meaning.specs.declared.Arguments.{Arguments}
+use Rattle.mitex_meaning.specs.declared.ModelPart.{ModelPart}
+use Rattle.mitex_meaning.specs.declared.CaptionPart.{CaptionPart}
+use Rattle.mitex_meaning.specs.declared.CaptionPart.the-variants.{NoCaption, BareCaption, CaptionAt}
+use Rattle.mitex_meaning.specs.declared.Converter.{Converter}
 use Rattle.mitex_plans.specs.declared.End.{End}
 use Rattle.mitex_plans.specs.declared.End.the-variants.{Nothing, Space, Semicolon, Paren, Bracket, Block, Equation, Display, MathDisplay, Body, CaptionBody, Color, Black}
 use Rattle.mitex_plans.specs.declared.Plan.{Plan}

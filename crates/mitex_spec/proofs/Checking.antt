@@ -1,5 +1,5 @@
 -- What the check of a rule file finds, row by row: why a row does not fit, or that it does, and what is left to look at.
--- A loop stands where the answer for the whole is the answer for the rest (`Left`, `Filled`).
+-- A loop stands where the answer for the whole is the answer for the rest (`RulesLeft`, `Filled`).
 use mathlib.Core.Path.{_≡_, refl, sym, ap, subst, _∙_}
 use mathlib.Core.Bool.{Bool, true, false, _&&_, _||_, cond}
 use mathlib.Core.Option.{Option}
@@ -19,9 +19,9 @@ use Rattle.text.proofs.Writing.{part-rest}
 use Rattle.utf8.specs.Utf8.{oneByteEach, valid, run}
 use Rattle.utf8.proofs.Texts.{one-valid, one-take, one-drop}
 use Rattle.mitex_spec.specs.Rules.{Rule}
-use Rattle.mitex_spec.specs.RuleFile.{classMost, noAlias, padded, validAlias, ruleFits, risesFrom, rises, nameLength, aliasLength, taken, aliasAt, ruleAt, rowFits, ahead, rulesIn, rising}
+use Rattle.mitex_spec.specs.RuleFile.{classMost, noAlias, padded, validAlias, ruleFits, risesFrom, rises, nameLength, aliasLength, taken, aliasAt, ruleAt, ruleRowFits, ahead, rulesIn, rising}
 use Rattle.mitex_spec.specs.Index.{startsFrom, accepted}
-use Rattle.mitex_spec.proofs.RuleFile.{Fits, row-says}
+use Rattle.mitex_spec.proofs.RuleFile.{RuleRowFits, row-says}
 
 -- ---- one row
 
@@ -40,8 +40,8 @@ and-later a b r e q = q ∙ sym (ap (λ t. t && b) e)
 pub or-later : (b x r : Bool) → r ≡ x → b ≡ false → r ≡ (b || x)
 or-later b x r e f = e ∙ sym (ap (λ t. t || x) f)
 
-pub row-not : (rows text : List ℕ) → (Fits rows text → ⊥) → false ≡ rowFits rows text
-row-not rows text h = by-test (rowFits rows text) (λ e. absurd (h (row-says rows text e))) (λ e. sym e)
+pub row-not : (rows text : List ℕ) → (RuleRowFits rows text → ⊥) → false ≡ ruleRowFits rows text
+row-not rows text h = by-test (ruleRowFits rows text) (λ e. absurd (h (row-says rows text e))) (λ e. sym e)
 
 alias-valid : (m : ℕ) (t : List ℕ) → validAlias (aliasAt m t) ≡ valid (take (cond (eqb m noAlias) 0 m) t)
 unfolding valid run
@@ -53,8 +53,8 @@ alias-valid m t =
 -- all but the alias was found good
 pub row-alias :
     (rows text : List ℕ) (n end : ℕ) → padded rows ≡ true → end ≡ taken rows → end ≤ length text → getD rows 4 0 ≤ classMost
-    → n ≡ nameLength rows → valid (take n text) ≡ true → valid (take (end - n) (drop n text)) ≡ rowFits rows text
-unfolding rowFits
+    → n ≡ nameLength rows → valid (take n text) ≡ true → valid (take (end - n) (drop n text)) ≡ ruleRowFits rows text
+unfolding ruleRowFits
 row-alias rows text n end pad e room low q name =
     let a : aliasLength rows ≡ end - n = omega arith in
     ap (λ k. valid (take k (drop n text))) (sym a)
@@ -68,7 +68,7 @@ row-alias rows text n end pad e room low q name =
 
 -- all but the texts was found good, and the characters of the text have one byte each
 pub row-plain :
-    (rows text : List ℕ) → padded rows ≡ true → taken rows ≤ length text → getD rows 4 0 ≤ classMost → oneByteEach text ≡ true → true ≡ rowFits rows text
+    (rows text : List ℕ) → padded rows ≡ true → taken rows ≤ length text → getD rows 4 0 ≤ classMost → oneByteEach text ≡ true → true ≡ ruleRowFits rows text
 row-plain rows text pad room low one =
     let n = nameLength rows in
     sym (one-valid _ (one-take (taken rows - n) (drop n text) (one-drop n text one)))
@@ -86,7 +86,7 @@ after first last none = false
 after first last (some rs) = risesAfter first last rs
 
 -- the answer for n rows is that for the m rows that are left, after the name before them
-pub record Left (n : ℕ) (rows text : List ℕ) (first : Bool) (last l t : List ℕ) : Type 0 where
+pub record RulesLeft (n : ℕ) (rows text : List ℕ) (first : Bool) (last l t : List ℕ) : Type 0 where
   pub m : ℕ
   pub long : length l ≡ 8 * m
   pub still : accepted (rising (rulesIn n rows text)) ≡ after first last (rulesIn m l t)
@@ -98,7 +98,7 @@ left-all last (some rs) =
     (λ e. ap (λ b. accepted (cond b (some rs) none)) e ∙ sym e)
     (λ e. ap (λ b. accepted (cond b (some rs) none)) e ∙ sym e)
 
-pub left-start : (n : ℕ) (rows text last : List ℕ) → length rows ≡ 8 * n → Left n rows text true last rows text
+pub left-start : (n : ℕ) (rows text last : List ℕ) → length rows ≡ 8 * n → RulesLeft n rows text true last rows text
 left-start n rows text last h = record { m = n; long = h; still = left-all last (rulesIn n rows text) }
 
 after-ahead : (first : Bool) (last : List ℕ) (r : Rule) (o : Option (List Rule)) → after first last (ahead r o) ≡ ((first || precedes last (r .name)) && after false (r .name) o)
@@ -114,23 +114,23 @@ none-left l [] true last = refl
 none-left l [] false last = refl
 none-left l (x ∷ t) first last = ne-eqb (length (x ∷ t)) 0 (λ e. omega arith)
 
-module _ {n : ℕ} {rows text : List ℕ} {first : Bool} {last l t : List ℕ} (s : Left n rows text first last l t) where
+module _ {n : ℕ} {rows text : List ℕ} {first : Bool} {last l t : List ℕ} (s : RulesLeft n rows text first last l t) where
   -- the rows after the next
   abbrev others : ℕ → Option (List Rule)
   others k = rulesIn k (drop 8 l) (drop (taken l) t)
 
-  next-row : (k : ℕ) → s .m ≡ suc k → accepted (rising (rulesIn n rows text)) ≡ after first last (cond (rowFits l t) (ahead (ruleAt l t) (others k)) none)
+  next-row : (k : ℕ) → s .m ≡ suc k → accepted (rising (rulesIn n rows text)) ≡ after first last (cond (ruleRowFits l t) (ahead (ruleAt l t) (others k)) none)
   unfolding rulesIn
   next-row k e = s .still ∙ ap (λ j. after first last (rulesIn j l t)) e
 
   one-more : 8 ≤ length l → s .m ≡ suc (s .m - 1)
   one-more h = let q = s .long in omega arith
 
-  pub left-unfit : 8 ≤ length l → rowFits l t ≡ false → false ≡ accepted (rising (rulesIn n rows text))
+  pub left-unfit : 8 ≤ length l → ruleRowFits l t ≡ false → false ≡ accepted (rising (rulesIn n rows text))
   left-unfit h e = sym (next-row (s .m - 1) (one-more h) ∙ ap (λ b. after first last (cond b (ahead (ruleAt l t) (others (s .m - 1))) none)) e)
 
   fit-row :
-      (k : ℕ) (b : Bool) (i : ℕ) → s .m ≡ suc k → rowFits l t ≡ true → i ≡ nameLength l → b ≡ (first || precedes last (take i t))
+      (k : ℕ) (b : Bool) (i : ℕ) → s .m ≡ suc k → ruleRowFits l t ≡ true → i ≡ nameLength l → b ≡ (first || precedes last (take i t))
       → accepted (rising (rulesIn n rows text)) ≡ (b && after false (take i t) (others k))
   fit-row k b i q e p f =
       next-row k q
@@ -140,24 +140,24 @@ module _ {n : ℕ} {rows text : List ℕ} {first : Bool} {last l t : List ℕ} (
       ∙ ap (λ b. b && after false (take i t) (others k)) (sym f)
 
   pub left-falls :
-      (b : Bool) (i : ℕ) → 8 ≤ length l → rowFits l t ≡ true → i ≡ nameLength l → b ≡ (first || precedes last (take i t)) → b ≡ false
+      (b : Bool) (i : ℕ) → 8 ≤ length l → ruleRowFits l t ≡ true → i ≡ nameLength l → b ≡ (first || precedes last (take i t)) → b ≡ false
       → false ≡ accepted (rising (rulesIn n rows text))
   left-falls b i h e p f g =
       sym (fit-row (s .m - 1) b i (one-more h) e p f ∙ ap (λ b. b && after false (take i t) (others (s .m - 1))) g)
 
   pub left-next :
-      (b : Bool) (i k : ℕ) → 8 ≤ length l → rowFits l t ≡ true → i ≡ nameLength l → b ≡ (first || precedes last (take i t)) → b ≡ true
-      → k ≡ taken l → Left n rows text false (take i t) (take (length l - 8) (drop 8 l)) (take (length t - k) (drop k t))
+      (b : Bool) (i k : ℕ) → 8 ≤ length l → ruleRowFits l t ≡ true → i ≡ nameLength l → b ≡ (first || precedes last (take i t)) → b ≡ true
+      → k ≡ taken l → RulesLeft n rows text false (take i t) (take (length l - 8) (drop 8 l)) (take (length t - k) (drop k t))
   left-next b i k h e p f g q =
-      let go : Left n rows text false (take i t) (drop 8 l) (drop (taken l) t)
+      let go : RulesLeft n rows text false (take i t) (drop 8 l) (drop (taken l) t)
       = record {
         m = s .m - 1;
         long = length-drop 8 l ∙ (let w = s .long in omega arith);
         still = fit-row (s .m - 1) b i (one-more h) e p f ∙ ap (λ b. b && after false (take i t) (others (s .m - 1))) g;
       } in
-      subst (λ x. Left n rows text false (take i t) x (take (length t - k) (drop k t))) (sym (part-rest l 8))
-      (subst (λ x. Left n rows text false (take i t) (drop 8 l) x) (sym (part-rest t k))
-      (subst (λ x. Left n rows text false (take i t) (drop 8 l) (drop x t)) (sym q) go))
+      subst (λ x. RulesLeft n rows text false (take i t) x (take (length t - k) (drop k t))) (sym (part-rest l 8))
+      (subst (λ x. RulesLeft n rows text false (take i t) (drop 8 l) x) (sym (part-rest t k))
+      (subst (λ x. RulesLeft n rows text false (take i t) (drop 8 l) (drop x t)) (sym q) go))
 
   pub left-end : length l < 8 → eqb (length t) 0 ≡ accepted (rising (rulesIn n rows text))
   left-end h =

@@ -12,8 +12,8 @@ use lib.Seq.{sets, length-sets, sets-eq, length-take-le, take-set-le, take-appen
 use Rattle.text.specs.Numbers.{Bytes}
 use Rattle.mitex_spec.specs.Rules.{Rule}
 use Rattle.mitex_spec.specs.RuleFile.{noAlias, startOf, countOf, rulesIn, rising, rulesOf, ruleText, textOfRules, rowsOfRules}
-use Rattle.mitex_spec.specs.Index.{offsetsFrom, startsFrom, firstsAt, indexSize, firsts, accepted, indexed, Checked, Numbered, Ready, SomeRules}
-use Rattle.mitex_spec.proofs.RuleFile.{ruleRow-reads, Whole, rowsIn, rules-whole, rules-broken, rows-long, file-rules}
+use Rattle.mitex_spec.specs.Index.{offsetsFrom, startsFrom, firstsAt, indexSize, firsts, accepted, indexed, ChecksRules, Numbered, Ready, SomeRules}
+use Rattle.mitex_spec.proofs.RuleFile.{ruleRow-reads, RulesTrailed, rulesRows, rules-whole, rules-broken, rows-long, file-rules}
 use Rattle.mitex_spec.proofs.Firsts.{length-firsts}
 
 -- ---- a run of stores
@@ -54,10 +54,10 @@ starts-offsets (r ∷ rs) at h =
 
 -- ---- what the check answers
 
-refused : (file index : List ℕ) → rulesOf file ≡ none → Checked file index false index
+refused : (file index : List ℕ) → rulesOf file ≡ none → ChecksRules file index false index
 refused file index e = record { answer = sym (ap accepted e); fills = sym (ap (λ o. indexed o index) e) }
 
-pub checked-broken : (file index : List ℕ) → (Whole file → ⊥) → Checked file index false index
+pub checked-broken : (file index : List ℕ) → (RulesTrailed file → ⊥) → ChecksRules file index false index
 checked-broken file index h = refused file index (rules-broken file h)
 
 accepted-none : (o : Option (List Rule)) → accepted o ≡ false → o ≡ none
@@ -75,11 +75,11 @@ pub record Begun (file index index′ : List ℕ) : Type 0 where
   pub begins : index′ ≡ sets index 0 (offsetsFrom 0 rules)
 
 -- the parts that the code takes are the rows and the text
-module _ (file : List ℕ) (w : Whole file) (start : ℕ) (e : start ≡ startOf file) where
+module _ (file : List ℕ) (w : RulesTrailed file) (start : ℕ) (e : start ≡ startOf file) where
   abbrev rows : List ℕ
   rows = take (length file - 8 - start) (drop start file)
 
-  rows-are : rows ≡ rowsIn file
+  rows-are : rows ≡ rulesRows file
   rows-are =
       let sum = w .sum in
       let many : length file - 8 - startOf file ≡ 8 * countOf file = omega arith in
@@ -95,10 +95,10 @@ module _ (file : List ℕ) (w : Whole file) (start : ℕ) (e : start ≡ startOf
   fit-whole fit asks =
       asks (countOf file) rows-many
       ∙ ap (λ l. accepted (rising (rulesIn (countOf file) l (take start file)))) rows-are
-      ∙ ap (λ k. accepted (rising (rulesIn (countOf file) (rowsIn file) (take k file)))) e
+      ∙ ap (λ k. accepted (rising (rulesIn (countOf file) (rulesRows file) (take k file)))) e
       ∙ sym (ap accepted (rules-whole file w))
 
-  pub checked-unfit : (index : List ℕ) (fit : Bool) → Asks fit → fit ≡ false → Checked file index false index
+  pub checked-unfit : (index : List ℕ) (fit : Bool) → Asks fit → fit ≡ false → ChecksRules file index false index
   checked-unfit index fit asks e = refused file index (accepted-none (rulesOf file) (sym (fit-whole fit asks) ∙ e))
 
   pub begun-fit :
@@ -137,7 +137,7 @@ module _ {file index index′ : List ℕ} (b : Begun file index index′) where
       record { rules = b .rules; decodes = b .decodes; holds = ap (take (length (b .rules))) (b .begins) ∙ offsets-stand (b .rules) index (omega arith) }
 
   pub checked-fit :
-      {index″ : List ℕ} → ((rs : List Rule) → rulesOf file ≡ some rs → index″ ≡ sets index′ firstsAt (firsts rs)) → Checked file index true index″
+      {index″ : List ℕ} → ((rs : List Rule) → rulesOf file ≡ some rs → index″ ≡ sets index′ firstsAt (firsts rs)) → ChecksRules file index true index″
   checked-fit {index″} fill =
       record {
         answer = sym (ap accepted (b .decodes));
@@ -168,7 +168,7 @@ checked-ready file index index′ rs e few room q =
 
 -- the check accepted: there are rules, and look-ups can be asked for them
 pub checked-rules :
-    {file index : List ℕ} {ok : Bool} {index′ : List ℕ} → Bytes file → indexSize ≤ length index → Checked file index ok index′ → ok ≡ true
+    {file index : List ℕ} {ok : Bool} {index′ : List ℕ} → Bytes file → indexSize ≤ length index → ChecksRules file index ok index′ → ok ≡ true
     → SomeRules file index′
 checked-rules {file} {index} {ok} {index′} by room c t =
     let s = accepted-some (rulesOf file) (sym (c .answer) ∙ t) in
@@ -177,7 +177,7 @@ checked-rules {file} {index} {ok} {index′} by room c t =
 
 -- the check refused: there are none, and the index is as it was
 pub checked-none :
-    {file index : List ℕ} {ok : Bool} {index′ : List ℕ} → Checked file index ok index′ → ok ≡ false
+    {file index : List ℕ} {ok : Bool} {index′ : List ℕ} → ChecksRules file index ok index′ → ok ≡ false
     → (rulesOf file ≡ none) × (index′ ≡ index)
 checked-none {file} {index} {ok} {index′} c f =
     let e = accepted-none (rulesOf file) (sym (c .answer) ∙ f) in (e, c .fills ∙ ap (λ o. indexed o index) e)

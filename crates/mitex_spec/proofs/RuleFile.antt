@@ -16,7 +16,7 @@ use Rattle.text.proofs.Numbers.{eight, bytes-take, bytes-drop, two-says, two-of
 use Rattle.text.proofs.Compare.{by-test}
 use Rattle.utf8.specs.Utf8.{valid}
 use Rattle.mitex_spec.specs.Rules.{Rule, rule}
-use Rattle.mitex_spec.specs.RuleFile.{fileMost, classMost, noAlias, padded, validAlias, ruleFits, allFit, rises, nameLength, aliasLength, taken, aliasAt, ruleAt, rowFits, ahead, rulesIn, rising, startOf, countOf, rulesOf, aliasNumber, aliasText, ruleText, ruleRow, textOfRules, rowsOfRules, fileOfRules}
+use Rattle.mitex_spec.specs.RuleFile.{fileMost, classMost, noAlias, padded, validAlias, ruleFits, allFit, rises, nameLength, aliasLength, taken, aliasAt, ruleAt, ruleRowFits, ahead, rulesIn, rising, startOf, countOf, rulesOf, aliasNumber, aliasText, ruleText, ruleRow, textOfRules, rowsOfRules, fileOfRules}
 
 pub and-join : (a b : Bool) → a ≡ true → b ≡ true → (a && b) ≡ true
 and-join a b p q = and-eq-true-iff a b .1 (p, q)
@@ -39,14 +39,14 @@ alias-low none h = omega arith
 alias-low (some a) h = omega arith
 
 -- the fields of a row, by the rule
-pub record Reads (r : Rule) (rows text t : List ℕ) : Type 0 where
+pub record RowReads (r : Rule) (rows text t : List ℕ) : Type 0 where
   pub name-length : nameLength rows ≡ length (r .name)
   pub alias-number : twoAt 2 rows ≡ aliasNumber (r .alias)
   pub takes : taken rows ≡ length (ruleText r)
   pub is : ruleAt rows text ≡ r
   pub rest : drop (taken rows) text ≡ t
 
-pub ruleRow-reads : (r : Rule) (l t : List ℕ) → length (ruleText r) < noAlias → Reads r (ruleRow r l) (ruleText r ++ t) t
+pub ruleRow-reads : (r : Rule) (l t : List ℕ) → length (ruleText r) < noAlias → RowReads r (ruleRow r l) (ruleText r ++ t) t
 ruleRow-reads r l t h =
     let n = length (r .name) in
     let a = aliasText (r .alias) in
@@ -71,8 +71,8 @@ ruleRow-reads r l t h =
       rest = ap (λ x. drop x (ruleText r ++ t)) k ∙ drop-append-seam (ruleText r) t;
     }
 
-row-fits : (r : Rule) (l t : List ℕ) → length (ruleText r) < noAlias → ruleFits r ≡ true → rowFits (ruleRow r l) (ruleText r ++ t) ≡ true
-unfolding rowFits
+row-fits : (r : Rule) (l t : List ℕ) → length (ruleText r) < noAlias → ruleFits r ≡ true → ruleRowFits (ruleRow r l) (ruleText r ++ t) ≡ true
+unfolding ruleRowFits
 row-fits r l t h fit =
     let s = ruleRow-reads r l t h in
     and-join _ _
@@ -96,15 +96,15 @@ rulesIn-written (r ∷ rs) fit h =
 -- ---- a row that fits
 
 -- what the test of a row says
-pub record Fits (rows text : List ℕ) : Type 0 where
+pub record RuleRowFits (rows text : List ℕ) : Type 0 where
   pub pad : padded rows ≡ true
   pub room : taken rows ≤ length text
   pub fits : ruleFits (ruleAt rows text) ≡ true
   pub low : getD rows 4 0 ≤ classMost
   pub name : valid (take (nameLength rows) text) ≡ true
 
-pub row-says : (rows text : List ℕ) → rowFits rows text ≡ true → Fits rows text
-unfolding rowFits
+pub row-says : (rows text : List ℕ) → ruleRowFits rows text ≡ true → RuleRowFits rows text
+unfolding ruleRowFits
 row-says rows text e =
     let r = ruleAt rows text in
     let a = and-eq-true-iff (padded rows) (leb (taken rows) (length text) && ruleFits r) .0 e in
@@ -128,7 +128,7 @@ alias-text m t =
     (λ e. ap (λ b. aliasText (cond b none (some (take m t)))) e ∙ sym (ap (λ b. take (cond b 0 m) t) e))
 
 -- the row is the row of its rule, and the text begins with the rule's text
-row-written : (rows text : List ℕ) → Bytes rows → 8 ≤ length rows → Fits rows text → rows ≡ ruleRow (ruleAt rows text) (drop 8 rows)
+row-written : (rows text : List ℕ) → Bytes rows → 8 ≤ length rows → RuleRowFits rows text → rows ≡ ruleRow (ruleAt rows text) (drop 8 rows)
 row-written rows text by h f =
     let n = nameLength rows in
     let m = twoAt 2 rows in
@@ -181,7 +181,7 @@ rulesIn-says zero (x ∷ rows) text rs by l e = absurd (omega arith)
 rulesIn-says zero [] (x ∷ text) rs by l e = absurd (no-rules e)
 rulesIn-says zero [] [] (r ∷ rs) by l e = absurd (let z : _≡_ {A = ℕ} 0 1 = cc in omega arith)
 rulesIn-says (suc n) rows text rs by l e =
-    by-test (rowFits rows text)
+    by-test (ruleRowFits rows text)
     (λ t.
     let s = row-says rows text t in
     let o = rulesIn n (drop 8 rows) (drop (taken rows) text) in
@@ -205,12 +205,12 @@ length-rows [] = refl
 length-rows (r ∷ rs) = let e = length-rows rs in omega arith
 
 -- a text, rows of 8 bytes, and the trailer that belongs to them
-abbrev Laid : ℕ → List ℕ → List ℕ → List ℕ
-Laid n text rows = text ++ (rows ++ four (length text) (four n []))
+abbrev RulesLaid : ℕ → List ℕ → List ℕ → List ℕ
+RulesLaid n text rows = text ++ (rows ++ four (length text) (four n []))
 
 module _ (n : ℕ) (text rows : List ℕ) (l : length rows ≡ 8 * n) where
   abbrev file : List ℕ
-  file = Laid n text rows
+  file = RulesLaid n text rows
 
   long : length file ≡ length text + 8 * n + 8
   long =
@@ -241,47 +241,47 @@ module _ (n : ℕ) (text rows : List ℕ) (l : length rows ≡ 8 * n) where
 abbrev whole : List ℕ → Bool
 whole file = leb 8 (length file) && (leb (length file) fileMost && eqb (startOf file + 8 * countOf file + 8) (length file))
 
-pub record Whole (file : List ℕ) : Type 0 where
+pub record RulesTrailed (file : List ℕ) : Type 0 where
   pub low : 8 ≤ length file
   pub most : length file ≤ fileMost
   pub sum : startOf file + 8 * countOf file + 8 ≡ length file
 
-whole-says : (file : List ℕ) → whole file ≡ true → Whole file
+whole-says : (file : List ℕ) → whole file ≡ true → RulesTrailed file
 whole-says file t =
     let a = and-eq-true-iff _ _ .0 t in
     let b = and-eq-true-iff _ _ .0 (a .1) in
     record { low = leb-true _ _ (a .0); most = leb-true _ _ (b .0); sum = eqb-true _ _ (b .1) }
 
-whole-is : (file : List ℕ) → Whole file → whole file ≡ true
+whole-is : (file : List ℕ) → RulesTrailed file → whole file ≡ true
 whole-is file w =
     and-join _ _ (le-leb 8 (length file) (w .low))
     (and-join _ _ (le-leb (length file) fileMost (w .most)) (eq-eqb (startOf file + 8 * countOf file + 8) (length file) (w .sum)))
 
-abbrev pub rowsIn : List ℕ → List ℕ
-rowsIn file = take (8 * countOf file) (drop (startOf file) file)
+abbrev pub rulesRows : List ℕ → List ℕ
+rulesRows file = take (8 * countOf file) (drop (startOf file) file)
 
-abbrev pub textIn : List ℕ → List ℕ
-textIn file = take (startOf file) file
+abbrev pub rulesText : List ℕ → List ℕ
+rulesText file = take (startOf file) file
 
-pub rules-whole : (file : List ℕ) → Whole file → rulesOf file ≡ rising (rulesIn (countOf file) (rowsIn file) (textIn file))
+pub rules-whole : (file : List ℕ) → RulesTrailed file → rulesOf file ≡ rising (rulesIn (countOf file) (rulesRows file) (rulesText file))
 unfolding rulesOf
-rules-whole file w = ap (λ b. cond b (rising (rulesIn (countOf file) (rowsIn file) (textIn file))) none) (whole-is file w)
+rules-whole file w = ap (λ b. cond b (rising (rulesIn (countOf file) (rulesRows file) (rulesText file))) none) (whole-is file w)
 
-pub rules-broken : (file : List ℕ) → (Whole file → ⊥) → rulesOf file ≡ none
+pub rules-broken : (file : List ℕ) → (RulesTrailed file → ⊥) → rulesOf file ≡ none
 unfolding rulesOf
 rules-broken file h =
     by-test (whole file)
     (λ t. absurd (h (whole-says file t)))
-    (λ t. ap (λ b. cond b (rising (rulesIn (countOf file) (rowsIn file) (textIn file))) none) t)
+    (λ t. ap (λ b. cond b (rising (rulesIn (countOf file) (rulesRows file) (rulesText file))) none) t)
 
-pub rules-tested : (file : List ℕ) (rs : List Rule) → rulesOf file ≡ some rs → Whole file
+pub rules-tested : (file : List ℕ) (rs : List Rule) → rulesOf file ≡ some rs → RulesTrailed file
 rules-tested file rs e =
     by-test (whole file)
     (λ t. whole-says file t)
     (λ t. absurd (no-rules (sym (rules-broken file (λ w. true≢false (sym (whole-is file w) ∙ t))) ∙ e)))
 
 -- the parts of a whole file have the lengths that the trailer says
-pub rows-long : (file : List ℕ) → Whole file → length (rowsIn file) ≡ 8 * countOf file
+pub rows-long : (file : List ℕ) → RulesTrailed file → length (rulesRows file) ≡ 8 * countOf file
 rows-long file w =
     let e = w .sum in length-take-le (8 * countOf file) (drop (startOf file) file) (simp length-drop (omega arith))
 
@@ -292,33 +292,33 @@ rules-file rs fit up most =
     let text = textOfRules rs in
     let rows = rowsOfRules rs in
     let n = length rs in
-    let f = Laid n text rows in
+    let f = RulesLaid n text rows in
     let l = length-rows rs in
     let lo = long n text rows l in
     let s : startOf f ≡ length text = laid-start n text rows l (omega arith) in
     let c : countOf f ≡ n = laid-count n text rows l (omega arith) in
-    let t : textIn f ≡ text = ap (λ k. take k f) s ∙ take-append-seam text (rows ++ four (length text) (four n [])) in
-    let r : rowsIn f ≡ rows
+    let t : rulesText f ≡ text = ap (λ k. take k f) s ∙ take-append-seam text (rows ++ four (length text) (four n [])) in
+    let r : rulesRows f ≡ rows
     = ap (λ k. take (8 * k) (drop (startOf f) f)) c
     ∙ ap (λ k. take (8 * n) (drop k f)) s
     ∙ ap (take (8 * n)) (drop-append-seam text (rows ++ four (length text) (four n [])))
     ∙ take-at rows (four (length text) (four n [])) (8 * n) l in
     rules-whole f (record { low = omega arith; most = most; sum = omega arith })
-    ∙ ap (λ x. rising (rulesIn (countOf f) (rowsIn f) x)) t
+    ∙ ap (λ x. rising (rulesIn (countOf f) (rulesRows f) x)) t
     ∙ ap (λ x. rising (rulesIn (countOf f) x text)) r
     ∙ ap (λ x. rising (rulesIn x rows text)) c
     ∙ ap rising (rulesIn-written rs fit (omega arith))
     ∙ ap (λ b. cond b (some rs) none) up
 
 -- what is read was written so
-pub record Decoded (file : List ℕ) (rs : List Rule) : Type 0 where
+pub record RulesDecoded (file : List ℕ) (rs : List Rule) : Type 0 where
   pub is : file ≡ fileOfRules rs
   pub fit : allFit rs ≡ true
   pub rise : rises rs ≡ true
-  pub whole : Whole file
+  pub whole : RulesTrailed file
   pub start : startOf file ≡ length (textOfRules rs)
   pub count : countOf file ≡ length rs
-  pub rows-are : rowsIn file ≡ rowsOfRules rs
+  pub rows-are : rulesRows file ≡ rowsOfRules rs
 
 rising-some : (o : Option (List Rule)) (rs : List Rule) → rising o ≡ some rs → (o ≡ some rs) × (rises rs ≡ true)
 rising-some none rs e = absurd (no-rules e)
@@ -330,15 +330,15 @@ rising-some (some ms) rs e =
     some-is : {xs ys : List Rule} → some xs ≡ some ys → xs ≡ ys
     some-is e = cc
 
-pub file-rules : (file : List ℕ) (rs : List Rule) → Bytes file → rulesOf file ≡ some rs → Decoded file rs
+pub file-rules : (file : List ℕ) (rs : List Rule) → Bytes file → rulesOf file ≡ some rs → RulesDecoded file rs
 unfolding fileOfRules
 file-rules file rs by e =
     let w = rules-tested file rs e in
     let sum = w .sum in
-    let r = rising-some (rulesIn (countOf file) (rowsIn file) (textIn file)) rs (sym (rules-whole file w) ∙ e) in
+    let r = rising-some (rulesIn (countOf file) (rulesRows file) (rulesText file)) rs (sym (rules-whole file w) ∙ e) in
     let rows = bytes-take (8 * countOf file) (drop (startOf file) file) (bytes-drop (startOf file) file by) in
-    let v = rulesIn-says (countOf file) (rowsIn file) (textIn file) rs rows (rows-long file w) (r .0) in
-    let lt : length (textIn file) ≡ startOf file = length-take-le (startOf file) file (omega arith) in
+    let v = rulesIn-says (countOf file) (rulesRows file) (rulesText file) rs rows (rows-long file w) (r .0) in
+    let lt : length (rulesText file) ≡ startOf file = length-take-le (startOf file) file (omega arith) in
     let many = v .many in
     let k = startOf file + 8 * countOf file in
     let d = drop k file in
@@ -350,9 +350,9 @@ file-rules file rs by e =
     record {
       is =
           sym (take-append-drop (startOf file) file)
-          ∙ ap (λ x. textIn file ++ x) (sym (take-append-drop (8 * countOf file) (drop (startOf file) file)))
-          ∙ ap (λ x. textIn file ++ (rowsIn file ++ x)) (drop-drop (8 * countOf file) (startOf file) file ∙ tr)
-          ∙ ap (λ x. x ++ (rowsIn file ++ four (startOf file) (four (countOf file) []))) (v .text-is)
+          ∙ ap (λ x. rulesText file ++ x) (sym (take-append-drop (8 * countOf file) (drop (startOf file) file)))
+          ∙ ap (λ x. rulesText file ++ (rulesRows file ++ x)) (drop-drop (8 * countOf file) (startOf file) file ∙ tr)
+          ∙ ap (λ x. x ++ (rulesRows file ++ four (startOf file) (four (countOf file) []))) (v .text-is)
           ∙ ap (λ x. textOfRules rs ++ (x ++ four (startOf file) (four (countOf file) []))) (v .rows-are)
           ∙ ap (λ x. textOfRules rs ++ (rowsOfRules rs ++ four x (four (countOf file) []))) start
           ∙ ap (λ x. textOfRules rs ++ (rowsOfRules rs ++ four (length (textOfRules rs)) (four x []))) (sym many);

@@ -57,7 +57,7 @@ indexed none index = index
 indexed (some rs) index = sets (sets index 0 (offsetsFrom 0 rs)) firstsAt (firsts rs)
 
 -- what the check promises: its answer, and the index after it
-pub record Checked (file index : List ℕ) (ok : Bool) (index′ : List ℕ) : Type 0 where
+pub record ChecksRules (file index : List ℕ) (ok : Bool) (index′ : List ℕ) : Type 0 where
   pub answer : ok ≡ accepted (rulesOf file)
   pub fills : index′ ≡ indexed (rulesOf file) index
 

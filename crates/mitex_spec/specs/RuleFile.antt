@@ -70,8 +70,8 @@ abbrev pub padded : List ℕ → Bool
 padded rows = eqb (getD rows 5 0) 0 && (eqb (getD rows 6 0) 0 && eqb (getD rows 7 0) 0)
 
 -- so they are, the texts are there, and they make a rule
-unfoldable pub rowFits : List ℕ → List ℕ → Bool
-rowFits rows text = padded rows && (leb (taken rows) (length text) && ruleFits (ruleAt rows text))
+unfoldable pub ruleRowFits : List ℕ → List ℕ → Bool
+ruleRowFits rows text = padded rows && (leb (taken rows) (length text) && ruleFits (ruleAt rows text))
 
 abbrev pub ahead : Rule → Option (List Rule) → Option (List Rule)
 ahead r none = none
@@ -82,7 +82,7 @@ unfoldable pub rulesIn : ℕ → List ℕ → List ℕ → Option (List Rule)
 rulesIn zero rows [] = some []
 rulesIn zero rows (b ∷ text) = none
 rulesIn (suc n) rows text =
-    cond (rowFits rows text) (ahead (ruleAt rows text) (rulesIn n (drop 8 rows) (drop (taken rows) text))) none
+    cond (ruleRowFits rows text) (ahead (ruleAt rows text) (rulesIn n (drop 8 rows) (drop (taken rows) text))) none
 
 abbrev pub rising : Option (List Rule) → Option (List Rule)
 rising none = none

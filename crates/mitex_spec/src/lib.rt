@@ -9,8 +9,8 @@ ghost use lib.Seq.{sets};
 ghost use Rattle.text.specs.Compare.{precedes};
 ghost use Rattle.utf8.specs.Utf8.{oneByteEach};
 ghost use Rattle.mitex_spec.specs.Rules.{Rule, get, getCmd, getEnv, aliasOr};
-ghost use Rattle.mitex_spec.specs.RuleFile.{rulesOf, rulesIn, rising, padded, rowFits, aliasLength, taken, fileMost, startOf, countOf};
-ghost use Rattle.mitex_spec.specs.Index.{startsFrom, firstsAt, indexSize, firstOf, firstsBelow, firsts, accepted, Checked, ruleNo, rankOf, Numbered, SomeRule, SomeRules};
+ghost use Rattle.mitex_spec.specs.RuleFile.{rulesOf, rulesIn, rising, padded, ruleRowFits, aliasLength, taken, fileMost, startOf, countOf};
+ghost use Rattle.mitex_spec.specs.Index.{startsFrom, firstsAt, indexSize, firstOf, firstsBelow, firsts, accepted, ChecksRules, ruleNo, rankOf, Numbered, SomeRule, SomeRules};
 ghost use Rattle.mitex_spec.specs.LookUp.{aliasOf, endOf, isCmd, Finds, Answers};
 ghost use Rattle.mitex_spec.specs.declared.Found.the-variants.{Absent};
 
@@ -75,7 +75,7 @@ fn padded(rows: &[u8]) -> bool
 // `plain` says that the characters of the text have one byte each: then its name and alias are not looked at again.
 fn row_fits(rows: &[u8], text: &[u8], plain: bool) -> bool
     requires { ⌜ (8 ≤ length (now rows)) × (plain ≡ true → oneByteEach (now text) ≡ true) ⌝ }
-    ensures { λ r. ⌜ r ≡ rowFits (now (rows .entry)) (now (text .entry)) ⌝ }
+    ensures { λ r. ⌜ r ≡ ruleRowFits (now (rows .entry)) (now (text .entry)) ⌝ }
 {
     if !padded(rows) {
         return false;
@@ -238,7 +238,7 @@ fn fill_firsts(file: &[u8], index: &mut [u32])
 // Whether a rule file keeps its layout; if so, where each name begins goes into the index, and the table behind it.
 pub fn check_rules(file: &[u8], index: &mut [u32]) -> bool
     requires { ⌜ indexSize ≤ length (now index) ⌝ }
-    ensures { λ r. ⌜ Checked (now (file .entry)) (now (index .entry)) r (now (index .exit)) ⌝ }
+    ensures { λ r. ⌜ ChecksRules (now (file .entry)) (now (index .entry)) r (now (index .exit)) ⌝ }
 {
     if file.len() < 8 {
         return false;

@@ -12,7 +12,7 @@ use Rattle.text.specs.Writing.{cap}
 use Rattle.mitex_syntax.specs.Tree.{Tree, Forest}
 use Rattle.mitex_syntax.specs.Views.{firstBy, childrenOf, childrenIn, textIn}
 use Rattle.mitex_syntax.specs.Spells.{Spells, Begins, SomeForest}
-use Rattle.mitex_syntax.specs.Places.{Stands, Placed, partAt, InText}
+use Rattle.mitex_syntax.specs.Places.{FirstAt, Placed, partAt, InText}
 use Rattle.mitex_syntax.specs.Places.Placed.{missing, there}
 use Rattle.mitex_syntax.specs.declared.Place.{Place}
 use Rattle.mitex_syntax.specs.declared.Place.the-variants.{Nowhere, At}
@@ -30,10 +30,10 @@ some-children t sp few short = some-forest (children-part t sp) (simp (length-ta
 
 module _ {p : Tree → Bool} {f : Forest} {rows text : List ℕ} {i : ℕ} where
   -- a place that was found, taken apart
-  pub stands : {r : Place} {a b c d : ℕ} → Placed p f rows text i r → r ≡ At a b c d → Stands p f rows text i a b c d
+  pub stands : {r : Place} {a b c d : ℕ} → Placed p f rows text i r → r ≡ At a b c d → FirstAt p f rows text i a b c d
   stands {r} {a} {b} {c} {d} m e = go (subst (Placed p f rows text i) e m)
     where
-      go : Placed p f rows text i (At a b c d) → Stands p f rows text i a b c d
+      go : Placed p f rows text i (At a b c d) → FirstAt p f rows text i a b c d
       go (there s) = s
 
   pub nowhere : {r : Place} → Placed p f rows text i r → r ≡ Nowhere → firstBy p f ≡ nothing
@@ -59,7 +59,7 @@ at-inside text m e = subst (InText text) e m
 drop-take : (m k : ℕ) (l : List ℕ) → m ≤ length l → drop m (take (m + k) l) ≡ take k (drop m l)
 drop-take m k l h = ap (drop m) (take-add m k l) ∙ drop-at (take m l) (take k (drop m l)) m (length-take-le m l h)
 
-module _ {p : Tree → Bool} {f : Forest} {rows text : List ℕ} {i a b c d : ℕ} (s : Stands p f rows text i a b c d) where
+module _ {p : Tree → Bool} {f : Forest} {rows text : List ℕ} {i a b c d : ℕ} (s : FirstAt p f rows text i a b c d) where
   pub found-children : Begins (childrenOf (s .tree)) (take (b - (a + 8)) (drop (a + 8) rows)) (take (d - c) (drop c text))
   found-children =
       let some = s .some-rows in

@@ -20,7 +20,7 @@ use Rattle.mitex_syntax.specs.Tree.Forest.{none, more}
 use Rattle.mitex_syntax.specs.Rows.{extentOf, tokenSum}
 use Rattle.mitex_syntax.specs.Views.{firstBy, offsetBy, allBy, fromBy, isOf, isOther, isSolid, isNodeTree, isArgumentWith, firstNode, childrenOf, kindIn}
 use Rattle.mitex_syntax.specs.Spells.{Begins}
-use Rattle.mitex_syntax.specs.Places.{Stands}
+use Rattle.mitex_syntax.specs.Places.{FirstAt}
 use Rattle.mitex_syntax.proofs.Trees.{length-rows, size-some, size-more, left, no-left, getD-here, Element, element, rows-e, text-n, part-spells, past}
 
 -- what was found passes the test
@@ -190,7 +190,7 @@ module _ {p : Tree → Bool} {f : Forest} {rows text : List ℕ} {i₀ i j : ℕ
       here : b ≡ p (seek-element .tree)
       here = told (seek-element .tree) (part-spells seek-element e n is-e is-n .rows-are)
 
-      pub seek-found : b ≡ true → Stands p f rows text i₀ i (i + e) j (j + n)
+      pub seek-found : b ≡ true → FirstAt p f rows text i₀ i (i + e) j (j + n)
       unfolding firstBy offsetBy allBy fromBy
       seek-found picked =
           let x = seek-element in

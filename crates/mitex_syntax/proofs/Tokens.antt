@@ -165,7 +165,7 @@ pub record Lasts (f : Forest) (rows text : List ℕ) (i j : ℕ) : Type 0 where
   pub still : lastTokens f ≡ lastTokens forest
 
 -- what holds after a step of s
-pub record Steps (f : Forest) (rows text : List ℕ) (i j : ℕ) (s : Span) : Type 0 where
+pub record LastSteps (f : Forest) (rows text : List ℕ) (i j : ℕ) (s : Span) : Type 0 where
   pub end : i + s .rows ≤ length rows
   pub some : 8 ≤ s .rows
   pub stop : j + s .text ≤ length text
@@ -253,7 +253,7 @@ module _ {f : Forest} {rows text : List ℕ} {i j : ℕ} (w : Lasts f rows text 
 
     module _ (s : Span) (hop : Hops rows i s) where
       -- over an element that is not the last
-      over : i + extentOf (drop i rows) < length rows → Steps f rows text i j s
+      over : i + extentOf (drop i rows) < length rows → LastSteps f rows text i j s
       over lt =
           let x = last-element in
           let re = rows-e x (s .rows) (s .text) (hop .over-rows lt) (hop .over-text lt) in
@@ -272,7 +272,7 @@ module _ {f : Forest} {rows text : List ℕ} {i j : ℕ} (w : Lasts f rows text 
           }
 
       -- into a node that is
-      inside : i + extentOf (drop i rows) ≡ length rows → isNodeTree (last-element .tree) ≡ true → Steps f rows text i j s
+      inside : i + extentOf (drop i rows) ≡ length rows → isNodeTree (last-element .tree) ≡ true → LastSteps f rows text i j s
       inside eq b =
           let x = last-element in
           let e₈ : s .rows ≡ 8 = hop .into-rows eq in
@@ -298,14 +298,14 @@ module _ {f : Forest} {rows text : List ℕ} {i j : ℕ} (w : Lasts f rows text 
             };
           }
 
-      pub last-next : (i + 8 ≡ length rows → ⊥) → Steps f rows text i j s
+      pub last-next : (i + 8 ≡ length rows → ⊥) → LastSteps f rows text i j s
       last-next ne = by (ltb (i + extentOf (drop i rows)) (length rows)) refl
         where
           node-here : i + extentOf (drop i rows) ≡ length rows → (b : Bool) → isNodeTree (last-element .tree) ≡ b → b ≡ true
           node-here eq true e = refl
           node-here eq false e = absurd (ne (let y = last-element .first .extent in omega (arith, size-token (last-element .tree) e)))
 
-          by : (b : Bool) → ltb (i + extentOf (drop i rows)) (length rows) ≡ b → Steps f rows text i j s
+          by : (b : Bool) → ltb (i + extentOf (drop i rows)) (length rows) ≡ b → LastSteps f rows text i j s
           by true e = over (ltb-true _ _ e)
           by false e =
               let eq : i + extentOf (drop i rows) ≡ length rows = let z = last-element .end in let y = last-element .first .extent in

@@ -31,7 +31,7 @@ picks Solid = isSolid
 
 -- of the elements f, which begin at row byte i, the first that the test picks has the rows from a to b and the text from c to d,
 -- and the others behind it begin where it ends
-pub record Stands (p : Tree → Bool) (f : Forest) (rows text : List ℕ) (i a b c d : ℕ) : Type 0 where
+pub record FirstAt (p : Tree → Bool) (f : Forest) (rows text : List ℕ) (i a b c d : ℕ) : Type 0 where
   pub tree : Tree
   pub is : firstBy p f ≡ some tree
   pub row : a ≡ i + 8 * offsetBy p f
@@ -49,11 +49,11 @@ pub record Stands (p : Tree → Bool) (f : Forest) (rows text : List ℕ) (i a b
 -- the place is that of the first such element
 pub data Placed (p : Tree → Bool) (f : Forest) (rows text : List ℕ) (i : ℕ) : Place → Type 0 where
   missing : firstBy p f ≡ nothing → Placed p f rows text i Nowhere
-  there : {a b c d : ℕ} → Stands p f rows text i a b c d → Placed p f rows text i (At a b c d)
+  there : {a b c d : ℕ} → FirstAt p f rows text i a b c d → Placed p f rows text i (At a b c d)
 
 -- the place is the right one for all elements that the rows and the text spell from row byte i and text byte j on
-abbrev pub Finds : (Tree → Bool) → List ℕ → List ℕ → ℕ → ℕ → Place → Type 0
-Finds p rows text i j r = (f : Forest) → Begins f (drop i rows) (drop j text) → Placed p f rows text i r
+abbrev pub FindsPlace : (Tree → Bool) → List ℕ → List ℕ → ℕ → ℕ → Place → Type 0
+FindsPlace p rows text i j r = (f : Forest) → Begins f (drop i rows) (drop j text) → Placed p f rows text i r
 
 -- the text at a place; none where nothing was found
 abbrev pub partAt : Place → List ℕ → List ℕ

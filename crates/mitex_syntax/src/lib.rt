@@ -11,7 +11,7 @@ ghost use Rattle.mitex_syntax.specs.Tree.{Tree, Forest, rowsOf, rowsOfs}
 ghost use Rattle.mitex_syntax.specs.Rows.{numOf, extentOf, tokenAt, tokenSum, Spans};
 ghost use Rattle.mitex_syntax.specs.Views.{isOf, isNodeTree, isArgumentWith, firstNode, kindIn, cmdName, firstTokens, lastTokens, envName, isTokenOf, isInline, isPair, dollarEnds, mathEnds, isValid, inner};
 ghost use Rattle.mitex_syntax.specs.Spells.{Begins, SomeRows, SomeElement, SomeForest};
-ghost use Rattle.mitex_syntax.specs.Places.{picks, Finds, InText, partAt, TokenIs, TokenInText, Hops};
+ghost use Rattle.mitex_syntax.specs.Places.{picks, FindsPlace, InText, partAt, TokenIs, TokenInText, Hops};
 
 // ---- kinds, in the order in which the main match of `Converter::convert` names them
 
@@ -296,7 +296,7 @@ fn is_wanted(rows: &[u8], wanted: Wanted) -> bool
 // The first child from a cursor on that is what is looked for.
 pub fn find(rows: &[u8], text: &[u8], at: Cursor, wanted: Wanted) -> Place
     requires { ⌜ SomeForest (now rows) (now text) (at .row) (at .text) ⌝ }
-    ensures { λ r. ⌜ Finds (picks wanted) (now (rows .entry)) (now (text .entry)) (at .row) (at .text) r ⌝ }
+    ensures { λ r. ⌜ FindsPlace (picks wanted) (now (rows .entry)) (now (text .entry)) (at .row) (at .text) r ⌝ }
 {
     let mut i = at.row;
     let mut j = at.text;
@@ -321,7 +321,7 @@ pub fn find(rows: &[u8], text: &[u8], at: Cursor, wanted: Wanted) -> Place
 // The first child of a kind.
 pub fn find_kind(rows: &[u8], text: &[u8], kind: u8) -> Place
     requires { ⌜ SomeForest (now rows) (now text) 0 0 ⌝ }
-    ensures { λ r. ⌜ Finds (isOf kind) (now (rows .entry)) (now (text .entry)) 0 0 r ⌝ }
+    ensures { λ r. ⌜ FindsPlace (isOf kind) (now (rows .entry)) (now (text .entry)) 0 0 r ⌝ }
 {
     find(rows, text, Cursor { row: 0, text: 0 }, Wanted::Kind(kind))
 }
@@ -329,7 +329,7 @@ pub fn find_kind(rows: &[u8], text: &[u8], kind: u8) -> Place
 // The next argument from a cursor on; the one after it is found from its `end` and `to` on.
 pub fn next_argument(rows: &[u8], text: &[u8], at: Cursor) -> Place
     requires { ⌜ SomeForest (now rows) (now text) (at .row) (at .text) ⌝ }
-    ensures { λ r. ⌜ Finds (isOf ClauseArgument) (now (rows .entry)) (now (text .entry)) (at .row) (at .text) r ⌝ }
+    ensures { λ r. ⌜ FindsPlace (isOf ClauseArgument) (now (rows .entry)) (now (text .entry)) (at .row) (at .text) r ⌝ }
 {
     find(rows, text, at, Wanted::Kind(CLAUSE_ARGUMENT))
 }
@@ -337,7 +337,7 @@ pub fn next_argument(rows: &[u8], text: &[u8], at: Cursor) -> Place
 // The first argument whose first node is of a kind.
 pub fn argument_with(rows: &[u8], text: &[u8], kind: u8) -> Place
     requires { ⌜ SomeForest (now rows) (now text) 0 0 ⌝ }
-    ensures { λ r. ⌜ Finds (isArgumentWith kind) (now (rows .entry)) (now (text .entry)) 0 0 r ⌝ }
+    ensures { λ r. ⌜ FindsPlace (isArgumentWith kind) (now (rows .entry)) (now (text .entry)) 0 0 r ⌝ }
 {
     find(
         rows,
@@ -350,7 +350,7 @@ pub fn argument_with(rows: &[u8], text: &[u8], kind: u8) -> Place
 // The first child that is a node.
 pub fn first_node(rows: &[u8], text: &[u8]) -> Place
     requires { ⌜ SomeForest (now rows) (now text) 0 0 ⌝ }
-    ensures { λ r. ⌜ Finds isNodeTree (now (rows .entry)) (now (text .entry)) 0 0 r ⌝ }
+    ensures { λ r. ⌜ FindsPlace isNodeTree (now (rows .entry)) (now (text .entry)) 0 0 r ⌝ }
 {
     find(rows, text, Cursor { row: 0, text: 0 }, Wanted::Node)
 }
@@ -465,7 +465,7 @@ pub fn token_text<'a>(text: &'a [u8], t: Token) -> &'a [u8]
 // `EnvItem::begin`: where the first ItemBegin stands.
 pub fn begin(rows: &[u8], text: &[u8]) -> Place
     requires { ⌜ SomeForest (now rows) (now text) 0 0 ⌝ }
-    ensures { λ r. ⌜ Finds (isOf ItemBegin) (now (rows .entry)) (now (text .entry)) 0 0 r ⌝ }
+    ensures { λ r. ⌜ FindsPlace (isOf ItemBegin) (now (rows .entry)) (now (text .entry)) 0 0 r ⌝ }
 {
     find_kind(rows, text, ITEM_BEGIN)
 }

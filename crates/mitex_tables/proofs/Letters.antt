@@ -11,8 +11,8 @@ use borrow.Author.Tests.{eqb-true}
 use Rattle.text.specs.Writing.{decimal}
 use Rattle.text.proofs.Compare.{by-test}
 use Rattle.text.proofs.Writing.{take-more}
-use Rattle.mitex_state.specs.Texts.{vlineBegin, vlineEnd}
-use Rattle.mitex_state.specs.Tables.{isColumn, isLine, lettersFit, columns, alignment, alignments, vlines}
+use Rattle.mitex_meaning.specs.Texts.{vlineBegin, vlineEnd}
+use Rattle.mitex_meaning.specs.Tables.{isColumn, isLine, lettersFit, columns, alignment, alignments, vlines}
 use Rattle.mitex_tables.specs.Letters.{counted, vline}
 
 -- ---- one letter and the others

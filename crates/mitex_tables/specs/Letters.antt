@@ -4,8 +4,8 @@ use mathlib.Core.Bool.{cond}
 use mathlib.Core.List.{List, [], _++_}
 use Prim.Native.Nat.{ℕ, _+_}
 use Rattle.text.specs.Writing.{decimal}
-use Rattle.mitex_state.specs.Texts.{columnsBegin, alignBegin, vlineBegin, vlineEnd}
-use Rattle.mitex_state.specs.Tables.{isColumn, isLine, columns, alignments}
+use Rattle.mitex_meaning.specs.Texts.{columnsBegin, alignBegin, vlineBegin, vlineEnd}
+use Rattle.mitex_meaning.specs.Tables.{isColumn, isLine, columns, alignments}
 
 abbrev pub counted : ℕ → ℕ → ℕ
 counted n b = cond (isColumn b) (n + 1) n

@@ -5,7 +5,7 @@ ghost use Prim.Native.Nat.{_+_, _≤_, _<_};
 ghost use lib.ListN.{length};
 ghost use Rattle.text.specs.Writing.{cap, Wrote};
 ghost use Rattle.mitex_syntax.specs.Views.{goodEnds};
-ghost use Rattle.mitex_state.specs.Tables.{isColumn, isLine, lettersFit, columns, alignment, alignments, vlines, tableHead};
+ghost use Rattle.mitex_meaning.specs.Tables.{isColumn, isLine, lettersFit, columns, alignment, alignments, vlines, tableHead};
 ghost use Rattle.mitex_tables.specs.Letters.{counted, vline, columnsPart};
 
 // ---- the letters

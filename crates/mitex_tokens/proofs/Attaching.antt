@@ -19,20 +19,20 @@ use Rattle.mitex_syntax.specs.Tree.Tree.{token, node}
 use Rattle.mitex_syntax.specs.Tree.Forest.{none, more}
 use Rattle.mitex_syntax.specs.Spells.{Sound, SpellsAll}
 use Rattle.mitex_syntax.proofs.Trees.{four-says, size-some, length-rowss}
-use Rattle.mitex_state.specs.Outcome.{Context, Carry, Outcome, Arm, after, andThen, shift, flagged}
-use Rattle.mitex_state.specs.Outcome.Outcome.{done}
-use Rattle.mitex_state.specs.Texts.{leftParen, rightParen}
-use Rattle.mitex_state.specs.Tokens.{spaced, word, tokenOut}
-use Rattle.mitex_state.specs.Children.{isSplit, attachAct, each}
-use Rattle.mitex_state.specs.Groups.{attachLoop, attachComponent}
-use Rattle.mitex_state.specs.Conversion.{convert}
-use Rattle.mitex_state.specs.declared.LaTeXMode.{LaTeXMode}
-use Rattle.mitex_state.specs.declared.LaTeXMode.the-variants.{Math}
-use Rattle.mitex_state.specs.declared.Attach.the-variants.{Bare, Based, Split}
-use Rattle.mitex_state.specs.declared.Loop.{Loop}
-use Rattle.mitex_state.specs.declared.Loop.the-variants.{Attached}
-use Rattle.mitex_state.specs.declared.Act.the-variants.{Convert, SplitBased}
-use Rattle.mitex_state.proofs.Loops.{each-none}
+use Rattle.mitex_meaning.specs.Outcome.{Context, Carry, Outcome, Arm, after, andThen, shift, flagged}
+use Rattle.mitex_meaning.specs.Outcome.Outcome.{done}
+use Rattle.mitex_meaning.specs.Texts.{leftParen, rightParen}
+use Rattle.mitex_meaning.specs.Tokens.{spaced, word, tokenOut}
+use Rattle.mitex_meaning.specs.Children.{isSplit, attachAct, each}
+use Rattle.mitex_meaning.specs.Groups.{attachLoop, attachComponent}
+use Rattle.mitex_meaning.specs.Conversion.{convert}
+use Rattle.mitex_meaning.specs.declared.LaTeXMode.{LaTeXMode}
+use Rattle.mitex_meaning.specs.declared.LaTeXMode.the-variants.{Math}
+use Rattle.mitex_meaning.specs.declared.Attach.the-variants.{Bare, Based, Split}
+use Rattle.mitex_meaning.specs.declared.Loop.{Loop}
+use Rattle.mitex_meaning.specs.declared.Loop.the-variants.{Attached}
+use Rattle.mitex_meaning.specs.declared.Act.the-variants.{Convert, SplitBased}
+use Rattle.mitex_meaning.proofs.Loops.{each-none}
 use Rattle.mitex_tokens.specs.Puts.{carrying}
 use Rattle.mitex_tokens.specs.Nodes.{NodeGiven, Attachment, nodeOf, Nodes}
 use Rattle.mitex_tokens.specs.declared.NodePut.{NodePut}

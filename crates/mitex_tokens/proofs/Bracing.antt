@@ -18,22 +18,22 @@ use Rattle.mitex_syntax.specs.Tree.Tree.{token, node}
 use Rattle.mitex_syntax.specs.Tree.Forest.{none, more}
 use Rattle.mitex_syntax.specs.Spells.{Sound, Spells, SpellsAll}
 use Rattle.mitex_syntax.proofs.Trees.{four-says, size-some, length-rowss, all-begins, first-spelt, others-exact}
-use Rattle.mitex_state.specs.Outcome.{Context, Label, Carry, Outcome, after, andThen, closing, shift, flagged, inEnv}
-use Rattle.mitex_state.specs.Outcome.Outcome.{refused, done}
-use Rattle.mitex_state.specs.Texts.{blankGroup}
-use Rattle.mitex_state.specs.Tokens.{tokenOut}
-use Rattle.mitex_state.specs.Children.{isBlank, actOf, before, converts, behind, nextLoop, loopEnd, turn, each}
-use Rattle.mitex_state.specs.Groups.{groupEnv, curlyIn}
-use Rattle.mitex_state.specs.Conversion.{step, convert}
-use Rattle.mitex_state.specs.declared.LaTeXMode.{LaTeXMode}
-use Rattle.mitex_state.specs.declared.LaTeXMode.the-variants.{Text, Math}
-use Rattle.mitex_state.specs.declared.LaTeXEnv.{LaTeXEnv}
-use Rattle.mitex_state.specs.declared.Loop.{Loop}
-use Rattle.mitex_state.specs.declared.Loop.the-variants.{Plain, Curly}
-use Rattle.mitex_state.specs.declared.Act.{Act}
-use Rattle.mitex_state.specs.declared.Act.the-variants.{Convert}
-use Rattle.mitex_state.proofs.Outcomes.{after-nil, andThen-same, shift-shift}
-use Rattle.mitex_state.proofs.Loops.{each-none, each-more, each-at}
+use Rattle.mitex_meaning.specs.Outcome.{Context, Label, Carry, Outcome, after, andThen, closing, shift, flagged, inEnv}
+use Rattle.mitex_meaning.specs.Outcome.Outcome.{refused, done}
+use Rattle.mitex_meaning.specs.Texts.{blankGroup}
+use Rattle.mitex_meaning.specs.Tokens.{tokenOut}
+use Rattle.mitex_meaning.specs.Children.{isBlank, actOf, before, converts, behind, nextLoop, loopEnd, turn, each}
+use Rattle.mitex_meaning.specs.Groups.{groupEnv, curlyIn}
+use Rattle.mitex_meaning.specs.Conversion.{step, convert}
+use Rattle.mitex_meaning.specs.declared.LaTeXMode.{LaTeXMode}
+use Rattle.mitex_meaning.specs.declared.LaTeXMode.the-variants.{Text, Math}
+use Rattle.mitex_meaning.specs.declared.LaTeXEnv.{LaTeXEnv}
+use Rattle.mitex_meaning.specs.declared.Loop.{Loop}
+use Rattle.mitex_meaning.specs.declared.Loop.the-variants.{Plain, Curly}
+use Rattle.mitex_meaning.specs.declared.Act.{Act}
+use Rattle.mitex_meaning.specs.declared.Act.the-variants.{Convert}
+use Rattle.mitex_meaning.proofs.Outcomes.{after-nil, andThen-same, shift-shift}
+use Rattle.mitex_meaning.proofs.Loops.{each-none, each-more, each-at}
 use Rattle.mitex_loops.specs.Given.{ChildGiven, OthersGiven, numberOf}
 use Rattle.mitex_loops.proofs.Acting.{number-next}
 use Rattle.mitex_loops.proofs.Plainly.{each-one, group-step}

@@ -20,16 +20,16 @@ use Rattle.mitex_syntax.specs.Tree.Tree.{token, node}
 use Rattle.mitex_syntax.specs.Tree.Forest.{none, more}
 use Rattle.mitex_syntax.specs.Spells.{Spells, SpellsAll, Sound}
 use Rattle.mitex_syntax.proofs.Trees.{kind-spelt, no-left}
-use Rattle.mitex_state.specs.Outcome.{Context, Label, Carry, Outcome, after, closing}
-use Rattle.mitex_state.specs.Outcome.Label.{unheld}
-use Rattle.mitex_state.specs.Outcome.Outcome.{refused, done}
-use Rattle.mitex_state.specs.Tokens.{tokenOut}
-use Rattle.mitex_state.specs.Texts.{leftBracket}
-use Rattle.mitex_state.specs.Children.{before, behind, converts, actOf, nextLoop, othersFollow, loopEnd, each}
-use Rattle.mitex_state.specs.Conversion.{convert}
-use Rattle.mitex_state.specs.declared.Act.{Act}
-use Rattle.mitex_state.specs.declared.Act.the-variants.{Skip, Convert, ThenComma, InBrackets}
-use Rattle.mitex_state.proofs.Loops.{each-none}
+use Rattle.mitex_meaning.specs.Outcome.{Context, Label, Carry, Outcome, after, closing}
+use Rattle.mitex_meaning.specs.Outcome.Label.{unheld}
+use Rattle.mitex_meaning.specs.Outcome.Outcome.{refused, done}
+use Rattle.mitex_meaning.specs.Tokens.{tokenOut}
+use Rattle.mitex_meaning.specs.Texts.{leftBracket}
+use Rattle.mitex_meaning.specs.Children.{before, behind, converts, actOf, nextLoop, othersFollow, loopEnd, each}
+use Rattle.mitex_meaning.specs.Conversion.{convert}
+use Rattle.mitex_meaning.specs.declared.Act.{Act}
+use Rattle.mitex_meaning.specs.declared.Act.the-variants.{Skip, Convert, ThenComma, InBrackets}
+use Rattle.mitex_meaning.proofs.Loops.{each-none}
 use Rattle.mitex_loops.specs.Given.{numberOf}
 use Rattle.mitex_loops.proofs.Others.{hop-start, hop-end, hops}
 use Rattle.mitex_tokens.specs.Puts.{carrying, turnBy, Puts}

@@ -17,14 +17,14 @@ use Rattle.mitex_syntax.specs.Tree.Forest.{more}
 use Rattle.mitex_syntax.specs.Spells.{SpellsAll}
 use Rattle.mitex_syntax.specs.Views.{firstBy, cmdName}
 use Rattle.mitex_syntax.proofs.Trees.{length-rowss}
-use Rattle.mitex_state.specs.Outcome.{Context, Label, Carry, Conv, Arm, after, inEnv}
-use Rattle.mitex_state.specs.Outcome.Outcome.{refused, done}
-use Rattle.mitex_state.specs.Texts.{substackName}
-use Rattle.mitex_state.specs.Commands.{argumentsOf, argumentsBy, stackEnv, written, commandOf, commandBy, command}
-use Rattle.mitex_state.specs.Conversion.{elementOf, armBy, convert}
-use Rattle.mitex_state.specs.declared.LaTeXEnv.the-variants.{SubStack}
-use Rattle.mitex_state.specs.declared.Command.{Command}
-use Rattle.mitex_state.specs.declared.Arguments.{Arguments}
+use Rattle.mitex_meaning.specs.Outcome.{Context, Label, Carry, Conv, Arm, after, inEnv}
+use Rattle.mitex_meaning.specs.Outcome.Outcome.{refused, done}
+use Rattle.mitex_meaning.specs.Texts.{substackName}
+use Rattle.mitex_meaning.specs.Commands.{argumentsOf, argumentsBy, stackEnv, written, commandOf, commandBy, command}
+use Rattle.mitex_meaning.specs.Conversion.{elementOf, armBy, convert}
+use Rattle.mitex_meaning.specs.declared.LaTeXEnv.the-variants.{SubStack}
+use Rattle.mitex_meaning.specs.declared.Command.{Command}
+use Rattle.mitex_meaning.specs.declared.Arguments.{Arguments}
 use Rattle.mitex_commands.proofs.Ruling.{command-is}
 use Rattle.mitex_tokens.specs.Puts.{carrying}
 use Rattle.mitex_tokens.specs.Nodes.{NodeGiven, Call, callEnd, nodeOf, Nodes}

@@ -16,16 +16,16 @@ use Rattle.mitex_syntax.specs.Rows.{numOf}
 use Rattle.mitex_syntax.specs.Tree.{Forest, size, sizes}
 use Rattle.mitex_syntax.specs.Spells.{SpellsAll}
 use Rattle.mitex_syntax.proofs.Trees.{getD-here}
-use Rattle.mitex_state.specs.Outcome.{Context, Label, Outcome, after, andThen, shift}
-use Rattle.mitex_state.specs.Outcome.Outcome.{done}
-use Rattle.mitex_state.specs.Tokens.{word, tokenOut}
-use Rattle.mitex_state.specs.Children.{nextLoop, each}
-use Rattle.mitex_state.specs.Conversion.{convert, startContext}
-use Rattle.mitex_state.specs.declared.LaTeXMode.{LaTeXMode}
-use Rattle.mitex_state.specs.declared.LaTeXMode.the-variants.{Text}
-use Rattle.mitex_state.specs.declared.Loop.{Loop}
-use Rattle.mitex_state.specs.declared.Act.the-variants.{Convert}
-use Rattle.mitex_state.proofs.Outcomes.{after-nil, after-after}
+use Rattle.mitex_meaning.specs.Outcome.{Context, Label, Outcome, after, andThen, shift}
+use Rattle.mitex_meaning.specs.Outcome.Outcome.{done}
+use Rattle.mitex_meaning.specs.Tokens.{word, tokenOut}
+use Rattle.mitex_meaning.specs.Children.{nextLoop, each}
+use Rattle.mitex_meaning.specs.Conversion.{convert, startContext}
+use Rattle.mitex_meaning.specs.declared.LaTeXMode.{LaTeXMode}
+use Rattle.mitex_meaning.specs.declared.LaTeXMode.the-variants.{Text}
+use Rattle.mitex_meaning.specs.declared.Loop.{Loop}
+use Rattle.mitex_meaning.specs.declared.Act.the-variants.{Convert}
+use Rattle.mitex_meaning.proofs.Outcomes.{after-nil, after-after}
 use Rattle.mitex_loops.specs.Given.{numberOf}
 use Rattle.mitex_tokens.specs.Puts.{carrying, tokenTurn}
 use Rattle.mitex_tokens.specs.Running.{isCopied, runOf}

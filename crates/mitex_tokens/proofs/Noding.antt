@@ -14,14 +14,14 @@ use Rattle.mitex_syntax.specs.Tree.Tree.{token, node}
 use Rattle.mitex_syntax.specs.Tree.Forest.{none, more}
 use Rattle.mitex_syntax.specs.Spells.{Sound, SpellsAll}
 use Rattle.mitex_syntax.proofs.Trees.{length-rowss, all-begins, first-spelt, others-exact, element, spans}
-use Rattle.mitex_state.specs.Outcome.{Context, Label, Carry, Outcome, andThen, shift, flagged}
-use Rattle.mitex_state.specs.Outcome.Outcome.{refused}
-use Rattle.mitex_state.specs.Children.{isEnds, actOf, nextLoop, turn, each}
-use Rattle.mitex_state.specs.Conversion.{elementOf, armBy, step, convert}
-use Rattle.mitex_state.specs.declared.Loop.{Loop}
-use Rattle.mitex_state.specs.declared.Act.{Act}
-use Rattle.mitex_state.specs.declared.Act.the-variants.{Skip, Convert}
-use Rattle.mitex_state.proofs.Loops.{turn-converts, each-more}
+use Rattle.mitex_meaning.specs.Outcome.{Context, Label, Carry, Outcome, andThen, shift, flagged}
+use Rattle.mitex_meaning.specs.Outcome.Outcome.{refused}
+use Rattle.mitex_meaning.specs.Children.{isEnds, actOf, nextLoop, turn, each}
+use Rattle.mitex_meaning.specs.Conversion.{elementOf, armBy, step, convert}
+use Rattle.mitex_meaning.specs.declared.Loop.{Loop}
+use Rattle.mitex_meaning.specs.declared.Act.{Act}
+use Rattle.mitex_meaning.specs.declared.Act.the-variants.{Skip, Convert}
+use Rattle.mitex_meaning.proofs.Loops.{turn-converts, each-more}
 use Rattle.mitex_loops.proofs.Plainly.{bare}
 use Rattle.mitex_tokens.specs.Puts.{carrying}
 use Rattle.mitex_tokens.specs.Running.{runOf}

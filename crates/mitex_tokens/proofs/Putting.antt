@@ -12,18 +12,18 @@ use Rattle.text.specs.Writing.{cap, Wrote, spaces}
 use Rattle.text.proofs.Writing.{wrote-then, wrote-long, wrote-low}
 use Rattle.mitex_spec.specs.Rules.{Rule, getCmd, writtenName}
 use Rattle.mitex_syntax.specs.Syntax.{TokenError, ClauseCommandName, TokenWhiteSpace, TokenLineBreak, TokenCommandSym}
-use Rattle.mitex_state.specs.Outcome.{Context, Label, Carry, Outcome, after, closing, labelMost}
-use Rattle.mitex_state.specs.Outcome.Label.{unheld}
-use Rattle.mitex_state.specs.Outcome.Outcome.{refused, done}
-use Rattle.mitex_state.specs.State.{carryOf}
-use Rattle.mitex_state.specs.Contract.{placeOf, Agrees, Declined}
-use Rattle.mitex_state.specs.Tokens.{tokenText, whiteSpace, symbolBy, tokenOut}
-use Rattle.mitex_state.specs.Children.{before, converts, behind}
-use Rattle.mitex_state.specs.declared.Act.{Act}
-use Rattle.mitex_state.specs.declared.Act.the-variants.{Convert}
-use Rattle.mitex_state.specs.declared.Converter.{Converter}
-use Rattle.mitex_state.specs.declared.Walked.{Walked}
-use Rattle.mitex_state.proofs.Agreeing.{agrees-here, agrees-carried}
+use Rattle.mitex_meaning.specs.Outcome.{Context, Label, Carry, Outcome, after, closing, labelMost}
+use Rattle.mitex_meaning.specs.Outcome.Label.{unheld}
+use Rattle.mitex_meaning.specs.Outcome.Outcome.{refused, done}
+use Rattle.mitex_meaning.specs.State.{carryOf}
+use Rattle.mitex_meaning.specs.Contract.{placeOf, Agrees, Declined}
+use Rattle.mitex_meaning.specs.Tokens.{tokenText, whiteSpace, symbolBy, tokenOut}
+use Rattle.mitex_meaning.specs.Children.{before, converts, behind}
+use Rattle.mitex_meaning.specs.declared.Act.{Act}
+use Rattle.mitex_meaning.specs.declared.Act.the-variants.{Convert}
+use Rattle.mitex_meaning.specs.declared.Converter.{Converter}
+use Rattle.mitex_meaning.specs.declared.Walked.{Walked}
+use Rattle.mitex_meaning.proofs.Agreeing.{agrees-here, agrees-carried}
 use Rattle.mitex_loops.proofs.Closing.{passes-alone}
 use Rattle.mitex_loops.proofs.Plainly.{bare}
 use Rattle.mitex_tokens.specs.Puts.{carrying, turnBy, tokenTurn, Puts, Settles}

@@ -22,16 +22,16 @@ use Rattle.mitex_syntax.specs.Tree.Forest.{none, more}
 use Rattle.mitex_syntax.specs.Spells.{Sound, Spells, SpellsAll}
 use Rattle.mitex_syntax.proofs.Trees.{length-rowss, others-exact, getD-here}
 use Rattle.mitex_syntax.proofs.Tokens.{token-number}
-use Rattle.mitex_state.specs.Outcome.{Context, Label, Carry, Outcome, after, andThen, shift}
-use Rattle.mitex_state.specs.Outcome.Outcome.{refused}
-use Rattle.mitex_state.specs.Children.{isEnds, actOf, nextLoop, turn, each}
-use Rattle.mitex_state.specs.Conversion.{step, convert}
-use Rattle.mitex_state.specs.declared.Loop.{Loop}
-use Rattle.mitex_state.specs.declared.Loop.the-variants.{Plain, Curly, Spaced, Attached, Greedy, Separated, Bracketed, Dollars, Arguments, Named, Inside, Figure, Table}
-use Rattle.mitex_state.specs.declared.Act.{Act}
-use Rattle.mitex_state.specs.declared.Act.the-variants.{Skip, Convert}
-use Rattle.mitex_state.proofs.Outcomes.{after-nil, after-after}
-use Rattle.mitex_state.proofs.Loops.{each-more}
+use Rattle.mitex_meaning.specs.Outcome.{Context, Label, Carry, Outcome, after, andThen, shift}
+use Rattle.mitex_meaning.specs.Outcome.Outcome.{refused}
+use Rattle.mitex_meaning.specs.Children.{isEnds, actOf, nextLoop, turn, each}
+use Rattle.mitex_meaning.specs.Conversion.{step, convert}
+use Rattle.mitex_meaning.specs.declared.Loop.{Loop}
+use Rattle.mitex_meaning.specs.declared.Loop.the-variants.{Plain, Curly, Spaced, Attached, Greedy, Separated, Bracketed, Dollars, Arguments, Named, Inside, Figure, Table}
+use Rattle.mitex_meaning.specs.declared.Act.{Act}
+use Rattle.mitex_meaning.specs.declared.Act.the-variants.{Skip, Convert}
+use Rattle.mitex_meaning.proofs.Outcomes.{after-nil, after-after}
+use Rattle.mitex_meaning.proofs.Loops.{each-more}
 use Rattle.mitex_loops.specs.Given.{ChildGiven, OthersGiven, numberOf}
 use Rattle.mitex_tokens.specs.Puts.{carrying, tokenTurn, Puts}
 use Rattle.mitex_tokens.specs.Running.{isSteady, runOf}

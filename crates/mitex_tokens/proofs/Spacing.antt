@@ -8,8 +8,8 @@ use Rattle.text.specs.Writing.{cap, Wrote}
 use Rattle.text.proofs.Writing.{wrote-as, wrote-nil, wrote-then, wrote-room}
 use Rattle.utf8.specs.Chars.{chars, charLen}
 use Rattle.utf8.proofs.Chars.{charLen-first}
-use Rattle.mitex_state.specs.Texts.{space}
-use Rattle.mitex_state.specs.Tokens.{spaced}
+use Rattle.mitex_meaning.specs.Texts.{space}
+use Rattle.mitex_meaning.specs.Tokens.{spaced}
 
 -- of the characters of s those before t are written
 pub record Partly (at : ℕ) (out₀ s : List ℕ) (p : ℕ) (out t : List ℕ) : Type 0 where

@@ -15,13 +15,13 @@ use Rattle.mitex_spec.specs.LookUp.{ruleOf, endOf, Finds}
 use Rattle.mitex_spec.specs.declared.Found.{Found}
 use Rattle.mitex_spec.specs.declared.Found.the-variants.{Absent, Plain, Aliased}
 use Rattle.mitex_syntax.specs.Syntax.{TokenApostrophe, TokenComma, TokenSlash, TokenCaret, TokenUnderscore, TokenHash, TokenAsterisk, TokenAtSign, TokenDitto, TokenSemicolon, TokenLParen, TokenRParen, TokenLBracket, TokenRBracket, TokenWord, TokenTilde, TokenAmpersand, ItemNewLine, TokenError, ClauseCommandName, TokenWhiteSpace, TokenLineBreak, TokenCommandSym}
-use Rattle.mitex_state.specs.Outcome.{Context, Carry, flagged}
-use Rattle.mitex_state.specs.Outcome.Outcome.{refused, done}
-use Rattle.mitex_state.specs.Texts.{escape, columnMark, lineMark, ampersand, newLine}
-use Rattle.mitex_state.specs.Tokens.{word, tokenText, whiteSpace, symbolBy, commandSym, tokenOut}
-use Rattle.mitex_state.proofs.LaTeXEnv.{the-type as env-type}
-use Rattle.mitex_state.specs.declared.LaTeXEnv.{LaTeXEnv}
-use Rattle.mitex_state.specs.declared.LaTeXEnv.the-variants.{None, Figure, Table, Itemize, Enumerate, Math, Matrix, Cases, SubStack, MathCurlyGroup}
+use Rattle.mitex_meaning.specs.Outcome.{Context, Carry, flagged}
+use Rattle.mitex_meaning.specs.Outcome.Outcome.{refused, done}
+use Rattle.mitex_meaning.specs.Texts.{escape, columnMark, lineMark, ampersand, newLine}
+use Rattle.mitex_meaning.specs.Tokens.{word, tokenText, whiteSpace, symbolBy, commandSym, tokenOut}
+use Rattle.mitex_meaning.proofs.LaTeXEnv.{the-type as env-type}
+use Rattle.mitex_meaning.specs.declared.LaTeXEnv.{LaTeXEnv}
+use Rattle.mitex_meaning.specs.declared.LaTeXEnv.the-variants.{None, Figure, Table, Itemize, Enumerate, Math, Matrix, Cases, SubStack, MathCurlyGroup}
 use Rattle.mitex_tokens.specs.Escapes.{escapeOf}
 
 -- ---- columns and lines: the environments that have no text of their own, by the tags that the code tells them by

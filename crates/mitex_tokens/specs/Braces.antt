@@ -10,15 +10,15 @@ use Rattle.mitex_syntax.specs.Rows.{numOf}
 use Rattle.mitex_syntax.specs.Tree.{Tree}
 use Rattle.mitex_syntax.specs.Tree.Tree.{token, node}
 use Rattle.mitex_syntax.specs.Tree.Forest.{none, more}
-use Rattle.mitex_state.specs.Outcome.{Context, Label, Carry, Outcome, closing, flagged}
-use Rattle.mitex_state.specs.Outcome.Outcome.{refused, done}
-use Rattle.mitex_state.specs.Texts.{blankGroup}
-use Rattle.mitex_state.specs.Tokens.{tokenOut}
-use Rattle.mitex_state.specs.Children.{isBlank}
-use Rattle.mitex_state.specs.Groups.{groupEnv}
-use Rattle.mitex_state.specs.declared.LaTeXMode.{LaTeXMode}
-use Rattle.mitex_state.specs.declared.LaTeXMode.the-variants.{Text, Math}
-use Rattle.mitex_state.specs.declared.LaTeXEnv.{LaTeXEnv}
+use Rattle.mitex_meaning.specs.Outcome.{Context, Label, Carry, Outcome, closing, flagged}
+use Rattle.mitex_meaning.specs.Outcome.Outcome.{refused, done}
+use Rattle.mitex_meaning.specs.Texts.{blankGroup}
+use Rattle.mitex_meaning.specs.Tokens.{tokenOut}
+use Rattle.mitex_meaning.specs.Children.{isBlank}
+use Rattle.mitex_meaning.specs.Groups.{groupEnv}
+use Rattle.mitex_meaning.specs.declared.LaTeXMode.{LaTeXMode}
+use Rattle.mitex_meaning.specs.declared.LaTeXMode.the-variants.{Text, Math}
+use Rattle.mitex_meaning.specs.declared.LaTeXEnv.{LaTeXEnv}
 use Rattle.mitex_tokens.specs.Puts.{carrying}
 
 -- the argument: a curly group over a brace, the token and a brace

@@ -9,16 +9,16 @@ use Rattle.text.specs.Writing.{cap, Wrote}
 use Rattle.mitex_syntax.specs.Syntax.{TokenWord, ClauseCommandName}
 use Rattle.mitex_syntax.specs.Tree.{Forest, sizes}
 use Rattle.mitex_syntax.specs.Spells.{SpellsAll}
-use Rattle.mitex_state.specs.Outcome.{Context, Label, Arm, closing}
-use Rattle.mitex_state.specs.Outcome.Outcome.{refused, done}
-use Rattle.mitex_state.specs.Texts.{rightParen, semicolon}
-use Rattle.mitex_state.specs.Children.{isSplit, each}
-use Rattle.mitex_state.specs.Commands.{itemIn}
-use Rattle.mitex_state.specs.Conversion.{convert}
-use Rattle.mitex_state.specs.declared.Loop.{Loop}
-use Rattle.mitex_state.specs.declared.Loop.the-variants.{Separated, Bracketed}
-use Rattle.mitex_state.specs.declared.Act.{Act}
-use Rattle.mitex_state.specs.declared.Act.the-variants.{Convert, ThenComma, InBrackets}
+use Rattle.mitex_meaning.specs.Outcome.{Context, Label, Arm, closing}
+use Rattle.mitex_meaning.specs.Outcome.Outcome.{refused, done}
+use Rattle.mitex_meaning.specs.Texts.{rightParen, semicolon}
+use Rattle.mitex_meaning.specs.Children.{isSplit, each}
+use Rattle.mitex_meaning.specs.Commands.{itemIn}
+use Rattle.mitex_meaning.specs.Conversion.{convert}
+use Rattle.mitex_meaning.specs.declared.Loop.{Loop}
+use Rattle.mitex_meaning.specs.declared.Loop.the-variants.{Separated, Bracketed}
+use Rattle.mitex_meaning.specs.declared.Act.{Act}
+use Rattle.mitex_meaning.specs.declared.Act.the-variants.{Convert, ThenComma, InBrackets}
 use Rattle.mitex_tokens.specs.Puts.{carrying}
 use Rattle.mitex_tokens.specs.Braces.{Braced}
 use Rattle.mitex_tokens.specs.declared.NodePut.{NodePut}

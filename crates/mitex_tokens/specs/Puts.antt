@@ -6,17 +6,17 @@ use mathlib.Core.List.{List, []}
 use Prim.Native.Nat.{ℕ, _<_}
 use Rattle.text.specs.Writing.{Wrote}
 use Rattle.mitex_spec.specs.Rules.{Rule}
-use Rattle.mitex_state.specs.Outcome.{Context, Label, Carry, Outcome, after, closing, flagged}
-use Rattle.mitex_state.specs.Outcome.Outcome.{refused, done}
-use Rattle.mitex_state.specs.State.{carryOf, Carried}
-use Rattle.mitex_state.specs.Contract.{Went, Declined}
-use Rattle.mitex_state.specs.Tokens.{tokenOut}
-use Rattle.mitex_state.specs.Children.{before, converts, behind}
-use Rattle.mitex_state.specs.declared.LaTeXMode.{LaTeXMode}
-use Rattle.mitex_state.specs.declared.LaTeXEnv.{LaTeXEnv}
-use Rattle.mitex_state.specs.declared.Act.{Act}
-use Rattle.mitex_state.specs.declared.Converter.{Converter}
-use Rattle.mitex_state.specs.declared.Walked.{Walked}
+use Rattle.mitex_meaning.specs.Outcome.{Context, Label, Carry, Outcome, after, closing, flagged}
+use Rattle.mitex_meaning.specs.Outcome.Outcome.{refused, done}
+use Rattle.mitex_meaning.specs.State.{carryOf, Carried}
+use Rattle.mitex_meaning.specs.Contract.{Went, Declined}
+use Rattle.mitex_meaning.specs.Tokens.{tokenOut}
+use Rattle.mitex_meaning.specs.Children.{before, converts, behind}
+use Rattle.mitex_meaning.specs.declared.LaTeXMode.{LaTeXMode}
+use Rattle.mitex_meaning.specs.declared.LaTeXEnv.{LaTeXEnv}
+use Rattle.mitex_meaning.specs.declared.Act.{Act}
+use Rattle.mitex_meaning.specs.declared.Converter.{Converter}
+use Rattle.mitex_meaning.specs.declared.Walked.{Walked}
 use Rattle.mitex_tokens.specs.declared.TokenPut.{TokenPut}
 
 abbrev pub inside : List Rule → LaTeXMode → LaTeXEnv → ℕ → Context

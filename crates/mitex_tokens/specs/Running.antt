@@ -3,8 +3,8 @@ use mathlib.Core.Bool.{Bool, true, false, not, _||_}
 use Prim.Native.Nat.{ℕ}
 use lib.Dec.{eqb}
 use Rattle.mitex_syntax.specs.Syntax.{TokenWord, TokenWhiteSpace}
-use Rattle.mitex_state.specs.declared.Loop.{Loop}
-use Rattle.mitex_state.specs.declared.Loop.the-variants.{Plain, Curly, Spaced, Attached, Greedy, Separated, Bracketed, Dollars, Arguments, Named, Inside, Figure, Table}
+use Rattle.mitex_meaning.specs.declared.Loop.{Loop}
+use Rattle.mitex_meaning.specs.declared.Loop.the-variants.{Plain, Curly, Spaced, Attached, Greedy, Separated, Bracketed, Dollars, Arguments, Named, Inside, Figure, Table}
 use Rattle.mitex_tokens.specs.declared.Run.{Run}
 
 -- the loop converts each token, with nothing around it, and goes on as it is: a curly group does once it is no longer blank

@@ -8,13 +8,13 @@ use lib.ListN.{length, getD, drop}
 use Rattle.text.specs.Writing.{cap, Wrote}
 use Rattle.mitex_syntax.specs.Tree.{Forest, sizes}
 use Rattle.mitex_syntax.specs.Spells.{SpellsAll}
-use Rattle.mitex_state.specs.Outcome.{Context, Label, after}
-use Rattle.mitex_state.specs.Outcome.Outcome.{refused}
-use Rattle.mitex_state.specs.Children.{each}
-use Rattle.mitex_state.specs.Conversion.{convert}
+use Rattle.mitex_meaning.specs.Outcome.{Context, Label, after}
+use Rattle.mitex_meaning.specs.Outcome.Outcome.{refused}
+use Rattle.mitex_meaning.specs.Children.{each}
+use Rattle.mitex_meaning.specs.Conversion.{convert}
 use Rattle.mitex_loops.specs.Given.{numberOf}
-use Rattle.mitex_state.specs.declared.Loop.{Loop}
-use Rattle.mitex_state.specs.declared.LaTeXMode.the-variants.{Text}
+use Rattle.mitex_meaning.specs.declared.Loop.{Loop}
+use Rattle.mitex_meaning.specs.declared.LaTeXMode.the-variants.{Text}
 use Rattle.mitex_tokens.specs.Puts.{carrying}
 use Rattle.mitex_tokens.specs.Braces.{Braced}
 use Rattle.mitex_tokens.specs.Running.{runOf}

@@ -6,11 +6,11 @@ use native.Mathlib.Omega.{arith}
 use lib.ListN.{length, drop, length-append}
 use Rattle.text.proofs.Compare.{by-test}
 use Rattle.ledger.specs.Ledger.{written}
-use Rattle.editing.specs.Walk.{Converter, Walk}
-use Rattle.editing.specs.Walk.Walk.{stopped, pieces}
-use Rattle.editing.specs.Edit.{Answer, room, settle, conversion, convertDocument}
-use Rattle.editing.specs.Edit.Answer.{refused, converted}
-use Rattle.editing.specs.Calls.{Gives, Converts}
+use Rattle.edit_meaning.specs.Walk.{BlockConverter, Walk}
+use Rattle.edit_meaning.specs.Walk.Walk.{stopped, pieces}
+use Rattle.edit_meaning.specs.Edit.{Answer, room, settle, conversion, convertDocument}
+use Rattle.edit_meaning.specs.Edit.Answer.{refused, converted}
+use Rattle.edit_meaning.specs.Calls.{Gives, Converts}
 
 settled-inside :
     (v : Walk) (text ledger : List ℕ) {n k : ℕ} {text′ ledger′ : List ℕ} → Gives (settle v text ledger) (converted n k) text′ ledger′
@@ -31,7 +31,7 @@ settled-inside (pieces ps) text ledger {n} {k} {text′} g =
     let y : _≡_ {A = ℕ} 0 1 = cc in absurd (omega arith))
 
 pub converted-inside :
-    {𝓒 : Converter} {tree text ledger : List ℕ} {a : Answer} {n k : ℕ} {text′ ledger′ : List ℕ}
+    {𝓒 : BlockConverter} {tree text ledger : List ℕ} {a : Answer} {n k : ℕ} {text′ ledger′ : List ℕ}
     → Converts 𝓒 tree text ledger a text′ ledger′ → a ≡ converted n k → n ≤ length text′
 unfolding convertDocument
 converted-inside {𝓒} {tree} {text} {ledger} {a} {n} {k} {text′} {ledger′} w e =

@@ -1,10 +1,10 @@
 // Converts the tree of tree.bin by the rules of rules.bin, both in the current folder, in the mode that standard input names (`t` or
 // `m`), and writes the text alone; or the number and the row of a refusal.
+use calls::Converted;
 use console::ANSWER_MOST;
 use console::mode_in;
 use console::put_refusal;
 use console::read_file;
-use edit::Converted;
 use libc::STDIN_FILENO;
 use libc::STDOUT_FILENO;
 
@@ -29,7 +29,7 @@ fn print_refusal(number: u8, row: usize) {
 fn convert<'a>(mode: u8, rules: &'a [u8], tree: &'a [u8]) {
     let mut text = io::large_buffer();
     let mut ledger = io::large_buffer();
-    match edit::convert(mode, rules, tree, &mut text, &mut ledger) {
+    match calls::convert(mode, rules, tree, &mut text, &mut ledger) {
         Converted::Refused { number, row } => print_refusal(number, row),
         Converted::Done { length, blocks: _ } => {
             io::write_all(STDOUT_FILENO, &text[..length]);

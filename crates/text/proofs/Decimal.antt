@@ -12,14 +12,14 @@ use lib.ListN.{length, take, drop, set, length-set, length-drop}
 use lib.Seq.{drop-cons, drop-set-lt, getD-set-same, drop-length, take-all}
 use Rattle.text.specs.Writing.{digits, decimal}
 
-pub record Left (n : ℕ) (d : List ℕ) (i m : ℕ) : Type 0 where
+pub record DigitsLeft (n : ℕ) (d : List ℕ) (i m : ℕ) : Type 0 where
   pub long : length d ≡ 20
   pub some : 1 ≤ i
   pub room : i ≤ 20
   pub short : m < 10 ^ i
   pub are : decimal n ≡ digits i m ++ drop i d
 
-pub left-start : (n : ℕ) (d : List ℕ) → length d ≡ 20 → n < 18446744073709551616 → Left n d 20 n
+pub left-start : (n : ℕ) (d : List ℕ) → length d ≡ 20 → n < 18446744073709551616 → DigitsLeft n d 20 n
 left-start n d l h =
     record {
       long = l;
@@ -48,7 +48,7 @@ some-more : (j m : ℕ) → 10 ≤ m → m < 10 ^ suc j → 1 ≤ j
 some-more zero m h l = absurd (omega arith)
 some-more (suc j) m h l = omega arith
 
-next : (n : ℕ) (d : List ℕ) (j m x : ℕ) → Left n d (suc j) m → 10 ≤ m → x ≡ 48 + m % 10 → Left n (set d j x) j (m / 10)
+next : (n : ℕ) (d : List ℕ) (j m x : ℕ) → DigitsLeft n d (suc j) m → 10 ≤ m → x ≡ 48 + m % 10 → DigitsLeft n (set d j x) j (m / 10)
 next n d j m x s h e =
     let p = pow-suc 10 j in
     let q = s .short in
@@ -67,7 +67,7 @@ next n d j m x s h e =
           ∙ ap (λ k. digits j (m / 10) ++ k) (sym (drop-stored d j x (omega arith)));
     }
 
-last : (n : ℕ) (d : List ℕ) (j m x : ℕ) → Left n d (suc j) m → m < 10 → x ≡ 48 + m → take (20 - j) (drop j (set d j x)) ≡ decimal n
+last : (n : ℕ) (d : List ℕ) (j m x : ℕ) → DigitsLeft n d (suc j) m → m < 10 → x ≡ 48 + m → take (20 - j) (drop j (set d j x)) ≡ decimal n
 last n d j m x s h e =
     let r = s .room in
     let l = s .long in
@@ -77,14 +77,14 @@ last n d j m x s h e =
     ∙ ap (λ k. k ++ drop (suc j) d) (sym (digits-last j m h))
     ∙ sym (s .are)
 
-at-one : {n : ℕ} {d : List ℕ} {i m : ℕ} → Left n d i m → Left n d (suc (i - 1)) m
-at-one {n} {d} {i} {m} s = let h = s .some in subst (λ k. Left n d k m) (omega arith) s
+at-one : {n : ℕ} {d : List ℕ} {i m : ℕ} → DigitsLeft n d i m → DigitsLeft n d (suc (i - 1)) m
+at-one {n} {d} {i} {m} s = let h = s .some in subst (λ k. DigitsLeft n d k m) (omega arith) s
 
 pub left-next :
-    {n : ℕ} {d : List ℕ} {i m : ℕ} (x : ℕ) → Left n d i m → 10 ≤ m → x ≡ m % 10 % 256 → Left n (set d (i - 1) (48 + x)) (i - 1) (m / 10)
+    {n : ℕ} {d : List ℕ} {i m : ℕ} (x : ℕ) → DigitsLeft n d i m → 10 ≤ m → x ≡ m % 10 % 256 → DigitsLeft n (set d (i - 1) (48 + x)) (i - 1) (m / 10)
 left-next {n} {d} {i} {m} x s h e = next n d (i - 1) m (48 + x) (at-one s) h (omega arith)
 
 pub left-end :
-    {n : ℕ} {d : List ℕ} {i m : ℕ} (x : ℕ) → Left n d i m → m < 10 → x ≡ m % 256
+    {n : ℕ} {d : List ℕ} {i m : ℕ} (x : ℕ) → DigitsLeft n d i m → m < 10 → x ≡ m % 256
     → take (20 - (i - 1)) (drop (i - 1) (set d (i - 1) (48 + x))) ≡ decimal n
 left-end {n} {d} {i} {m} x s h e = last n d (i - 1) m (48 + x) (at-one s) h (omega arith)

@@ -1,9 +1,9 @@
 // Replays tree files and compares what the check answers. Standard input holds the cases, one after the other: the number of the
 // refusal (0: accepted), its row and the file's length, each in four bytes, and the file.
 ghost use Prim.Native.Nat.{_+_, _≤_, _<_};
-use mitex_parser::Checked;
-use mitex_parser::check_tree;
 use text::read_u32;
+use tree_file::Checked;
+use tree_file::check_tree;
 
 // How many cases there were, and how many of them failed.
 pub struct Tally {

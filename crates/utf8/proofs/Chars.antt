@@ -86,20 +86,20 @@ charLen-first (b ∷ s) h =
     record { some = rw (charLen-tails b s) (omega arith); within = charLen-le (b ∷ s); parts = chars-unroll b s }
 
 -- n bytes of the first character are passed: what is left of it continues it from there on
-abbrev pub Passed : List ℕ → ℕ → Type 0
-Passed s n = charLen s ≡ n + tails (drop n s)
+abbrev pub CharPassed : List ℕ → ℕ → Type 0
+CharPassed s n = charLen s ≡ n + tails (drop n s)
 
 pub passed-none : (s : List ℕ) → length s ≡ 0 → 0 ≡ charLen s
 unfolding chars
 passed-none [] h = refl
 passed-none (b ∷ s) h = absurd (omega arith)
 
-pub passed-one : (s : List ℕ) → (length s ≡ 0 → ⊥) → Passed s 1
+pub passed-one : (s : List ℕ) → (length s ≡ 0 → ⊥) → CharPassed s 1
 passed-one [] h = absurd (h refl)
 passed-one (b ∷ s) h = charLen-tails b s ∙ omega arith
 
-module _ (s : List ℕ) (n : ℕ) (p : Passed s n) where
-  pub passed-on : n < length s → continues (getD s n 0) ≡ true → Passed s (n + 1)
+module _ (s : List ℕ) (n : ℕ) (p : CharPassed s n) where
+  pub passed-on : n < length s → continues (getD s n 0) ≡ true → CharPassed s (n + 1)
   unfolding tails
   passed-on h e =
       let here : tails (drop n s) ≡ suc (tails (drop (n + 1) s)) = rw (drop-cons s n 0, e, add-one) in

@@ -5,12 +5,12 @@ use mathlib.Core.List.{List}
 use Prim.Native.Nat.{ℕ, zero, suc}
 use native.Mathlib.Omega.{arith}
 use lib.IntN.{ℤ}
-use Rattle.editing.specs.Edit.{Answer, Result, convertDocument, edit}
-use Rattle.editing.specs.Edit.Answer.{refused, converted, edited}
-use Rattle.editing.specs.Calls.{Gives}
-use Rattle.editing.specs.Numbers.{Fifteen, OfConvert, OfEdit}
-use Rattle.blocks.specs.Manuscript.{manuscript}
-use Rattle.edit.proofs.Answers.{convert-answers, edit-answers}
+use Rattle.edit_meaning.specs.Edit.{Answer, Result, convertDocument, edit}
+use Rattle.edit_meaning.specs.Edit.Answer.{refused, converted, edited}
+use Rattle.edit_meaning.specs.Calls.{Gives}
+use Rattle.edit_meaning.specs.Numbers.{Fifteen, OfConvert, OfEdit}
+use Rattle.manuscript.specs.Manuscript.{manuscript}
+use Rattle.manuscript.proofs.Answers.{convert-answers, edit-answers}
 use Rattle.zaldrume.specs.Answers.{numberOf, placeOf, growthOf, countOf, Tells, convertTold, editTold}
 
 pub tells :

@@ -5,8 +5,8 @@ use mathlib.Core.Path.{_≡_}
 use mathlib.Core.List.{List}
 use Prim.Native.Nat.{ℕ, zero, suc}
 use lib.IntN.{ℤ, pos}
-use Rattle.editing.specs.Edit.{Answer, Result}
-use Rattle.editing.specs.Edit.Answer.{refused, converted, edited}
+use Rattle.edit_meaning.specs.Edit.{Answer, Result}
+use Rattle.edit_meaning.specs.Edit.Answer.{refused, converted, edited}
 
 abbrev pub numberOf : Answer → ℕ
 numberOf (refused number row) = number

@@ -1,11 +1,11 @@
 // Convert and Edit for programs in other languages, on numbers and byte slices: `include/zaldrume.h` says how each passes.
 // The answer is a refusal's number, 0 where there is none, and numbers written through the lent places.
-use edit::Converted;
-use edit::Edited;
-use edit::convert;
-use edit::edit;
-ghost use Rattle.editing.specs.Edit.{convertDocument, edit as editDocument};
-ghost use Rattle.blocks.specs.Manuscript.{manuscript};
+use calls::Converted;
+use calls::Edited;
+use calls::convert;
+use calls::edit;
+ghost use Rattle.edit_meaning.specs.Edit.{convertDocument, edit as editDocument};
+ghost use Rattle.manuscript.specs.Manuscript.{manuscript};
 ghost use Rattle.zaldrume.specs.Answers.{Tells};
 
 // Convert: `place` is the text's length or the refusal's row, `count` the count of blocks.

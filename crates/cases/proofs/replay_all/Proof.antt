@@ -10,23 +10,11 @@ Inv-loop t₀ turns₀ t turns = turns ≤ 100000
 abbrev μ-loop : tie.MeasureT-loop
 μ-loop t₀ turns₀ t turns = 100000 - turns
 
-loop-holds : tie.Need-loop-holds Inv-loop μ-loop
-loop-holds c = omega arith
-
 returns : tie.Need-returns Inv-loop μ-loop
 returns c = tt
 
 replay-next-requires : tie.Need-replay-next-requires Inv-loop μ-loop
 replay-next-requires c κs = tt
-
-add-turns : tie.Need-add-turns Inv-loop μ-loop
-add-turns c = omega arith
-
-loop-less : tie.Need-loop-less Inv-loop μ-loop
-loop-less c = omega arith
-
-loop-again : tie.Need-loop-again Inv-loop μ-loop
-loop-again c = omega arith
 
 returns-2 : tie.Need-returns-2 Inv-loop μ-loop
 returns-2 c = tt
@@ -37,10 +25,10 @@ replay-all-spec =
     (tie.spec
     Inv-loop
     μ-loop
-    loop-holds
+    (λ c. omega arith)
     returns
     replay-next-requires
-    add-turns
-    loop-less
-    loop-again
+    (λ c. omega arith)
+    (λ c. omega arith)
+    (λ c. omega arith)
     returns-2)

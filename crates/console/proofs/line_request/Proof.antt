@@ -9,29 +9,8 @@ use Rattle.console.proofs.line_request.Tie as tie
 returns : tie.Need-returns
 returns c = line-short (c .before .before .args .line .now) (c .if1 .taken)
 
-shared-slice-read-if2 : tie.Need-shared-slice-read-if2
-shared-slice-read-if2 c = search needs
-
 returns-2 : tie.Need-returns-2
 returns-2 c = line-other (c .before .before .before .before .args .line .now) (c .before .before .if1 .left) (c .if2 .taken)
-
-shared-slice-read-mode-by : tie.Need-shared-slice-read-mode-by
-shared-slice-read-mode-by c = search needs
-
-mode-by-requires : tie.Need-mode-by-requires
-mode-by-requires c κs = search needs
-
-sub-numbers : tie.Need-sub-numbers
-sub-numbers c = search needs
-
-part-numbers-start : tie.Need-part-numbers-start
-part-numbers-start c = search needs
-
-part-numbers-end : tie.Need-part-numbers-end
-part-numbers-end c = search needs
-
-numbers-requires : tie.Need-numbers-requires
-numbers-requires c κs = search needs
 
 returns-3 : tie.Need-returns-3
 returns-3 c =
@@ -45,12 +24,12 @@ line-request-spec =
     tie.close
     (tie.spec
     returns
-    shared-slice-read-if2
+    (λ c. search needs)
     returns-2
-    shared-slice-read-mode-by
-    mode-by-requires
-    sub-numbers
-    part-numbers-start
-    part-numbers-end
-    numbers-requires
+    (λ c. search needs)
+    (λ c κs. search needs)
+    (λ c. search needs)
+    (λ c. search needs)
+    (λ c. search needs)
+    (λ c κs. search needs)
     returns-3)

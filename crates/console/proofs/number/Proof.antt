@@ -4,13 +4,13 @@ use Prim.Native.Nat.{_+_, _-_, _≤_}
 use mathlib.Core.Path.{_≡_, sym, ap, _∙_}
 use borrow.Author.Tests.{not-true, not-false}
 use lib.ListN.{length, drop}
-use Rattle.console.specs.Request.{numberFrom, numberOf}
+use Rattle.console.specs.Request.{numberFrom, numberSpelt}
 use Rattle.console.proofs.Digits.{number-empty, number-starts, number-next, number-stops, number-ends}
 use Rattle.console.proofs.number.Statement.{statement}
 use Rattle.console.proofs.number.Tie as tie
 
 abbrev Inv-loop : tie.InvT-loop
-Inv-loop digits n₀ i₀ n i = (i ≤ length digits) × (numberOf digits ≡ numberFrom n (drop i digits))
+Inv-loop digits n₀ i₀ n i = (i ≤ length digits) × (numberSpelt digits ≡ numberFrom n (drop i digits))
 
 abbrev μ-loop : tie.MeasureT-loop
 μ-loop digits n₀ i₀ n i = length digits - i
@@ -20,9 +20,6 @@ returns c = number-empty (c .before .before .args .digits .now) (c .if1 .taken)
 
 loop-holds : tie.Need-loop-holds Inv-loop μ-loop
 loop-holds c = (omega arith, number-starts (c .before .before .args .digits .now) (c .if1 .left))
-
-shared-slice-read-x : tie.Need-shared-slice-read-x Inv-loop μ-loop
-shared-slice-read-x c = omega arith
 
 goes-on-requires : tie.Need-goes-on-requires Inv-loop μ-loop
 goes-on-requires c κs = tt
@@ -34,12 +31,6 @@ returns-2 c =
 
 with-digit-requires : tie.Need-with-digit-requires Inv-loop μ-loop
 with-digit-requires c κs = sym (c .before .goes-on .ensures) ∙ not-false _ (c .if2 .left)
-
-add-i : tie.Need-add-i Inv-loop μ-loop
-add-i c = omega arith
-
-loop-less : tie.Need-loop-less Inv-loop μ-loop
-loop-less c = omega arith
 
 loop-again : tie.Need-loop-again Inv-loop μ-loop
 loop-again c =
@@ -62,11 +53,11 @@ number-spec =
     μ-loop
     returns
     loop-holds
-    shared-slice-read-x
+    (λ c. omega arith)
     goes-on-requires
     returns-2
     with-digit-requires
-    add-i
-    loop-less
+    (λ c. omega arith)
+    (λ c. omega arith)
     loop-again
     returns-3)

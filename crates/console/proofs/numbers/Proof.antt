@@ -7,37 +7,13 @@ use borrow.Author.Needs.{needs}
 use Rattle.console.proofs.numbers.Statement.{statement}
 use Rattle.console.proofs.numbers.Tie as tie
 
-index-of-requires : tie.Need-index-of-requires
-index-of-requires c κs = search needs
-
 returns : tie.Need-returns
 returns c =
     let a = c .before .before .before .args in
     numbers-lack (a .mode) (a .rest .now) (omega (arith, c .before .index-of .ensures, c .if1 .taken))
 
-add-next : tie.Need-add-next
-add-next c = search needs
-
 slice-aggregate-number : tie.Need-slice-aggregate-number
 slice-aggregate-number c = sym (length-take-le _ _ (omega (arith, c .before .if1 .left)))
-
-number-requires : tie.Need-number-requires
-number-requires c κs = search needs
-
-sub-number : tie.Need-sub-number
-sub-number c = search needs
-
-part-number-start : tie.Need-part-number-start
-part-number-start c = search needs
-
-part-number-end : tie.Need-part-number-end
-part-number-end c = search needs
-
-number-requires-2 : tie.Need-number-requires-2
-number-requires-2 c κs = search needs
-
-both-requires : tie.Need-both-requires
-both-requires c κs = search needs
 
 returns-2 : tie.Need-returns-2
 returns-2 c =
@@ -51,14 +27,14 @@ pub numbers-spec : {M : Type 1} → statement M
 numbers-spec =
     tie.close
     (tie.spec
-    index-of-requires
+    (λ c κs. search needs)
     returns
-    add-next
+    (λ c. search needs)
     slice-aggregate-number
-    number-requires
-    sub-number
-    part-number-start
-    part-number-end
-    number-requires-2
-    both-requires
+    (λ c κs. search needs)
+    (λ c. search needs)
+    (λ c. search needs)
+    (λ c. search needs)
+    (λ c κs. search needs)
+    (λ c κs. search needs)
     returns-2)

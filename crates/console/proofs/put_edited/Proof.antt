@@ -12,30 +12,6 @@ use Rattle.console.proofs.Answers.{seven-parts, edited-most, line-writt
 use Rattle.console.proofs.put_edited.Statement.{statement}
 use Rattle.console.proofs.put_edited.Tie as tie
 
-slice-aggregate-put : tie.Need-slice-aggregate-put
-slice-aggregate-put c = search needs
-
-put-requires : tie.Need-put-requires
-put-requires c κs = search needs
-
-put-decimal-requires : tie.Need-put-decimal-requires
-put-decimal-requires c κs = search needs
-
-put-byte-requires : tie.Need-put-byte-requires
-put-byte-requires c κs = search needs
-
-put-difference-requires : tie.Need-put-difference-requires
-put-difference-requires c κs = search needs
-
-put-byte-requires-2 : tie.Need-put-byte-requires-2
-put-byte-requires-2 c κs = search needs
-
-put-decimal-requires-2 : tie.Need-put-decimal-requires-2
-put-decimal-requires-2 c κs = search needs
-
-put-byte-requires-3 : tie.Need-put-byte-requires-3
-put-byte-requires-3 c κs = search needs
-
 returns : tie.Need-returns
 returns c =
     let count = c .before .before in
@@ -60,12 +36,12 @@ pub put-edited-spec : {M : Type 1} → statement M
 put-edited-spec =
     tie.close
     (tie.spec
-    slice-aggregate-put
-    put-requires
-    put-decimal-requires
-    put-byte-requires
-    put-difference-requires
-    put-byte-requires-2
-    put-decimal-requires-2
-    put-byte-requires-3
+    (λ c. search needs)
+    (λ c κs. search needs)
+    (λ c κs. search needs)
+    (λ c κs. search needs)
+    (λ c κs. search needs)
+    (λ c κs. search needs)
+    (λ c κs. search needs)
+    (λ c κs. search needs)
     returns)

@@ -7,14 +7,8 @@ use borrow.Author.Needs.{needs}
 use Rattle.console.proofs.request_in.Statement.{statement}
 use Rattle.console.proofs.request_in.Tie as tie
 
-index-of-requires : tie.Need-index-of-requires
-index-of-requires c κs = search needs
-
 returns : tie.Need-returns
 returns c = let e = c .before .index-of .ensures in request-long _ (omega (arith, e, c .if1 .taken))
-
-line-request-requires : tie.Need-line-request-requires
-line-request-requires c κs = search needs
 
 returns-2 : tie.Need-returns-2
 returns-2 c =
@@ -24,9 +18,6 @@ returns-2 c =
 
 slice-aggregate-line-request : tie.Need-slice-aggregate-line-request
 slice-aggregate-line-request c = sym (length-take-le _ _ (omega (arith, c .before .if2 .left)))
-
-line-request-requires-2 : tie.Need-line-request-requires-2
-line-request-requires-2 c κs = search needs
 
 returns-3 : tie.Need-returns-3
 returns-3 c =
@@ -38,10 +29,10 @@ pub request-in-spec : {M : Type 1} → statement M
 request-in-spec =
     tie.close
     (tie.spec
-    index-of-requires
+    (λ c κs. search needs)
     returns
-    line-request-requires
+    (λ c κs. search needs)
     returns-2
     slice-aggregate-line-request
-    line-request-requires-2
+    (λ c κs. search needs)
     returns-3)

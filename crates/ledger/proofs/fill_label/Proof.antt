@@ -1,7 +1,7 @@
 -- The label's bytes are written first, then zeros as far as the part goes (`label-filled`).
 use mathlib.Core.Path.{_≡_, sym, _∙_}
 use lib.ListN.{length, take, length-map}
-use Rattle.mitex_state.specs.Outcome.{labelMost}
+use Rattle.mitex_meaning.specs.Outcome.{labelMost}
 use lib.Seq.{length-take-le}
 use native.Mathlib.Omega.{arith}
 use Rattle.ledger.proofs.Writing.{label-filled}
@@ -19,24 +19,6 @@ array-share-prefix-label c = omega (arith, label-long (c .before .before .before
 slice-aggregate-put : tie.Need-slice-aggregate-put
 slice-aggregate-put c = sym (length-take-le _ _ (omega (arith, label-long (c .before .before .before .before))))
 
-put-requires : tie.Need-put-requires
-put-requires c κs = search needs
-
-sub-clear : tie.Need-sub-clear
-sub-clear c = search needs
-
-part-clear-start : tie.Need-part-clear-start
-part-clear-start c = search needs
-
-part-clear-end : tie.Need-part-clear-end
-part-clear-end c = search needs
-
-clear-requires : tie.Need-clear-requires
-clear-requires c κs = search needs
-
-same-length : tie.Need-same-length
-same-length c = search needs
-
 returns : tie.Need-returns
 returns c =
     let c₁ = c .before .before in
@@ -50,10 +32,10 @@ fill-label-spec =
     (tie.spec
     array-share-prefix-label
     slice-aggregate-put
-    put-requires
-    sub-clear
-    part-clear-start
-    part-clear-end
-    clear-requires
-    same-length
+    (λ c κs. search needs)
+    (λ c. search needs)
+    (λ c. search needs)
+    (λ c. search needs)
+    (λ c κs. search needs)
+    (λ c. search needs)
     returns)

@@ -1,7 +1,7 @@
 -- The parts one after the other are the whole row (`row-filled`).
 use mathlib.Core.Path.{_≡_, sym, _∙_}
 use lib.ListN.{length, length-map}
-use Rattle.mitex_state.specs.Outcome.{labelMost}
+use Rattle.mitex_meaning.specs.Outcome.{labelMost}
 use Rattle.ledger.proofs.Writing.{row-filled}
 use borrow.Author.Needs.{needs}
 use Rattle.ledger.proofs.fill_row.Statement.{statement}
@@ -10,30 +10,6 @@ use Rattle.ledger.proofs.fill_row.Tie as tie
 -- the array has its length
 label-long : (c : tie.Start) → length (c .args .converter .label) ≡ labelMost
 label-long c = sym (length-map (c .args .converter .label) (λ v. v)) ∙ c .good .1 .1 .0 .1 .1 .1 .1 .1 .0 .1 .0 .1
-
-held-len-requires : tie.Need-held-len-requires
-held-len-requires c κs = search needs
-
-write-u32-requires : tie.Need-write-u32-requires
-write-u32-requires c κs = search needs
-
-write-marks-requires : tie.Need-write-marks-requires
-write-marks-requires c κs = search needs
-
-sub-fill-label : tie.Need-sub-fill-label
-sub-fill-label c = search needs
-
-part-fill-label-start : tie.Need-part-fill-label-start
-part-fill-label-start c = search needs
-
-part-fill-label-end : tie.Need-part-fill-label-end
-part-fill-label-end c = search needs
-
-fill-label-requires : tie.Need-fill-label-requires
-fill-label-requires c κs = search needs
-
-same-length : tie.Need-same-length
-same-length c = search needs
 
 returns : tie.Need-returns
 returns c =
@@ -48,12 +24,12 @@ pub fill-row-spec : {M : Type 1} → statement M
 fill-row-spec =
     tie.close
     (tie.spec
-    held-len-requires
-    write-u32-requires
-    write-marks-requires
-    sub-fill-label
-    part-fill-label-start
-    part-fill-label-end
-    fill-label-requires
-    same-length
+    (λ c κs. search needs)
+    (λ c κs. search needs)
+    (λ c κs. search needs)
+    (λ c. search needs)
+    (λ c. search needs)
+    (λ c. search needs)
+    (λ c κs. search needs)
+    (λ c. search needs)
     returns)

@@ -4,7 +4,7 @@ use lib.ListN.{length, length-map}
 use lib.Seq.{length-take-le}
 use native.Mathlib.Omega.{arith}
 use borrow.Author.Needs.{needs}
-use Rattle.mitex_state.specs.Outcome.{labelMost}
+use Rattle.mitex_meaning.specs.Outcome.{labelMost}
 use Rattle.ledger.proofs.label_is.Statement.{statement}
 use Rattle.ledger.proofs.label_is.Tie as tie
 

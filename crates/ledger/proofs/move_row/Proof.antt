@@ -6,24 +6,6 @@ use borrow.Author.Needs.{needs}
 use Rattle.ledger.proofs.move_row.Statement.{statement}
 use Rattle.ledger.proofs.move_row.Tie as tie
 
-row-end-requires : tie.Need-row-end-requires
-row-end-requires c κs = search needs
-
-mul-write-u32 : tie.Need-mul-write-u32
-mul-write-u32 c = search needs
-
-sub-write-u32 : tie.Need-sub-write-u32
-sub-write-u32 c = search needs
-
-add-write-u32 : tie.Need-add-write-u32
-add-write-u32 c = search needs
-
-write-u32-requires : tie.Need-write-u32-requires
-write-u32-requires c κs = search needs
-
-same-length : tie.Need-same-length
-same-length c = search needs
-
 returns : tie.Need-returns
 returns c =
     let c₁ = c .before .before in
@@ -35,10 +17,10 @@ pub move-row-spec : {M : Type 1} → statement M
 move-row-spec =
     tie.close
     (tie.spec
-    row-end-requires
-    mul-write-u32
-    sub-write-u32
-    add-write-u32
-    write-u32-requires
-    same-length
+    (λ c κs. search needs)
+    (λ c. search needs)
+    (λ c. search needs)
+    (λ c. search needs)
+    (λ c κs. search needs)
+    (λ c. search needs)
     returns)

@@ -1,12 +1,12 @@
--- The invariant `Moved`: the rows passed are moved, the others are as they were. The measure is the rows left.
+-- The invariant `RowsMoved`: the rows passed are moved, the others are as they were. The measure is the rows left.
 use native.Mathlib.Omega.{arith}
 use Prim.Native.Nat.{_-_, _≤_}
-use Rattle.ledger.proofs.Moving.{Moved, moved-none, moved-same, moved-movable, moved-more, moved-all}
+use Rattle.ledger.proofs.Moving.{RowsMoved, moved-none, moved-same, moved-movable, moved-more, moved-all}
 use Rattle.ledger.proofs.move_rows.Statement.{statement}
 use Rattle.ledger.proofs.move_rows.Tie as tie
 
 abbrev Inv-loop : tie.InvT-loop
-Inv-loop ledger₀ from to old new i₀ ledger i = (i ≤ to) × Moved from old new ledger₀ ledger i
+Inv-loop ledger₀ from to old new i₀ ledger i = (i ≤ to) × RowsMoved from old new ledger₀ ledger i
 
 abbrev μ-loop : tie.MeasureT-loop
 μ-loop ledger₀ from to old new i₀ ledger i = to - i
@@ -16,12 +16,6 @@ loop-holds c = (c .before .pre .0, moved-none _ _ _ _ (omega arith))
 
 move-row-requires : tie.Need-move-row-requires Inv-loop μ-loop
 move-row-requires c κs = (omega (arith, moved-same (c .before .before .loop .inv .1), c .before .before .before .before .pre .1), moved-movable (c .before .before .loop .inv .1) (c .before .before .before .before .pre .2 (c .before .before .loop .i) (c .before .before .loop .inv .1 .above) (c .before .loop-test .taken)))
-
-add-i : tie.Need-add-i Inv-loop μ-loop
-add-i c = omega arith
-
-loop-less : tie.Need-loop-less Inv-loop μ-loop
-loop-less c = omega arith
 
 loop-again : tie.Need-loop-again Inv-loop μ-loop
 loop-again c =
@@ -44,8 +38,8 @@ move-rows-spec =
     μ-loop
     loop-holds
     move-row-requires
-    add-i
-    loop-less
+    (λ c. omega arith)
+    (λ c. omega arith)
     loop-again
     same-length
     returns)

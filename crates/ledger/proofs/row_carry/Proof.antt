@@ -8,26 +8,11 @@ use borrow.Author.Needs.{needs}
 use Rattle.ledger.proofs.row_carry.Statement.{statement}
 use Rattle.ledger.proofs.row_carry.Tie as tie
 
-row-flag-requires : tie.Need-row-flag-requires
-row-flag-requires c κs = search needs
-
-with-flag-requires : tie.Need-with-flag-requires
-with-flag-requires c κs = search needs
-
-row-held-requires : tie.Need-row-held-requires
-row-held-requires c κs = search needs
-
-row-label-requires : tie.Need-row-label-requires
-row-label-requires c κs = search needs
-
 with-label-requires : tie.Need-with-label-requires
 with-label-requires c κs =
     let c₁ = c .before .before .before .before .before in
     let c₂ = c₁ .before in
     omega (arith, ap length (c .row-label .ensures), rowAt-short (c₂ .args .i) (c₂ .args .ledger .now) (c₂ .pre .1))
-
-without-label-requires : tie.Need-without-label-requires
-without-label-requires c κs = search needs
 
 returns : tie.Need-returns
 returns c = carried-held _ (c .before .before .before .before .before .row-flag .ensures) (sym (c .before .before .before .row-held .ensures) ∙ c .before .before .if1 .taken) (c .before .row-label .ensures) (c .before .before .before .before .with-flag .ensures) (c .with-label .ensures)
@@ -39,11 +24,11 @@ pub row-carry-spec : {M : Type 1} → statement M
 row-carry-spec =
     tie.close
     (tie.spec
-    row-flag-requires
-    with-flag-requires
-    row-held-requires
-    row-label-requires
+    (λ c κs. search needs)
+    (λ c κs. search needs)
+    (λ c κs. search needs)
+    (λ c κs. search needs)
     with-label-requires
-    without-label-requires
+    (λ c κs. search needs)
     returns
     returns-2)

@@ -2,54 +2,12 @@
 use borrow.Author.Tests.{not-true, not-false}
 use native.Mathlib.Omega.{arith}
 use Prim.Native.Nat.{_≤_}
-use Rattle.mitex_state.specs.Outcome.{labelMost}
+use Rattle.mitex_meaning.specs.Outcome.{labelMost}
 use mathlib.Core.Path.{sym, _∙_}
 use Rattle.ledger.proofs.Reading.{rowFits-not, rowFits-zeros, marks-short}
 use borrow.Author.Needs.{needs}
 use Rattle.ledger.proofs.row_fits.Statement.{statement}
 use Rattle.ledger.proofs.row_fits.Tie as tie
-
-mul-at : tie.Need-mul-at
-mul-at c = search needs
-
-add-wide : tie.Need-add-wide
-add-wide c = search needs
-
-shared-slice-read-wide : tie.Need-shared-slice-read-wide
-shared-slice-read-wide c = search needs
-
-wide-requires : tie.Need-wide-requires
-wide-requires c κs = search needs
-
-add-wide-2 : tie.Need-add-wide-2
-add-wide-2 c = search needs
-
-shared-slice-read-wide-2 : tie.Need-shared-slice-read-wide-2
-shared-slice-read-wide-2 c = search needs
-
-wide-requires-2 : tie.Need-wide-requires-2
-wide-requires-2 c κs = search needs
-
-add-wide-3 : tie.Need-add-wide-3
-add-wide-3 c = search needs
-
-shared-slice-read-wide-3 : tie.Need-shared-slice-read-wide-3
-shared-slice-read-wide-3 c = search needs
-
-wide-requires-3 : tie.Need-wide-requires-3
-wide-requires-3 c κs = search needs
-
-add-wide-4 : tie.Need-add-wide-4
-add-wide-4 c = search needs
-
-shared-slice-read-wide-4 : tie.Need-shared-slice-read-wide-4
-shared-slice-read-wide-4 c = search needs
-
-wide-requires-4 : tie.Need-wide-requires-4
-wide-requires-4 c κs = search needs
-
-marks-fit-requires : tie.Need-marks-fit-requires
-marks-fit-requires c κs = search needs
 
 returns : tie.Need-returns
 returns c =
@@ -60,15 +18,6 @@ returns c =
     let c₅ = c₄ .before .before in
     let c₆ = c₅ .before .before .before in
     rowFits-not _ (c₆ .args .ledger .now) (c₅ .wide .ensures .0) (c₄ .wide2 .ensures .0) (c₃ .wide3 .ensures .0) (c₂ .wide4 .ensures .0) (sym (c₁ .marks-fit .ensures) ∙ not-true _ (c .if1 .taken))
-
-add-from : tie.Need-add-from
-add-from c = search needs
-
-add-from-2 : tie.Need-add-from-2
-add-from-2 c = search needs
-
-add-to : tie.Need-add-to
-add-to c = search needs
 
 -- the label lies in the row
 short : (c : tie.Else1) → c .before .before .before .before .wide3 .result ≤ labelMost
@@ -87,12 +36,6 @@ sub-all-zero c = omega (arith, short c)
 part-all-zero-start : tie.Need-part-all-zero-start
 part-all-zero-start c = omega (arith, short c)
 
-part-all-zero-end : tie.Need-part-all-zero-end
-part-all-zero-end c = search needs
-
-all-zero-requires : tie.Need-all-zero-requires
-all-zero-requires c κs = search needs
-
 returns-2 : tie.Need-returns-2
 returns-2 c =
     let c₁ = c .before .before in
@@ -108,26 +51,26 @@ pub row-fits-spec : {M : Type 1} → statement M
 row-fits-spec =
     tie.close
     (tie.spec
-    mul-at
-    add-wide
-    shared-slice-read-wide
-    wide-requires
-    add-wide-2
-    shared-slice-read-wide-2
-    wide-requires-2
-    add-wide-3
-    shared-slice-read-wide-3
-    wide-requires-3
-    add-wide-4
-    shared-slice-read-wide-4
-    wide-requires-4
-    marks-fit-requires
+    (λ c. search needs)
+    (λ c. search needs)
+    (λ c. search needs)
+    (λ c κs. search needs)
+    (λ c. search needs)
+    (λ c. search needs)
+    (λ c κs. search needs)
+    (λ c. search needs)
+    (λ c. search needs)
+    (λ c κs. search needs)
+    (λ c. search needs)
+    (λ c. search needs)
+    (λ c κs. search needs)
+    (λ c κs. search needs)
     returns
-    add-from
-    add-from-2
-    add-to
+    (λ c. search needs)
+    (λ c. search needs)
+    (λ c. search needs)
     sub-all-zero
     part-all-zero-start
-    part-all-zero-end
-    all-zero-requires
+    (λ c. search needs)
+    (λ c κs. search needs)
     returns-2)

@@ -5,18 +5,12 @@ use native.Mathlib.Omega.{arith}
 use borrow.Author.Needs.{needs}
 use Rattle.mitex_syntax.specs.Syntax.{ClauseArgument}
 use Rattle.mitex_syntax.specs.Views.{isOf}
-use Rattle.mitex_state.specs.Colors.{rest, seek, pastFirst, isModel}
-use Rattle.mitex_colors.specs.Scanning.{Passed}
+use Rattle.mitex_meaning.specs.Colors.{rest, seek, pastFirst, isModel}
+use Rattle.mitex_colors.specs.Scanning.{FirstPassed}
 use Rattle.mitex_colors.proofs.Scans.{some-left, exact-left, left-some, left-none}
 use Rattle.mitex_colors.proofs.Models.{arguments, bare-by, bare-end, bare-found, model-wide, argument-found}
 use Rattle.mitex_colors.proofs.argument_model.Statement.{statement}
 use Rattle.mitex_colors.proofs.argument_model.Tie as tie
-
-seek-requires : tie.Need-seek-requires
-seek-requires c κs = search needs
-
-model-part-requires : tie.Need-model-part-requires
-model-part-requires c κs = search needs
 
 returns : tie.Need-returns
 returns c =
@@ -37,7 +31,7 @@ start c = c .before .before .before .before .before
 -- past the first argument
 abbrev next :
     (c : tie.After-past-first)
-    → Passed (start c .args .rows .now) (start c .args .text .now) (start c .pre .begins .rest) (c .before .before .seek .result .row)
+    → FirstPassed (start c .args .rows .now) (start c .args .text .now) (start c .pre .begins .rest) (c .before .before .seek .result .row)
     (c .before .before .seek .result .text) (seek (isOf ClauseArgument) (rest 1 (start c .pre .forest))) (c .past-first .result)
 next c = c .past-first .ensures _ (seek (isOf ClauseArgument) (rest 1 (start c .pre .forest))) (c .before .before .seek .ensures _ (rest 1 (start c .pre .forest)) (some-left (start c .pre)) .moved .there)
 
@@ -49,9 +43,6 @@ part-is-model-start c = let h = next c .moved .onward in omega arith
 
 part-is-model-end : tie.Need-part-is-model-end
 part-is-model-end c = let h = next c .moved .there .begun in omega arith
-
-is-model-requires : tie.Need-is-model-requires
-is-model-requires c κs = search needs
 
 seek-requires-2 : tie.Need-seek-requires-2
 seek-requires-2 c κs =
@@ -74,9 +65,6 @@ sub-model-part c =
     (sym (told .is-model .ensures) ∙ c .before .if2 .taken) in
     omega arith
 
-model-part-requires-2 : tie.Need-model-part-requires-2
-model-part-requires-2 c κs = search needs
-
 returns-2 : tie.Need-returns-2
 returns-2 c =
     let found = c .before in
@@ -88,9 +76,6 @@ returns-2 c =
     let b = past .past-first .ensures [] (seek (isOf ClauseArgument) (rest 1 f)) (a .moved .there) in
     argument-found a b (found .seek2 .ensures [] (pastFirst (seek (isOf ClauseArgument) (rest 1 f))) (b .moved .there)) (past .before .if1 .left)
     (sym (told .is-model .ensures) ∙ found .before .if2 .taken) (omega arith) (c .model-part2 .ensures)
-
-model-part-requires-3 : tie.Need-model-part-requires-3
-model-part-requires-3 c κs = search needs
 
 returns-3 : tie.Need-returns-3
 returns-3 c =
@@ -108,18 +93,18 @@ pub argument-model-spec : {M : Type 1} → statement M
 argument-model-spec =
     tie.close
     (tie.spec
-    seek-requires
-    model-part-requires
+    (λ c κs. search needs)
+    (λ c κs. search needs)
     returns
     past-first-requires
     sub-is-model
     part-is-model-start
     part-is-model-end
-    is-model-requires
+    (λ c κs. search needs)
     seek-requires-2
     add-model-part
     sub-model-part
-    model-part-requires-2
+    (λ c κs. search needs)
     returns-2
-    model-part-requires-3
+    (λ c κs. search needs)
     returns-3)

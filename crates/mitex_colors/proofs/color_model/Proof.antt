@@ -5,7 +5,7 @@ use lib.Seq.{length-take-le}
 use borrow.Author.Needs.{needs}
 use Rattle.mitex_syntax.specs.Syntax.{ClauseArgument}
 use Rattle.mitex_syntax.specs.Views.{isOf}
-use Rattle.mitex_syntax.specs.Places.{Stands}
+use Rattle.mitex_syntax.specs.Places.{FirstAt}
 use Rattle.mitex_syntax.proofs.Trees.{all-begins}
 use Rattle.mitex_syntax.proofs.Places.{stands, nowhere}
 use Rattle.mitex_colors.proofs.Standing.{node-there, children-left, children-ask}
@@ -13,25 +13,13 @@ use Rattle.mitex_colors.proofs.Models.{argument-rest, color-missing, co
 use Rattle.mitex_colors.proofs.color_model.Statement.{statement}
 use Rattle.mitex_colors.proofs.color_model.Tie as tie
 
-find-kind-requires : tie.Need-find-kind-requires
-find-kind-requires c κs = search needs
-
-enum-told : tie.Need-enum-told
-enum-told c = search needs
-
-model-part-requires : tie.Need-model-part-requires
-model-part-requires c κs = search needs
-
-enum-known-found : tie.Need-enum-known-found
-enum-known-found c = search needs
-
 abbrev start : tie.After-found → tie.Start
 start c = c .before .before .before .before .before
 
 -- the argument that was found
 abbrev there :
     (c : tie.After-found)
-    → Stands (isOf ClauseArgument) (start c .pre .forest) (start c .args .rows .now) (start c .args .text .now) 0 (c .found .given .0 .0)
+    → FirstAt (isOf ClauseArgument) (start c .pre .forest) (start c .args .rows .now) (start c .args .text .now) 0 (c .found .given .0 .0)
     (c .found .given .0 .1 .0) (c .found .given .0 .1 .1 .0) (c .found .given .0 .1 .1 .1 .0)
 there c = stands (c .before .before .find-kind .ensures (start c .pre .forest) (start c .pre .begins)) (c .found .given .1)
 
@@ -65,10 +53,10 @@ pub color-model-spec : {M : Type 1} → statement M
 color-model-spec =
     tie.close
     (tie.spec
-    find-kind-requires
-    enum-told
-    model-part-requires
-    enum-known-found
+    (λ c κs. search needs)
+    (λ c. search needs)
+    (λ c κs. search needs)
+    (λ c. search needs)
     slice-aggregate-greedy-model
     slice-aggregate-greedy-model-2
     add-t16

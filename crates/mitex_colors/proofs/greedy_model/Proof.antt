@@ -5,17 +5,11 @@ use borrow.Author.Needs.{needs}
 use borrow.Author.Tests.{ne-eqb}
 use Rattle.mitex_syntax.specs.Syntax.{TokenRBracket}
 use Rattle.mitex_syntax.specs.Views.{isOf, isSolid}
-use Rattle.mitex_state.specs.Colors.{Rest, rest, seek, pastFirst}
+use Rattle.mitex_meaning.specs.Colors.{Rest, rest, seek, pastFirst}
 use Rattle.mitex_colors.proofs.Scans.{some-left, left-some, left-none, left-kind}
 use Rattle.mitex_colors.proofs.Models.{brackets, bare-by, bare-end, bare-found, held-found}
 use Rattle.mitex_colors.proofs.greedy_model.Statement.{statement}
 use Rattle.mitex_colors.proofs.greedy_model.Tie as tie
-
-seek-requires : tie.Need-seek-requires
-seek-requires c κs = search needs
-
-model-part-requires : tie.Need-model-part-requires
-model-part-requires c κs = search needs
 
 returns : tie.Need-returns
 returns c =
@@ -23,12 +17,6 @@ returns c =
     λ s l o.
     let a = first .seek .ensures [] s l in
     bare-found a (bare-end brackets (seek isSolid s) (left-none (a .moved .there) (c .before .if1 .taken))) o (c .model-part .ensures)
-
-shared-slice-read-if2 : tie.Need-shared-slice-read-if2
-shared-slice-read-if2 c = search needs
-
-model-part-requires-2 : tie.Need-model-part-requires-2
-model-part-requires-2 c κs = search needs
 
 returns-2 : tie.Need-returns-2
 returns-2 c =
@@ -78,9 +66,6 @@ seek-requires-3 c κs =
     let d = end .seek2 .ensures _ (pastFirst (seek isSolid s)) (b .moved .there) in
     left-some (c .past-first2 .ensures _ (bracketEnd s) (d .moved .there) .moved .there) (pre .few) (pre .short)
 
-model-part-requires-3 : tie.Need-model-part-requires-3
-model-part-requires-3 c κs = search needs
-
 returns-3 : tie.Need-returns-3
 returns-3 c =
     let behind = c .before in
@@ -100,15 +85,15 @@ pub greedy-model-spec : {M : Type 1} → statement M
 greedy-model-spec =
     tie.close
     (tie.spec
-    seek-requires
-    model-part-requires
+    (λ c κs. search needs)
+    (λ c κs. search needs)
     returns
-    shared-slice-read-if2
-    model-part-requires-2
+    (λ c. search needs)
+    (λ c κs. search needs)
     returns-2
     past-first-requires
     seek-requires-2
     past-first-requires-2
     seek-requires-3
-    model-part-requires-3
+    (λ c κs. search needs)
     returns-3)

@@ -1,22 +1,13 @@
 -- `greedy_node`: the first child that is no command name is a node or it is not (`greedy-node`, `greedy-token`, `greedy-missing`).
 use native.Mathlib.Omega.{arith}
 use borrow.Author.Needs.{needs}
-use Rattle.mitex_syntax.specs.Places.{Stands}
+use Rattle.mitex_syntax.specs.Places.{FirstAt}
 use Rattle.mitex_syntax.proofs.Trees.{all-begins}
 use Rattle.mitex_syntax.proofs.Places.{stands, nowhere}
-use Rattle.mitex_state.specs.Commands.{isArgument}
+use Rattle.mitex_meaning.specs.Commands.{isArgument}
 use Rattle.mitex_colors.proofs.Standing.{greedy-missing, greedy-token, greedy-node}
 use Rattle.mitex_colors.proofs.greedy_node.Statement.{statement}
 use Rattle.mitex_colors.proofs.greedy_node.Tie as tie
-
-find-requires : tie.Need-find-requires
-find-requires c κs = search needs
-
-enum-told : tie.Need-enum-told
-enum-told c = search needs
-
-enum-known-found : tie.Need-enum-known-found
-enum-known-found c = search needs
 
 abbrev start : tie.After-found → tie.Start
 start c = c .before .before .before .before .before
@@ -24,7 +15,7 @@ start c = c .before .before .before .before .before
 -- the element that was found
 abbrev there :
     (c : tie.After-found)
-    → Stands isArgument (start c .pre .forest) (start c .args .rows .now) (start c .args .text .now) 0 (c .found .given .0 .0) (c .found .given .0 .1 .0)
+    → FirstAt isArgument (start c .pre .forest) (start c .args .rows .now) (start c .args .text .now) 0 (c .found .given .0 .0) (c .found .given .0 .1 .0)
     (c .found .given .0 .1 .1 .0) (c .found .given .0 .1 .1 .1 .0)
 there c = stands (c .before .before .find .ensures (start c .pre .forest) (start c .pre .begins)) (c .found .given .1)
 
@@ -54,9 +45,9 @@ pub greedy-node-spec : {M : Type 1} → statement M
 greedy-node-spec =
     tie.close
     (tie.spec
-    find-requires
-    enum-told
-    enum-known-found
+    (λ c κs. search needs)
+    (λ c. search needs)
+    (λ c. search needs)
     add-if1
     shared-slice-read-if1
     returns

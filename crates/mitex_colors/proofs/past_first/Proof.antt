@@ -1,8 +1,8 @@
 -- `past_first`: the element at the cursor, if there is one, has the rows and the text that its rows say (`passed`).
 use Prim.Native.Nat.{_+_}
 use native.Mathlib.Omega.{arith}
-use Rattle.mitex_state.specs.Colors.{rest}
-use Rattle.mitex_colors.specs.Scanning.{Passed}
+use Rattle.mitex_meaning.specs.Colors.{rest}
+use Rattle.mitex_colors.specs.Scanning.{FirstPassed}
 use Rattle.mitex_colors.proofs.Scans.{some-left, passed-none, passed-spans, passed}
 use Rattle.mitex_colors.proofs.past_first.Statement.{statement}
 use Rattle.mitex_colors.proofs.past_first.Tie as tie
@@ -13,7 +13,7 @@ start c = c .before .before .before
 -- the step that is taken
 abbrev step :
     (c : tie.After-span-at)
-    → Passed (start (c .before) .args .rows .now) (start (c .before) .args .text .now) (start (c .before) .pre .begins .rest)
+    → FirstPassed (start (c .before) .args .rows .now) (start (c .before) .args .text .now) (start (c .before) .pre .begins .rest)
     (start (c .before) .args .at .row) (start (c .before) .args .at .text) (rest 0 (start (c .before) .pre .forest))
     (record {
       row = start (c .before) .args .at .row + c .span-at .result .rows;

@@ -5,42 +5,15 @@ use borrow.Author.Needs.{needs}
 use borrow.Author.Tests.{not-true, not-false}
 use Rattle.text.specs.Writing.{cap}
 use Rattle.text.proofs.Writing.{wrote-as, wrote-long, wrote-then}
-use Rattle.mitex_state.specs.Parts.{modelText}
+use Rattle.mitex_meaning.specs.Parts.{modelText}
 use Rattle.mitex_colors.proofs.put_model.Statement.{statement}
 use Rattle.mitex_colors.proofs.put_model.Tie as tie
-
-slice-aggregate-put : tie.Need-slice-aggregate-put
-slice-aggregate-put c = search needs
-
-put-requires : tie.Need-put-requires
-put-requires c κs = search needs
-
-same-length : tie.Need-same-length
-same-length c = search needs
 
 returns : tie.Need-returns
 returns c =
     let test = c .before .before .before .before .before in
     let args = test .before .before .before .args in
     wrote-as (ap (λ b. modelText b (args .s .now)) (sym (not-true (args .held) (test .if1 .taken)))) (c .before .before .put .ensures)
-
-slice-aggregate-put-2 : tie.Need-slice-aggregate-put-2
-slice-aggregate-put-2 c = search needs
-
-put-requires-2 : tie.Need-put-requires-2
-put-requires-2 c κs = search needs
-
-put-requires-3 : tie.Need-put-requires-3
-put-requires-3 c κs = search needs
-
-slice-aggregate-put-3 : tie.Need-slice-aggregate-put-3
-slice-aggregate-put-3 c = search needs
-
-put-requires-4 : tie.Need-put-requires-4
-put-requires-4 c κs = search needs
-
-same-length-2 : tie.Need-same-length-2
-same-length-2 c = search needs
 
 returns-2 : tie.Need-returns-2
 returns-2 c =
@@ -57,14 +30,14 @@ pub put-model-spec : {M : Type 1} → statement M
 put-model-spec =
     tie.close
     (tie.spec
-    slice-aggregate-put
-    put-requires
-    same-length
+    (λ c. search needs)
+    (λ c κs. search needs)
+    (λ c. search needs)
     returns
-    slice-aggregate-put-2
-    put-requires-2
-    put-requires-3
-    slice-aggregate-put-3
-    put-requires-4
-    same-length-2
+    (λ c. search needs)
+    (λ c κs. search needs)
+    (λ c κs. search needs)
+    (λ c. search needs)
+    (λ c κs. search needs)
+    (λ c. search needs)
     returns-2)

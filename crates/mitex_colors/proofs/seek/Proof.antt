@@ -4,14 +4,14 @@ use Prim.Native.Nat.{ℕ, _-_}
 use native.Mathlib.Omega.{arith}
 use lib.ListN.{length}
 use borrow.Author.Needs.{needs}
-use Rattle.mitex_state.specs.Colors.{Rest, rest}
-use Rattle.mitex_colors.specs.Scanning.{Left, picks}
+use Rattle.mitex_meaning.specs.Colors.{Rest, rest}
+use Rattle.mitex_colors.specs.Scanning.{ElementsLeft, picks}
 use Rattle.mitex_colors.proofs.Scans.{Scans, some-left, left-some, passed-far, scan-start, scan-end, scan-found, scan-again}
 use Rattle.mitex_colors.proofs.seek.Statement.{statement}
 use Rattle.mitex_colors.proofs.seek.Tie as tie
 
 abbrev Inv-loop : tie.InvT-loop
-Inv-loop rows text stop i₀ j₀ i j = (tail : List ℕ) (s : Rest) → Left rows text tail i₀ j₀ (s .elements) → Scans (picks stop) rows text tail i₀ j₀ s i j
+Inv-loop rows text stop i₀ j₀ i j = (tail : List ℕ) (s : Rest) → ElementsLeft rows text tail i₀ j₀ (s .elements) → Scans (picks stop) rows text tail i₀ j₀ s i j
 
 abbrev μ-loop : tie.MeasureT-loop
 μ-loop rows text stop i₀ j₀ i j = length rows - i
@@ -28,12 +28,6 @@ here c = c .before .loop .inv _ (rest 0 (start c .pre .forest)) (some-left (star
 
 loop-holds : tie.Need-loop-holds Inv-loop μ-loop
 loop-holds c = λ tail s l. scan-start _ s l
-
-shared-slice-read-stops : tie.Need-shared-slice-read-stops Inv-loop μ-loop
-shared-slice-read-stops c = search needs
-
-stops-requires : tie.Need-stops-requires Inv-loop μ-loop
-stops-requires c κs = search needs
 
 returns : tie.Need-returns Inv-loop μ-loop
 returns c =
@@ -71,8 +65,8 @@ seek-spec =
     Inv-loop
     μ-loop
     loop-holds
-    shared-slice-read-stops
-    stops-requires
+    (λ c. search needs)
+    (λ c κs. search needs)
     returns
     past-first-requires
     loop-less

@@ -5,20 +5,8 @@ use borrow.Author.Needs.{needs}
 use Rattle.mitex_commands.proofs.command_of.Statement.{statement}
 use Rattle.mitex_commands.proofs.command_of.Tie as tie
 
-slice-aggregate-same : tie.Need-slice-aggregate-same
-slice-aggregate-same c = search needs
-
-same-requires : tie.Need-same-requires
-same-requires c κs = search needs
-
 returns : tie.Need-returns
 returns c = rw (sym (c .before .same .ensures) ∙ c .if1 .taken)
-
-slice-aggregate-same-2 : tie.Need-slice-aggregate-same-2
-slice-aggregate-same-2 c = search needs
-
-same-requires-2 : tie.Need-same-requires-2
-same-requires-2 c κs = search needs
 
 returns-2 : tie.Need-returns-2
 returns-2 c =
@@ -26,12 +14,6 @@ returns-2 c =
     let c₂ = c₁ .before .before in
     let c₃ = c₂ .before in
     rw (sym (c₃ .same .ensures) ∙ c₂ .if1 .left, sym (c₁ .same2 .ensures) ∙ c .if2 .taken)
-
-slice-aggregate-same-3 : tie.Need-slice-aggregate-same-3
-slice-aggregate-same-3 c = search needs
-
-same-requires-3 : tie.Need-same-requires-3
-same-requires-3 c κs = search needs
 
 returns-3 : tie.Need-returns-3
 returns-3 c =
@@ -41,12 +23,6 @@ returns-3 c =
     let c₄ = c₃ .before .before in
     let c₅ = c₄ .before in
     rw (sym (c₅ .same .ensures) ∙ c₄ .if1 .left, sym (c₃ .same2 .ensures) ∙ c₂ .if2 .left, sym (c₁ .same3 .ensures) ∙ c .if3 .taken)
-
-slice-aggregate-same-4 : tie.Need-slice-aggregate-same-4
-slice-aggregate-same-4 c = search needs
-
-same-requires-4 : tie.Need-same-requires-4
-same-requires-4 c κs = search needs
 
 returns-4 : tie.Need-returns-4
 returns-4 c =
@@ -58,9 +34,6 @@ returns-4 c =
     let c₆ = c₅ .before .before in
     let c₇ = c₆ .before in
     rw (sym (c₇ .same .ensures) ∙ c₆ .if1 .left, sym (c₅ .same2 .ensures) ∙ c₄ .if2 .left, sym (c₃ .same3 .ensures) ∙ c₂ .if3 .left, sym (c₁ .same4 .ensures) ∙ c .if4 .taken)
-
-color-of-requires : tie.Need-color-of-requires
-color-of-requires c κs = search needs
 
 returns-5 : tie.Need-returns-5
 returns-5 c =
@@ -79,17 +52,17 @@ pub command-of-spec : {M : Type 1} → statement M
 command-of-spec =
     tie.close
     (tie.spec
-    slice-aggregate-same
-    same-requires
+    (λ c. search needs)
+    (λ c κs. search needs)
     returns
-    slice-aggregate-same-2
-    same-requires-2
+    (λ c. search needs)
+    (λ c κs. search needs)
     returns-2
-    slice-aggregate-same-3
-    same-requires-3
+    (λ c. search needs)
+    (λ c κs. search needs)
     returns-3
-    slice-aggregate-same-4
-    same-requires-4
+    (λ c. search needs)
+    (λ c κs. search needs)
     returns-4
-    color-of-requires
+    (λ c κs. search needs)
     returns-5)

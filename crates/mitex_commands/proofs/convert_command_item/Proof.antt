@@ -1,18 +1,12 @@
 -- `mitex_commands::convert_command_item` meets its contract: by whether there is a mark.
 use mathlib.Core.Path.{refl}
 use native.Mathlib.Omega.{arith}
-use Rattle.mitex_state.specs.State.{carryOf}
-use Rattle.mitex_state.proofs.Agreeing.{agrees-as, agrees-done, agrees-here}
+use Rattle.mitex_meaning.specs.State.{carryOf}
+use Rattle.mitex_meaning.proofs.Agreeing.{agrees-as, agrees-done, agrees-here}
 use Rattle.mitex_commands.proofs.Items.{item-refused, item-written}
 use borrow.Author.Needs.{needs}
 use Rattle.mitex_commands.proofs.convert_command_item.Statement.{statement}
 use Rattle.mitex_commands.proofs.convert_command_item.Tie as tie
-
-mark-of-requires : tie.Need-mark-of-requires
-mark-of-requires c κs = search needs
-
-refuse-requires : tie.Need-refuse-requires
-refuse-requires c κs = search needs
 
 returns : tie.Need-returns
 returns c =
@@ -20,15 +14,6 @@ returns c =
     let c₂ = c₁ .before in
     let c₃ = c₂ .before .before in
     agrees-as (item-refused (c₃ .args .c .env) (c₃ .args .c .indent) (carryOf (c₃ .args .c)) (c₂ .mark-of .ensures) (c₁ .if1 .taken)) (agrees-here (omega arith) (c .refuse .ensures))
-
-put-item-requires : tie.Need-put-item-requires
-put-item-requires c κs = search needs
-
-went-requires : tie.Need-went-requires
-went-requires c κs = search needs
-
-same-length : tie.Need-same-length
-same-length c = search needs
 
 returns-2 : tie.Need-returns-2
 returns-2 c =
@@ -43,10 +28,10 @@ pub convert-command-item-spec : {M : Type 1} → statement M
 convert-command-item-spec =
     tie.close
     (tie.spec
-    mark-of-requires
-    refuse-requires
+    (λ c κs. search needs)
+    (λ c κs. search needs)
     returns
-    put-item-requires
-    went-requires
-    same-length
+    (λ c κs. search needs)
+    (λ c κs. search needs)
+    (λ c. search needs)
     returns-2)

@@ -3,25 +3,13 @@ use mathlib.Core.Path.{_∙_, ap, sym}
 use mathlib.Core.List.{List}
 use Prim.Native.Nat.{ℕ}
 use Rattle.mitex_syntax.proofs.Trees.{all-begins}
-use Rattle.mitex_state.specs.State.{carryOf}
-use Rattle.mitex_state.specs.Commands.{labelIn}
-use Rattle.mitex_state.proofs.Agreeing.{agrees-as}
+use Rattle.mitex_meaning.specs.State.{carryOf}
+use Rattle.mitex_meaning.specs.Commands.{labelIn}
+use Rattle.mitex_meaning.proofs.Agreeing.{agrees-as}
 use Rattle.mitex_commands.proofs.Items.{label-now, label-held}
 use borrow.Author.Needs.{needs}
 use Rattle.mitex_commands.proofs.convert_command_label.Statement.{statement}
 use Rattle.mitex_commands.proofs.convert_command_label.Tie as tie
-
-label-text-requires : tie.Need-label-text-requires
-label-text-requires c κs = search needs
-
-writes-now-requires : tie.Need-writes-now-requires
-writes-now-requires c κs = search needs
-
-write-label-requires : tie.Need-write-label-requires
-write-label-requires c κs = search needs
-
-same-length : tie.Need-same-length
-same-length c = search needs
 
 returns : tie.Need-returns
 returns c =
@@ -37,9 +25,6 @@ returns c =
     (ap (λ (l : List ℕ). labelIn (a .env) (a .mode) l (carryOf a)) (sym (c₄ .label-text .ensures f (all-begins sp)))
     ∙ label-now (a .mode) s (carryOf a) (a .env) (c₃ .writes-now .ensures) (c₂ .if1 .taken))
     (c₁ .write-label .ensures (c₅ .args .row))
-
-hold-label-requires : tie.Need-hold-label-requires
-hold-label-requires c κs = search needs
 
 returns-2 : tie.Need-returns-2
 returns-2 c =
@@ -59,10 +44,10 @@ pub convert-command-label-spec : {M : Type 1} → statement M
 convert-command-label-spec =
     tie.close
     (tie.spec
-    label-text-requires
-    writes-now-requires
-    write-label-requires
-    same-length
+    (λ c κs. search needs)
+    (λ c κs. search needs)
+    (λ c κs. search needs)
+    (λ c. search needs)
     returns
-    hold-label-requires
+    (λ c κs. search needs)
     returns-2)

@@ -1,7 +1,7 @@
 -- `mitex_commands::element_of` meets its contract: each arm is computed, and in the last the kind is none of the others (`pick-other`).
 use mathlib.Core.Path.{ap, sym}
-use Rattle.mitex_state.specs.Conversion.{elementOf}
-use Rattle.mitex_state.specs.declared.Element.the-variants.{Token}
+use Rattle.mitex_meaning.specs.Conversion.{elementOf}
+use Rattle.mitex_meaning.specs.declared.Element.the-variants.{Token}
 use Rattle.mitex_commands.proofs.Picking.{pick-other}
 use Rattle.mitex_commands.proofs.Elements.{elements}
 use Rattle.mitex_commands.proofs.element_of.Statement.{statement}

@@ -4,7 +4,7 @@ use native.Mathlib.Omega.{arith}
 use borrow.Author.Tests.{le-leb, lt-leb}
 use lib.ListN.{length}
 use Rattle.text.proofs.Writing.{wrote-nil}
-use Rattle.mitex_state.proofs.Agreeing.{agrees-carried, agrees-here}
+use Rattle.mitex_meaning.proofs.Agreeing.{agrees-carried, agrees-here}
 use borrow.Author.Needs.{needs}
 use Rattle.mitex_commands.proofs.hold_label.Statement.{statement}
 use Rattle.mitex_commands.proofs.hold_label.Tie as tie

@@ -3,29 +3,14 @@ use mathlib.Core.Path.{_∙_, ap, sym}
 use mathlib.Core.List.{List}
 use Prim.Native.Nat.{ℕ}
 use Rattle.text.specs.Compare.{same}
-use Rattle.mitex_state.specs.Texts.{substackName}
+use Rattle.mitex_meaning.specs.Texts.{substackName}
 use Rattle.mitex_commands.proofs.Naming.{name-strong, name-emph, name-written, name-math, strong-no-stack, emph-no-stack}
 use borrow.Author.Needs.{needs}
 use Rattle.mitex_commands.proofs.is_stack.Statement.{statement}
 use Rattle.mitex_commands.proofs.is_stack.Tie as tie
 
-enum-told : tie.Need-enum-told
-enum-told c = search needs
-
-slice-aggregate-same : tie.Need-slice-aggregate-same
-slice-aggregate-same c = search needs
-
-same-requires : tie.Need-same-requires
-same-requires c κs = search needs
-
 returns : tie.Need-returns
 returns c = sym (ap (λ (w : List ℕ). same w substackName) (name-strong _ _ (c .before .before .before .enum-told .given .1) (sym (c .before .same .ensures) ∙ c .if1 .taken)) ∙ strong-no-stack)
-
-slice-aggregate-same-2 : tie.Need-slice-aggregate-same-2
-slice-aggregate-same-2 c = search needs
-
-same-requires-2 : tie.Need-same-requires-2
-same-requires-2 c κs = search needs
 
 returns-2 : tie.Need-returns-2
 returns-2 c =
@@ -36,21 +21,6 @@ returns-2 c =
     sym (ap (λ (w : List ℕ). same w substackName)
     (name-emph _ _ (c₄ .enum-told .given .1) (sym (c₃ .same .ensures) ∙ c₂ .if1 .left) (sym (c₁ .same2 .ensures) ∙ c .if2 .taken))
     ∙ emph-no-stack)
-
-slice-aggregate-same-3 : tie.Need-slice-aggregate-same-3
-slice-aggregate-same-3 c = search needs
-
-same-requires-3 : tie.Need-same-requires-3
-same-requires-3 c κs = search needs
-
-enum-told-2 : tie.Need-enum-told-2
-enum-told-2 c = search needs
-
-slice-aggregate-same-4 : tie.Need-slice-aggregate-same-4
-slice-aggregate-same-4 c = search needs
-
-same-requires-4 : tie.Need-same-requires-4
-same-requires-4 c κs = search needs
 
 returns-3 : tie.Need-returns-3
 returns-3 c =
@@ -70,17 +40,17 @@ pub is-stack-spec : {M : Type 1} → statement M
 is-stack-spec =
     tie.close
     (tie.spec
-    enum-told
-    slice-aggregate-same
-    same-requires
+    (λ c. search needs)
+    (λ c. search needs)
+    (λ c κs. search needs)
     returns
-    slice-aggregate-same-2
-    same-requires-2
+    (λ c. search needs)
+    (λ c κs. search needs)
     returns-2
-    slice-aggregate-same-3
-    same-requires-3
-    enum-told-2
-    slice-aggregate-same-4
-    same-requires-4
+    (λ c. search needs)
+    (λ c κs. search needs)
+    (λ c. search needs)
+    (λ c. search needs)
+    (λ c κs. search needs)
     returns-3
     returns-4)

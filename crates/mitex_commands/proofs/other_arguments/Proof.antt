@@ -1,24 +1,12 @@
 -- `mitex_commands::other_arguments` meets its contract: by the mode, and in Math by the first byte.
 use mathlib.Core.Path.{_∙_, ap, sym}
 use mathlib.Core.Bool.{Bool, cond}
-use Rattle.mitex_state.specs.Commands.{otherArguments}
-use Rattle.mitex_state.specs.declared.LaTeXMode.{LaTeXMode}
-use Rattle.mitex_state.specs.declared.Arguments.the-variants.{TextArguments, MathArguments}
+use Rattle.mitex_meaning.specs.Commands.{otherArguments}
+use Rattle.mitex_meaning.specs.declared.LaTeXMode.{LaTeXMode}
+use Rattle.mitex_meaning.specs.declared.Arguments.the-variants.{TextArguments, MathArguments}
 use borrow.Author.Needs.{needs}
 use Rattle.mitex_commands.proofs.other_arguments.Statement.{statement}
 use Rattle.mitex_commands.proofs.other_arguments.Tie as tie
-
-enum-told : tie.Need-enum-told
-enum-told c = search needs
-
-enum-told-2 : tie.Need-enum-told-2
-enum-told-2 c = search needs
-
-slice-aggregate-starts-with : tie.Need-slice-aggregate-starts-with
-slice-aggregate-starts-with c = search needs
-
-starts-with-requires : tie.Need-starts-with-requires
-starts-with-requires c κs = search needs
 
 returns : tie.Need-returns
 returns c =
@@ -27,9 +15,6 @@ returns c =
     let c₃ = c₂ .before .before .before in
     sym (ap (λ (m : LaTeXMode). otherArguments m (c₃ .args .written .now)) (c₂ .enum-told2 .given .1)
     ∙ ap (λ (b : Bool). cond b TextArguments MathArguments) (sym (c₁ .starts-with .ensures) ∙ c .if1 .taken))
-
-returns-2 : tie.Need-returns-2
-returns-2 c = search needs
 
 returns-3 : tie.Need-returns-3
 returns-3 c =
@@ -43,10 +28,10 @@ pub other-arguments-spec : {M : Type 1} → statement M
 other-arguments-spec =
     tie.close
     (tie.spec
-    enum-told
-    enum-told-2
-    slice-aggregate-starts-with
-    starts-with-requires
+    (λ c. search needs)
+    (λ c. search needs)
+    (λ c. search needs)
+    (λ c κs. search needs)
     returns
-    returns-2
+    (λ c. search needs)
     returns-3)

@@ -1,31 +1,13 @@
 -- `mitex_commands::write_label` meets its contract: by the mode.
 use mathlib.Core.Path.{ap, refl}
 use Rattle.text.proofs.Writing.{wrote-nil}
-use Rattle.mitex_state.specs.State.{carryOf}
-use Rattle.mitex_state.specs.Commands.{labelNow}
-use Rattle.mitex_state.specs.declared.LaTeXMode.{LaTeXMode}
-use Rattle.mitex_state.proofs.Agreeing.{agrees-as, agrees-done}
+use Rattle.mitex_meaning.specs.State.{carryOf}
+use Rattle.mitex_meaning.specs.Commands.{labelNow}
+use Rattle.mitex_meaning.specs.declared.LaTeXMode.{LaTeXMode}
+use Rattle.mitex_meaning.proofs.Agreeing.{agrees-as, agrees-done}
 use borrow.Author.Needs.{needs}
 use Rattle.mitex_commands.proofs.write_label.Statement.{statement}
 use Rattle.mitex_commands.proofs.write_label.Tie as tie
-
-enum-told : tie.Need-enum-told
-enum-told c = search needs
-
-put-label-requires : tie.Need-put-label-requires
-put-label-requires c κs = search needs
-
-went-requires : tie.Need-went-requires
-went-requires c κs = search needs
-
-enum-told-2 : tie.Need-enum-told-2
-enum-told-2 c = search needs
-
-went-requires-2 : tie.Need-went-requires-2
-went-requires-2 c κs = search needs
-
-same-length : tie.Need-same-length
-same-length c = search needs
 
 returns : tie.Need-returns
 returns c =
@@ -48,11 +30,11 @@ pub write-label-spec : {M : Type 1} → statement M
 write-label-spec =
     tie.close
     (tie.spec
-    enum-told
-    put-label-requires
-    went-requires
-    enum-told-2
-    went-requires-2
-    same-length
+    (λ c. search needs)
+    (λ c κs. search needs)
+    (λ c κs. search needs)
+    (λ c. search needs)
+    (λ c κs. search needs)
+    (λ c. search needs)
     returns
     returns-2)

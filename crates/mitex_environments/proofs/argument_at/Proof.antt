@@ -4,9 +4,9 @@ use Prim.Native.Nat.{_+_}
 use native.Mathlib.Omega.{arith}
 use Rattle.mitex_syntax.specs.Syntax.{ClauseArgument}
 use Rattle.mitex_syntax.specs.Views.{isOf, childrenOf}
-use Rattle.mitex_syntax.specs.Places.{Stands}
+use Rattle.mitex_syntax.specs.Places.{FirstAt}
 use Rattle.mitex_syntax.proofs.Places.{stands, nowhere}
-use Rattle.mitex_state.specs.Parts.{between}
+use Rattle.mitex_meaning.specs.Parts.{between}
 use Rattle.mitex_environments.proofs.Captioning.{children-in, children-some, argument-high, argument-stop, argument-shows, bare-shows}
 use borrow.Author.Needs.{needs}
 use Rattle.mitex_environments.proofs.argument_at.Statement.{statement}
@@ -20,7 +20,7 @@ abbrev here :
     (c : tie.After-row)
     → let a = start c .args in
     let g = c .row .given .0 in
-    Stands (isOf ClauseArgument) (childrenOf (start c .pre .child .tree)) (between (a .i + 8) (a .e) (a .rows .now)) (between (a .j) (a .u) (a .text .now)) 0
+    FirstAt (isOf ClauseArgument) (childrenOf (start c .pre .child .tree)) (between (a .i + 8) (a .e) (a .rows .now)) (between (a .j) (a .u) (a .text .now)) 0
     (g .0) (g .1 .0) (g .1 .1 .0) (g .1 .1 .1 .0)
 here c =
     let a = start c .args in
@@ -30,38 +30,8 @@ here c =
     (children-in (a .rows .now) (a .i) (a .e) (pre .child .spells) (pre .some-rows) (pre .end)))
     (c .row .given .1)
 
-add-find-kind : tie.Need-add-find-kind
-add-find-kind c = search needs
-
-sub-find-kind : tie.Need-sub-find-kind
-sub-find-kind c = search needs
-
-part-find-kind-start : tie.Need-part-find-kind-start
-part-find-kind-start c = search needs
-
-part-find-kind-end : tie.Need-part-find-kind-end
-part-find-kind-end c = search needs
-
-sub-find-kind-2 : tie.Need-sub-find-kind-2
-sub-find-kind-2 c = search needs
-
-part-find-kind-start-2 : tie.Need-part-find-kind-start-2
-part-find-kind-start-2 c = search needs
-
-part-find-kind-end-2 : tie.Need-part-find-kind-end-2
-part-find-kind-end-2 c = search needs
-
 find-kind-requires : tie.Need-find-kind-requires
 find-kind-requires c κs = children-some (c .before .before .before .before .pre)
-
-enum-told : tie.Need-enum-told
-enum-told c = search needs
-
-enum-known-row : tie.Need-enum-known-row
-enum-known-row c = search needs
-
-add-t23 : tie.Need-add-t23
-add-t23 c = search needs
 
 add-t24 : tie.Need-add-t24
 add-t24 c =
@@ -73,9 +43,6 @@ add-t24 c =
     let high = argument-high (c₃ .pre) s in
     let few = c₃ .pre .few in
     omega arith
-
-add-t25 : tie.Need-add-t25
-add-t25 c = search needs
 
 add-t26 : tie.Need-add-t26
 add-t26 c =
@@ -134,19 +101,19 @@ pub argument-at-spec : {M : Type 1} → statement M
 argument-at-spec =
     tie.close
     (tie.spec
-    add-find-kind
-    sub-find-kind
-    part-find-kind-start
-    part-find-kind-end
-    sub-find-kind-2
-    part-find-kind-start-2
-    part-find-kind-end-2
+    (λ c. search needs)
+    (λ c. search needs)
+    (λ c. search needs)
+    (λ c. search needs)
+    (λ c. search needs)
+    (λ c. search needs)
+    (λ c. search needs)
     find-kind-requires
-    enum-told
-    enum-known-row
-    add-t23
+    (λ c. search needs)
+    (λ c. search needs)
+    (λ c. search needs)
     add-t24
-    add-t25
+    (λ c. search needs)
     add-t26
     add-t27
     add-t28

@@ -1,7 +1,7 @@
 -- `mitex_environments::env_of` meets its contract: each class is computed, and in the last arm it is none of the others (`pick-other`).
 use mathlib.Core.Path.{ap, sym}
-use Rattle.mitex_state.specs.Environments.{envOf}
-use Rattle.mitex_state.specs.declared.LaTeXEnv.the-variants.{None}
+use Rattle.mitex_meaning.specs.Environments.{envOf}
+use Rattle.mitex_meaning.specs.declared.LaTeXEnv.the-variants.{None}
 use Rattle.mitex_commands.proofs.Picking.{pick-other}
 use Rattle.mitex_environments.proofs.Ends.{classes}
 use Rattle.mitex_environments.proofs.env_of.Statement.{statement}

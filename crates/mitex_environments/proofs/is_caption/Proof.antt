@@ -7,14 +7,11 @@ use Rattle.text.specs.Compare.{same}
 use Rattle.mitex_syntax.specs.Syntax.{ItemCmd}
 use Rattle.mitex_syntax.specs.Tree.{kindOf}
 use Rattle.mitex_syntax.specs.Views.{childrenOf}
-use Rattle.mitex_state.specs.Texts.{captionName}
+use Rattle.mitex_meaning.specs.Texts.{captionName}
 use Rattle.mitex_environments.proofs.Captioning.{kind-in, children-in, children-some}
 use borrow.Author.Needs.{needs}
 use Rattle.mitex_environments.proofs.is_caption.Statement.{statement}
 use Rattle.mitex_environments.proofs.is_caption.Tie as tie
-
-shared-slice-read-if1 : tie.Need-shared-slice-read-if1
-shared-slice-read-if1 c = search needs
 
 returns : tie.Need-returns
 returns c =
@@ -23,38 +20,11 @@ returns c =
     let pre = c₁ .pre in
     λ t sp. rw (ne-eqb (kindOf t) ItemCmd (λ q. c .if1 .taken (kind-in (a .rows .now) (a .i) (a .e) sp (pre .some-rows) (pre .end) ∙ q)))
 
-add-name-tok : tie.Need-add-name-tok
-add-name-tok c = search needs
-
-sub-name-tok : tie.Need-sub-name-tok
-sub-name-tok c = search needs
-
-part-name-tok-start : tie.Need-part-name-tok-start
-part-name-tok-start c = search needs
-
-part-name-tok-end : tie.Need-part-name-tok-end
-part-name-tok-end c = search needs
-
-sub-name-tok-2 : tie.Need-sub-name-tok-2
-sub-name-tok-2 c = search needs
-
-part-name-tok-start-2 : tie.Need-part-name-tok-start-2
-part-name-tok-start-2 c = search needs
-
-part-name-tok-end-2 : tie.Need-part-name-tok-end-2
-part-name-tok-end-2 c = search needs
-
 name-tok-requires : tie.Need-name-tok-requires
 name-tok-requires c κs =
     let c₁ = c .before .before .before .before .before in
     let c₂ = c₁ .before in
     children-some (c₂ .pre)
-
-slice-aggregate-same : tie.Need-slice-aggregate-same
-slice-aggregate-same c = search needs
-
-same-requires : tie.Need-same-requires
-same-requires c κs = search needs
 
 returns-2 : tie.Need-returns-2
 returns-2 c =
@@ -72,16 +42,16 @@ pub is-caption-spec : {M : Type 1} → statement M
 is-caption-spec =
     tie.close
     (tie.spec
-    shared-slice-read-if1
+    (λ c. search needs)
     returns
-    add-name-tok
-    sub-name-tok
-    part-name-tok-start
-    part-name-tok-end
-    sub-name-tok-2
-    part-name-tok-start-2
-    part-name-tok-end-2
+    (λ c. search needs)
+    (λ c. search needs)
+    (λ c. search needs)
+    (λ c. search needs)
+    (λ c. search needs)
+    (λ c. search needs)
+    (λ c. search needs)
     name-tok-requires
-    slice-aggregate-same
-    same-requires
+    (λ c. search needs)
+    (λ c κs. search needs)
     returns-2)

@@ -58,9 +58,6 @@ add-u c = let z = kid (c .before .before) .stop in omega arith
 caption-at-requires : tie.Need-caption-at-requires Inv-loop μ-loop
 caption-at-requires c κs = kid (c .before .before)
 
-or-later-requires : tie.Need-or-later-requires Inv-loop μ-loop
-or-later-requires c κs = search needs
-
 loop-less : tie.Need-loop-less Inv-loop μ-loop
 loop-less c = let k = kid (c .before .before .before .before) in let z = k .end in let y = k .some-rows in omega arith
 
@@ -94,7 +91,7 @@ last-caption-spec =
     add-e
     add-u
     caption-at-requires
-    or-later-requires
+    (λ c κs. search needs)
     loop-less
     loop-again
     returns)

@@ -1,32 +1,11 @@
 -- `mitex_environments::or_later` meets its contract: each pair of captions is computed.
 use mathlib.Core.Path.{ap, sym}
-use Rattle.mitex_state.specs.declared.CaptionPart.{CaptionPart}
+use Rattle.mitex_meaning.specs.declared.CaptionPart.{CaptionPart}
 use Rattle.mitex_environments.specs.Captions.{laterPart}
 use Rattle.mitex_environments.proofs.Captioning.{later-both}
 use borrow.Author.Needs.{needs}
 use Rattle.mitex_environments.proofs.or_later.Statement.{statement}
 use Rattle.mitex_environments.proofs.or_later.Tie as tie
-
-enum-told : tie.Need-enum-told
-enum-told c = search needs
-
-enum-known-a : tie.Need-enum-known-a
-enum-known-a c = search needs
-
-enum-known-a-2 : tie.Need-enum-known-a-2
-enum-known-a-2 c = search needs
-
-enum-told-2 : tie.Need-enum-told-2
-enum-told-2 c = search needs
-
-enum-known-b : tie.Need-enum-known-b
-enum-known-b c = search needs
-
-enum-known-b-2 : tie.Need-enum-known-b-2
-enum-known-b-2 c = search needs
-
-returns : tie.Need-returns
-returns c = search needs
 
 returns-2 : tie.Need-returns-2
 returns-2 c = sym (ap (λ (x : CaptionPart). laterPart x (c .before .before .before .args .b)) (c .before .a .given .1))
@@ -50,13 +29,13 @@ pub or-later-spec : {M : Type 1} → statement M
 or-later-spec =
     tie.close
     (tie.spec
-    enum-told
-    enum-known-a
-    enum-known-a-2
-    enum-told-2
-    enum-known-b
-    enum-known-b-2
-    returns
+    (λ c. search needs)
+    (λ c. search needs)
+    (λ c. search needs)
+    (λ c. search needs)
+    (λ c. search needs)
+    (λ c. search needs)
+    (λ c. search needs)
     returns-2
     returns-3
     returns-4

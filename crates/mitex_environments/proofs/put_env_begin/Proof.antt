@@ -6,18 +6,6 @@ use borrow.Author.Needs.{needs}
 use Rattle.mitex_environments.proofs.put_env_begin.Statement.{statement}
 use Rattle.mitex_environments.proofs.put_env_begin.Tie as tie
 
-is-plain-requires : tie.Need-is-plain-requires
-is-plain-requires c κs = search needs
-
-slice-aggregate-put-call : tie.Need-slice-aggregate-put-call
-slice-aggregate-put-call c = search needs
-
-put-call-requires : tie.Need-put-call-requires
-put-call-requires c κs = search needs
-
-same-length : tie.Need-same-length
-same-length c = search needs
-
 returns : tie.Need-returns
 returns c =
     let c₁ = c .before .before in
@@ -36,9 +24,9 @@ pub put-env-begin-spec : {M : Type 1} → statement M
 put-env-begin-spec =
     tie.close
     (tie.spec
-    is-plain-requires
-    slice-aggregate-put-call
-    put-call-requires
-    same-length
+    (λ c κs. search needs)
+    (λ c. search needs)
+    (λ c κs. search needs)
+    (λ c. search needs)
     returns
     returns-2)

@@ -22,12 +22,6 @@ slice-aggregate-put-label c =
     let short = c₁ .pre .1 in
     sym (length-take-le (c₁ .args .c .«label_len») (c₁ .args .c .label) (omega arith))
 
-put-label-requires : tie.Need-put-label-requires
-put-label-requires c κs = search needs
-
-same-length : tie.Need-same-length
-same-length c = search needs
-
 returns : tie.Need-returns
 returns c =
     let c₁ = c .before .before in
@@ -43,7 +37,7 @@ put-held-spec =
     (tie.spec
     array-share-prefix-label
     slice-aggregate-put-label
-    put-label-requires
-    same-length
+    (λ c κs. search needs)
+    (λ c. search needs)
     returns
     returns-2)

@@ -6,7 +6,7 @@ use native.Mathlib.Omega.{arith}
 use Rattle.mitex_syntax.specs.Syntax.{ClauseArgument, ItemBegin}
 use Rattle.mitex_syntax.specs.Tree.{Tree, Forest}
 use Rattle.mitex_syntax.specs.Views.{isOf, firstBy, firstOf, childrenOf, childrenIn, textIn}
-use Rattle.mitex_syntax.specs.Places.{Stands}
+use Rattle.mitex_syntax.specs.Places.{FirstAt}
 use Rattle.mitex_syntax.proofs.Trees.{all-begins}
 use Rattle.mitex_syntax.proofs.Places.{stands, nowhere, found-children, found-some, children-found}
 use borrow.Author.Needs.{needs}
@@ -20,27 +20,9 @@ start c = c .before .before .before .before .before
 abbrev here :
     (c : tie.After-row)
     → let g = c .row .given .0 in
-    Stands (isOf ItemBegin) (start c .pre .forest) (start c .args .rows .now) (start c .args .text .now) 0 (g .0) (g .1 .0) (g .1 .1 .0)
+    FirstAt (isOf ItemBegin) (start c .pre .forest) (start c .args .rows .now) (start c .args .text .now) 0 (g .0) (g .1 .0) (g .1 .1 .0)
     (g .1 .1 .1 .0)
 here c = stands (c .before .before .begin .ensures (start c .pre .forest) (start c .pre .begins)) (c .row .given .1)
-
-begin-requires : tie.Need-begin-requires
-begin-requires c κs = search needs
-
-enum-told : tie.Need-enum-told
-enum-told c = search needs
-
-sub-result : tie.Need-sub-result
-sub-result c = search needs
-
-part-result-start : tie.Need-part-result-start
-part-result-start c = search needs
-
-part-result-end : tie.Need-part-result-end
-part-result-end c = search needs
-
-enum-known-row : tie.Need-enum-known-row
-enum-known-row c = search needs
 
 add-argument-text : tie.Need-add-argument-text
 add-argument-text c = let s = here (c .before) in let y = s .some-rows in let z = s .end in omega arith
@@ -85,12 +67,12 @@ pub table-argument-spec : {M : Type 1} → statement M
 table-argument-spec =
     tie.close
     (tie.spec
-    begin-requires
-    enum-told
-    sub-result
-    part-result-start
-    part-result-end
-    enum-known-row
+    (λ c κs. search needs)
+    (λ c. search needs)
+    (λ c. search needs)
+    (λ c. search needs)
+    (λ c. search needs)
+    (λ c. search needs)
     add-argument-text
     sub-argument-text
     part-argument-text-start

@@ -12,20 +12,11 @@ returns-2 c =
     let c₁ = c .before .before .before .before in
     takes-list (c₁ .args .mode) (c₁ .pre .0) (c .if2 .taken)
 
-enum-told : tie.Need-enum-told
-enum-told c = search needs
-
 drop-label-requires : tie.Need-drop-label-requires
 drop-label-requires c κs =
     let c₁ = c .before .before .before .before in
     let c₂ = c₁ .before .before .before in
     (c₂ .pre .0 (c₁ .if1 .left), (c₁ .if1 .left, c₂ .pre .1))
-
-enum-told-2 : tie.Need-enum-told-2
-enum-told-2 c = search needs
-
-same-length : tie.Need-same-length
-same-length c = search needs
 
 returns-3 : tie.Need-returns-3
 returns-3 c =
@@ -46,9 +37,9 @@ take-label-spec =
     (tie.spec
     returns
     returns-2
-    enum-told
+    (λ c. search needs)
     drop-label-requires
-    enum-told-2
-    same-length
+    (λ c. search needs)
+    (λ c. search needs)
     returns-3
     returns-4)

@@ -5,39 +5,6 @@ use Rattle.mitex_images.proofs.Splitting.{image-is}
 use Rattle.mitex_images.proofs.convert_command_includegraphics.Statement.{statement}
 use Rattle.mitex_images.proofs.convert_command_includegraphics.Tie as tie
 
-argument-text-requires : tie.Need-argument-text-requires
-argument-text-requires c κs = search needs
-
-argument-text-requires-2 : tie.Need-argument-text-requires-2
-argument-text-requires-2 c κs = search needs
-
-slice-aggregate-put : tie.Need-slice-aggregate-put
-slice-aggregate-put c = search needs
-
-put-requires : tie.Need-put-requires
-put-requires c κs = search needs
-
-put-options-requires : tie.Need-put-options-requires
-put-options-requires c κs = search needs
-
-slice-aggregate-put-2 : tie.Need-slice-aggregate-put-2
-slice-aggregate-put-2 c = search needs
-
-put-requires-2 : tie.Need-put-requires-2
-put-requires-2 c κs = search needs
-
-put-requires-3 : tie.Need-put-requires-3
-put-requires-3 c κs = search needs
-
-slice-aggregate-put-3 : tie.Need-slice-aggregate-put-3
-slice-aggregate-put-3 c = search needs
-
-put-requires-4 : tie.Need-put-requires-4
-put-requires-4 c κs = search needs
-
-same-length : tie.Need-same-length
-same-length c = search needs
-
 returns : tie.Need-returns
 returns c =
     let last = c .before .before in
@@ -57,15 +24,15 @@ pub convert-command-includegraphics-spec : {M : Type 1} → statement M
 convert-command-includegraphics-spec =
     tie.close
     (tie.spec
-    argument-text-requires
-    argument-text-requires-2
-    slice-aggregate-put
-    put-requires
-    put-options-requires
-    slice-aggregate-put-2
-    put-requires-2
-    put-requires-3
-    slice-aggregate-put-3
-    put-requires-4
-    same-length
+    (λ c κs. search needs)
+    (λ c κs. search needs)
+    (λ c. search needs)
+    (λ c κs. search needs)
+    (λ c κs. search needs)
+    (λ c. search needs)
+    (λ c κs. search needs)
+    (λ c κs. search needs)
+    (λ c. search needs)
+    (λ c κs. search needs)
+    (λ c. search needs)
     returns)

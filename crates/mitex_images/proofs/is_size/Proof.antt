@@ -3,26 +3,14 @@ use mathlib.Core.Path.{sym, ap, _∙_}
 use mathlib.Core.Bool.{_||_}
 use borrow.Author.Needs.{needs}
 use Rattle.text.specs.Compare.{same}
-use Rattle.mitex_state.specs.Texts.{heightName}
+use Rattle.mitex_meaning.specs.Texts.{heightName}
 use Rattle.mitex_images.proofs.is_size.Statement.{statement}
 use Rattle.mitex_images.proofs.is_size.Tie as tie
-
-slice-aggregate-same : tie.Need-slice-aggregate-same
-slice-aggregate-same c = search needs
-
-same-requires : tie.Need-same-requires
-same-requires c κs = search needs
 
 returns : tie.Need-returns
 returns c =
     let at = c .before in
     let key = at .before .before .before .args .key .now in ap (λ t. t || same key heightName) (sym (c .if1 .taken) ∙ at .same .ensures)
-
-slice-aggregate-same-2 : tie.Need-slice-aggregate-same-2
-slice-aggregate-same-2 c = search needs
-
-same-requires-2 : tie.Need-same-requires-2
-same-requires-2 c κs = search needs
 
 returns-2 : tie.Need-returns-2
 returns-2 c =
@@ -35,9 +23,9 @@ pub is-size-spec : {M : Type 1} → statement M
 is-size-spec =
     tie.close
     (tie.spec
-    slice-aggregate-same
-    same-requires
+    (λ c. search needs)
+    (λ c κs. search needs)
     returns
-    slice-aggregate-same-2
-    same-requires-2
+    (λ c. search needs)
+    (λ c κs. search needs)
     returns-2)

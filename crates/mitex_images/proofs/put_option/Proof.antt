@@ -6,7 +6,7 @@ use borrow.Author.Needs.{needs}
 use lib.ListN.{length}
 use lib.Seq.{length-take-le}
 use Rattle.text.proofs.Writing.{wrote-as}
-use Rattle.mitex_state.specs.Images.{equalsByte}
+use Rattle.mitex_meaning.specs.Images.{equalsByte}
 use Rattle.mitex_images.proofs.Splitting.{index-most, option-is}
 use Rattle.mitex_images.proofs.put_option.Statement.{statement}
 use Rattle.mitex_images.proofs.put_option.Tie as tie
@@ -14,26 +14,8 @@ use Rattle.mitex_images.proofs.put_option.Tie as tie
 within : (c : tie.After-index-of) → c .index-of .result ≤ length (c .before .trim .result .now)
 within c = omega (arith, c .index-of .ensures, index-most equalsByte (c .before .trim .result .now))
 
-trim-requires : tie.Need-trim-requires
-trim-requires c κs = search needs
-
-index-of-requires : tie.Need-index-of-requires
-index-of-requires c κs = search needs
-
 slice-aggregate-trim : tie.Need-slice-aggregate-trim
 slice-aggregate-trim c = sym (length-take-le _ _ (within (c .before .before)))
-
-trim-requires-2 : tie.Need-trim-requires-2
-trim-requires-2 c κs = search needs
-
-value-of-requires : tie.Need-value-of-requires
-value-of-requires c κs = search needs
-
-put-key-requires : tie.Need-put-key-requires
-put-key-requires c κs = search needs
-
-same-length : tie.Need-same-length
-same-length c = search needs
 
 returns : tie.Need-returns
 returns c =
@@ -48,11 +30,11 @@ pub put-option-spec : {M : Type 1} → statement M
 put-option-spec =
     tie.close
     (tie.spec
-    trim-requires
-    index-of-requires
+    (λ c κs. search needs)
+    (λ c κs. search needs)
     slice-aggregate-trim
-    trim-requires-2
-    value-of-requires
-    put-key-requires
-    same-length
+    (λ c κs. search needs)
+    (λ c κs. search needs)
+    (λ c κs. search needs)
+    (λ c. search needs)
     returns)

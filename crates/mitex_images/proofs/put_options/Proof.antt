@@ -10,7 +10,7 @@ use lib.Seq.{length-take-le}
 use Rattle.text.specs.Writing.{cap, Wrote}
 use Rattle.text.proofs.Writing.{wrote-nil, wrote-as, wrote-then, wrote-low, wrote-long}
 use Rattle.utf8.proofs.Trimming.{left-less}
-use Rattle.mitex_state.specs.Images.{commaByte, split, optionsText}
+use Rattle.mitex_meaning.specs.Images.{commaByte, split, optionsText}
 use Rattle.mitex_images.proofs.Splitting.{index-most, options-next, options-end}
 use Rattle.mitex_images.proofs.put_options.Statement.{statement}
 use Rattle.mitex_images.proofs.put_options.Tie as tie
@@ -30,9 +30,6 @@ within c = omega (arith, c .index-of .ensures, index-most commaByte (c .before .
 loop-holds : tie.Need-loop-holds Inv-loop μ-loop
 loop-holds c = (c .before .before .pre .0, refl, λ r o w. w)
 
-index-of-requires : tie.Need-index-of-requires Inv-loop μ-loop
-index-of-requires c κs = search needs
-
 slice-aggregate-put-option : tie.Need-slice-aggregate-put-option Inv-loop μ-loop
 slice-aggregate-put-option c = sym (length-take-le _ _ (within (c .before .before)))
 
@@ -45,15 +42,6 @@ past-requires : tie.Need-past-requires Inv-loop μ-loop
 past-requires c κs =
     let put = c .before .before in
     within (put .before .before .before)
-
-sub-rest : tie.Need-sub-rest Inv-loop μ-loop
-sub-rest c = search needs
-
-part-rest-start : tie.Need-part-rest-start Inv-loop μ-loop
-part-rest-start c = search needs
-
-part-rest-end : tie.Need-part-rest-end Inv-loop μ-loop
-part-rest-end c = search needs
 
 loop-less : tie.Need-loop-less Inv-loop μ-loop
 loop-less c =
@@ -87,13 +75,13 @@ put-options-spec =
     Inv-loop
     μ-loop
     loop-holds
-    index-of-requires
+    (λ c κs. search needs)
     slice-aggregate-put-option
     put-option-requires
     past-requires
-    sub-rest
-    part-rest-start
-    part-rest-end
+    (λ c. search needs)
+    (λ c. search needs)
+    (λ c. search needs)
     loop-less
     loop-again
     same-length

@@ -3,24 +3,9 @@ use mathlib.Core.Path.{ap}
 use mathlib.Core.List.{_++_}
 use borrow.Author.Needs.{needs}
 use Rattle.text.proofs.Writing.{wrote-as, wrote-then}
-use Rattle.mitex_state.specs.Texts.{ofPage}
+use Rattle.mitex_meaning.specs.Texts.{ofPage}
 use Rattle.mitex_images.proofs.put_share.Statement.{statement}
 use Rattle.mitex_images.proofs.put_share.Tie as tie
-
-without-end-requires : tie.Need-without-end-requires
-without-end-requires c κs = search needs
-
-put-requires : tie.Need-put-requires
-put-requires c κs = search needs
-
-slice-aggregate-put : tie.Need-slice-aggregate-put
-slice-aggregate-put c = search needs
-
-put-requires-2 : tie.Need-put-requires-2
-put-requires-2 c κs = search needs
-
-same-length : tie.Need-same-length
-same-length c = search needs
 
 returns : tie.Need-returns
 returns c =
@@ -34,9 +19,9 @@ pub put-share-spec : {M : Type 1} → statement M
 put-share-spec =
     tie.close
     (tie.spec
-    without-end-requires
-    put-requires
-    slice-aggregate-put
-    put-requires-2
-    same-length
+    (λ c κs. search needs)
+    (λ c κs. search needs)
+    (λ c. search needs)
+    (λ c κs. search needs)
+    (λ c. search needs)
     returns)

@@ -7,7 +7,7 @@ use borrow.Author.Tests.{not-true, not-false}
 use lib.ListN.{length}
 use lib.Seq.{length-take-le}
 use Rattle.text.proofs.Compare.{ends-short}
-use Rattle.mitex_state.specs.Images.{withoutEnd}
+use Rattle.mitex_meaning.specs.Images.{withoutEnd}
 use Rattle.mitex_images.proofs.Endings.{without-once, without-done}
 use Rattle.mitex_images.proofs.without_end.Statement.{statement}
 use Rattle.mitex_images.proofs.without_end.Tie as tie
@@ -21,18 +21,12 @@ abbrev μ-loop : tie.MeasureT-loop
 loop-holds : tie.Need-loop-holds Inv-loop μ-loop
 loop-holds c = refl
 
-ends-with-requires : tie.Need-ends-with-requires Inv-loop μ-loop
-ends-with-requires c κs = search needs
-
 returns : tie.Need-returns Inv-loop μ-loop
 returns c =
     let at = c .before in
     let l = at .before .before in
     let start = l .before .before .before in
     without-done _ (start .pre) _ (sym (at .ends-with .ensures) ∙ not-true _ (c .if1 .taken)) ∙ l .loop .inv
-
-sub-n : tie.Need-sub-n Inv-loop μ-loop
-sub-n c = omega arith
 
 slice-aggregate-t : tie.Need-slice-aggregate-t Inv-loop μ-loop
 slice-aggregate-t c = sym (length-take-le _ _ (omega arith))
@@ -63,9 +57,9 @@ without-end-spec =
     Inv-loop
     μ-loop
     loop-holds
-    ends-with-requires
+    (λ c κs. search needs)
     returns
-    sub-n
+    (λ c. omega arith)
     slice-aggregate-t
     loop-less
     loop-again

@@ -5,10 +5,10 @@ use native.Mathlib.Omega.{arith}
 use Rattle.mitex_syntax.specs.Syntax.{ClauseArgument, ClauseCommandName, ItemCurly}
 use Rattle.mitex_syntax.specs.Tree.{kindOf}
 use Rattle.mitex_syntax.proofs.Trees.{rows-some}
-use Rattle.mitex_state.specs.Children.{actOf, attachAct, follows, isDot, isEnds, isSplit, othersFollow}
+use Rattle.mitex_meaning.specs.Children.{actOf, attachAct, follows, isDot, isEnds, isSplit, othersFollow}
 use Rattle.mitex_loops.proofs.Acting.{by-kind, by-text}
 use lib.Dec.{eqb}
-use Rattle.mitex_state.specs.declared.Act.the-variants.{Convert, InBrackets, Name, Skip, Space, ThenComma, ThenSpace}
+use Rattle.mitex_meaning.specs.declared.Act.the-variants.{Convert, InBrackets, Name, Skip, Space, ThenComma, ThenSpace}
 use borrow.Author.Needs.{needs}
 use Rattle.mitex_loops.proofs.act_of.Statement.{statement}
 use Rattle.mitex_loops.proofs.act_of.Tie as tie

@@ -1,6 +1,6 @@
 -- `mitex_loops::attach_act` meets its contract: by what `is_split` answers, and by the state.
 use mathlib.Core.Path.{_∙_, ap, sym}
-use Rattle.mitex_state.specs.Children.{attachAct}
+use Rattle.mitex_meaning.specs.Children.{attachAct}
 use Rattle.mitex_loops.proofs.Acting.{attach-as, attach-on}
 use borrow.Author.Needs.{needs}
 use Rattle.mitex_loops.proofs.attach_act.Statement.{statement}

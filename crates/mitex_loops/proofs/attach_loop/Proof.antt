@@ -1,6 +1,6 @@
 -- `mitex_loops::attach_loop` meets its contract: each mode is computed.
 use mathlib.Core.Path.{ap, sym}
-use Rattle.mitex_state.specs.Groups.{attachLoop}
+use Rattle.mitex_meaning.specs.Groups.{attachLoop}
 use borrow.Author.Needs.{needs}
 use Rattle.mitex_loops.proofs.attach_loop.Statement.{statement}
 use Rattle.mitex_loops.proofs.attach_loop.Tie as tie

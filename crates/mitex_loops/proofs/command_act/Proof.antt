@@ -1,7 +1,7 @@
 -- `mitex_loops::command_act` meets its contract: from the name to the act.
 use mathlib.Core.Path.{_∙_, ap}
 use lib.ListN.{drop}
-use Rattle.mitex_state.specs.Children.{ruleAct}
+use Rattle.mitex_meaning.specs.Children.{ruleAct}
 use borrow.Author.Needs.{needs}
 use Rattle.mitex_loops.proofs.command_act.Statement.{statement}
 use Rattle.mitex_loops.proofs.command_act.Tie as tie

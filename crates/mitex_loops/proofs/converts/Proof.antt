@@ -1,6 +1,6 @@
 -- `mitex_loops::converts` meets its contract: each act is computed.
 use mathlib.Core.Path.{ap, sym}
-use Rattle.mitex_state.specs.Children.{converts}
+use Rattle.mitex_meaning.specs.Children.{converts}
 use borrow.Author.Needs.{needs}
 use Rattle.mitex_loops.proofs.converts.Statement.{statement}
 use Rattle.mitex_loops.proofs.converts.Tie as tie

@@ -2,7 +2,7 @@
 use mathlib.Core.Path.{_∙_, ap, sym}
 use native.Mathlib.Omega.{arith}
 use Rattle.mitex_syntax.proofs.Trees.{kind-spelt, rows-some}
-use Rattle.mitex_state.specs.Children.{isEnds}
+use Rattle.mitex_meaning.specs.Children.{isEnds}
 use borrow.Author.Needs.{needs}
 use Rattle.mitex_loops.proofs.figure_act.Statement.{statement}
 use Rattle.mitex_loops.proofs.figure_act.Tie as tie

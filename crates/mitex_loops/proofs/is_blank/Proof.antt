@@ -2,7 +2,7 @@
 use mathlib.Core.Path.{ap, sym}
 use borrow.Author.Tests.{ne-eqb}
 use Rattle.mitex_syntax.specs.Syntax.{TokenLBrace, TokenLineBreak, TokenRBrace, TokenWhiteSpace}
-use Rattle.mitex_state.specs.Children.{isBlank}
+use Rattle.mitex_meaning.specs.Children.{isBlank}
 use Rattle.mitex_loops.proofs.is_blank.Statement.{statement}
 use Rattle.mitex_loops.proofs.is_blank.Tie as tie
 

@@ -2,7 +2,7 @@
 use mathlib.Core.Path.{ap, sym}
 use borrow.Author.Tests.{ne-eqb}
 use Rattle.mitex_syntax.specs.Syntax.{ItemBegin, ItemEnd}
-use Rattle.mitex_state.specs.Children.{isEnds}
+use Rattle.mitex_meaning.specs.Children.{isEnds}
 use Rattle.mitex_loops.proofs.is_ends.Statement.{statement}
 use Rattle.mitex_loops.proofs.is_ends.Tie as tie
 

@@ -6,7 +6,7 @@ use Rattle.text.specs.Compare.{same}
 use Rattle.mitex_syntax.specs.Syntax.{ItemCmd}
 use Rattle.mitex_syntax.specs.Tree.{kindOf}
 use Rattle.mitex_syntax.proofs.Trees.{kind-spelt, rows-some}
-use Rattle.mitex_state.specs.Texts.{captionName, centeringName}
+use Rattle.mitex_meaning.specs.Texts.{captionName, centeringName}
 use borrow.Author.Needs.{needs}
 use Rattle.mitex_loops.proofs.is_named.Statement.{statement}
 use Rattle.mitex_loops.proofs.is_named.Tie as tie

@@ -2,7 +2,7 @@
 use mathlib.Core.Path.{ap, sym}
 use borrow.Author.Tests.{ne-eqb}
 use Rattle.mitex_syntax.specs.Syntax.{TokenCaret, TokenUnderscore}
-use Rattle.mitex_state.specs.Children.{isSplit}
+use Rattle.mitex_meaning.specs.Children.{isSplit}
 use Rattle.mitex_loops.proofs.is_split.Statement.{statement}
 use Rattle.mitex_loops.proofs.is_split.Tie as tie
 

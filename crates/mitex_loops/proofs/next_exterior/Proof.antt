@@ -1,6 +1,6 @@
 -- `mitex_loops::next_exterior` meets its contract: each act is computed.
 use mathlib.Core.Path.{ap, sym}
-use Rattle.mitex_state.specs.Children.{nextExterior}
+use Rattle.mitex_meaning.specs.Children.{nextExterior}
 use borrow.Author.Needs.{needs}
 use Rattle.mitex_loops.proofs.next_exterior.Statement.{statement}
 use Rattle.mitex_loops.proofs.next_exterior.Tie as tie

@@ -3,11 +3,11 @@ use mathlib.Core.Path.{_∙_, ap, subst, sym}
 use Prim.Native.Nat.{_<_}
 use Rattle.text.specs.Writing.{cap}
 use Rattle.mitex_syntax.specs.Syntax.{ClauseArgument}
-use Rattle.mitex_state.specs.Children.{nextLoop}
+use Rattle.mitex_meaning.specs.Children.{nextLoop}
 use Rattle.mitex_loops.specs.Given.{numberOf}
 use Rattle.mitex_loops.proofs.Acting.{named-next}
 use lib.Dec.{eqb}
-use Rattle.mitex_state.specs.declared.Loop.the-variants.{Attached, Curly, Named, Table}
+use Rattle.mitex_meaning.specs.declared.Loop.the-variants.{Attached, Curly, Named, Table}
 use borrow.Author.Needs.{needs}
 use Rattle.mitex_loops.proofs.next_loop.Statement.{statement}
 use Rattle.mitex_loops.proofs.next_loop.Tie as tie

@@ -4,7 +4,7 @@ use Prim.Native.Nat.{_-_, _≤_}
 use native.Mathlib.Omega.{arith}
 use lib.ListN.{length}
 use Rattle.mitex_syntax.specs.Tree.{Forest, rowsOfs}
-use Rattle.mitex_state.specs.Children.{behind}
+use Rattle.mitex_meaning.specs.Children.{behind}
 use Rattle.mitex_loops.proofs.Others.{Hopped, Hops, hop-end, hop-start, hops}
 use Rattle.mitex_loops.proofs.others_follow.Statement.{statement}
 use Rattle.mitex_loops.proofs.others_follow.Tie as tie

@@ -1,7 +1,7 @@
 -- `mitex_loops::put_attach_end` meets its contract: each state is computed.
 use mathlib.Core.Path.{ap, sym}
 use Rattle.text.proofs.Writing.{wrote-as, wrote-nil}
-use Rattle.mitex_state.specs.Children.{attachEnd}
+use Rattle.mitex_meaning.specs.Children.{attachEnd}
 use borrow.Author.Needs.{needs}
 use Rattle.mitex_loops.proofs.put_attach_end.Statement.{statement}
 use Rattle.mitex_loops.proofs.put_attach_end.Tie as tie

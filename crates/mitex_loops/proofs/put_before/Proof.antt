@@ -1,7 +1,7 @@
 -- `mitex_loops::put_before` meets its contract: each act is computed.
 use mathlib.Core.Path.{ap, sym}
 use Rattle.text.proofs.Writing.{wrote-as, wrote-nil}
-use Rattle.mitex_state.specs.Children.{before}
+use Rattle.mitex_meaning.specs.Children.{before}
 use borrow.Author.Needs.{needs}
 use Rattle.mitex_loops.proofs.put_before.Statement.{statement}
 use Rattle.mitex_loops.proofs.put_before.Tie as tie

@@ -1,7 +1,7 @@
 -- `mitex_loops::put_dollar_begin` meets its contract: each mode is computed.
 use mathlib.Core.Path.{ap, sym}
 use Rattle.text.proofs.Writing.{wrote-as, wrote-nil}
-use Rattle.mitex_state.specs.Texts.{dollarBegin}
+use Rattle.mitex_meaning.specs.Texts.{dollarBegin}
 use borrow.Author.Needs.{needs}
 use Rattle.mitex_loops.proofs.put_dollar_begin.Statement.{statement}
 use Rattle.mitex_loops.proofs.put_dollar_begin.Tie as tie

@@ -2,7 +2,7 @@
 use mathlib.Core.Path.{_∙_, ap, sym}
 use mathlib.Core.Bool.{false, true}
 use Rattle.text.proofs.Writing.{wrote-as, wrote-nil}
-use Rattle.mitex_state.specs.Texts.{formulaBegin}
+use Rattle.mitex_meaning.specs.Texts.{formulaBegin}
 use borrow.Author.Needs.{needs}
 use Rattle.mitex_loops.proofs.put_formula_begin.Statement.{statement}
 use Rattle.mitex_loops.proofs.put_formula_begin.Tie as tie

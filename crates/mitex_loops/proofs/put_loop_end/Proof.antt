@@ -1,7 +1,7 @@
 -- `mitex_loops::put_loop_end` meets its contract: each loop is computed.
 use mathlib.Core.Path.{ap, sym}
 use Rattle.text.proofs.Writing.{wrote-as, wrote-nil}
-use Rattle.mitex_state.specs.Children.{loopEnd}
+use Rattle.mitex_meaning.specs.Children.{loopEnd}
 use borrow.Author.Needs.{needs}
 use Rattle.mitex_loops.proofs.put_loop_end.Statement.{statement}
 use Rattle.mitex_loops.proofs.put_loop_end.Tie as tie

@@ -6,7 +6,7 @@ use lib.ListN.{drop}
 use Rattle.mitex_syntax.specs.Tree.{kindOf}
 use Rattle.mitex_syntax.specs.Views.{childrenOf, cmdName}
 use Rattle.mitex_syntax.proofs.Trees.{kind-spelt, rows-some}
-use Rattle.mitex_state.specs.Children.{isEnds}
+use Rattle.mitex_meaning.specs.Children.{isEnds}
 use Rattle.mitex_loops.proofs.Acting.{cell-in, cell-kind}
 use borrow.Author.Needs.{needs}
 use Rattle.mitex_loops.proofs.table_act.Statement.{statement}

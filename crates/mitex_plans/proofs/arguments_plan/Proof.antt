@@ -1,7 +1,7 @@
 -- `mitex_plans::arguments_plan` meets its contract: each way to walk the arguments is an arm's plan; `Commanding` has what they mean.
 use mathlib.Core.Path.{refl, ap, _∙_}
 use mathlib.Core.Bool.{true, false}
-use Rattle.mitex_state.specs.declared.Loop.the-variants.{Plain}
+use Rattle.mitex_meaning.specs.declared.Loop.the-variants.{Plain}
 use Rattle.mitex_plans.specs.Making.{planHere, greedyPlan}
 use Rattle.mitex_plans.specs.declared.End.the-variants.{Space}
 use Rattle.mitex_plans.specs.declared.ArgumentsPlan.the-variants.{Takes}

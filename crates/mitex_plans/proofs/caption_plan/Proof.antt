@@ -1,8 +1,8 @@
 -- `mitex_plans::caption_plan` meets its contract: by the caption that is told.
 use mathlib.Core.Path.{_≡_, refl, sym, ap, _∙_}
-use Rattle.mitex_state.specs.declared.Part.{Part}
-use Rattle.mitex_state.specs.declared.CaptionPart.{CaptionPart}
-use Rattle.mitex_state.specs.declared.Converter.{Converter}
+use Rattle.mitex_meaning.specs.declared.Part.{Part}
+use Rattle.mitex_meaning.specs.declared.CaptionPart.{CaptionPart}
+use Rattle.mitex_meaning.specs.declared.Converter.{Converter}
 use Rattle.mitex_plans.specs.Making.{noPart, captionIn, captionPlan}
 use Rattle.mitex_plans.specs.declared.End.the-variants.{Body}
 use Rattle.mitex_plans.specs.declared.Plan.{Plan}

@@ -1,6 +1,6 @@
 -- `mitex_plans::color_plans` meets its contract: black where nothing is left (`black-means`), otherwise
 -- the first element and the body behind it (`color-means`).
-use Rattle.mitex_state.specs.declared.LaTeXMode.the-variants.{Text}
+use Rattle.mitex_meaning.specs.declared.LaTeXMode.the-variants.{Text}
 use Rattle.mitex_plans.proofs.Wholes.{in-mode, both-as}
 use Rattle.mitex_plans.proofs.Commanding.{black-means, color-means, color-asks}
 use borrow.Author.Needs.{needs}

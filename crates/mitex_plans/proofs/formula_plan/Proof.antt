@@ -1,5 +1,5 @@
 -- `mitex_plans::formula_plan` meets its contract: `formula-means`.
-use Rattle.mitex_state.specs.declared.LaTeXMode.the-variants.{Math}
+use Rattle.mitex_meaning.specs.declared.LaTeXMode.the-variants.{Math}
 use Rattle.mitex_plans.proofs.Wholes.{in-mode, means-as}
 use Rattle.mitex_plans.proofs.Meaning.{formula-means}
 use borrow.Author.Needs.{needs}

@@ -2,7 +2,7 @@
 use mathlib.Core.Path.{sym, ap, _∙_}
 use mathlib.Core.Bool.{cond}
 use mathlib.Core.List.{[]}
-use Rattle.mitex_state.specs.Texts.{rightParen}
+use Rattle.mitex_meaning.specs.Texts.{rightParen}
 use borrow.Author.Needs.{needs}
 use Rattle.mitex_plans.proofs.lr_end.Statement.{statement}
 use Rattle.mitex_plans.proofs.lr_end.Tie as tie

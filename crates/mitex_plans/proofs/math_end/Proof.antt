@@ -1,7 +1,7 @@
 -- `mitex_plans::math_end` meets its contract: by the mode.
 use mathlib.Core.Path.{sym, ap}
 use mathlib.Core.List.{_++_}
-use Rattle.mitex_state.specs.Texts.{rightParen, dollarEnd}
+use Rattle.mitex_meaning.specs.Texts.{rightParen, dollarEnd}
 use borrow.Author.Needs.{needs}
 use Rattle.mitex_plans.proofs.math_end.Statement.{statement}
 use Rattle.mitex_plans.proofs.math_end.Tie as tie

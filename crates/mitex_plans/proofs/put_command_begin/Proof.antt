@@ -2,7 +2,7 @@
 use mathlib.Core.Path.{sym, ap, _∙_}
 use mathlib.Core.List.{_++_, append-nil}
 use Rattle.text.proofs.Writing.{wrote-then, wrote-as}
-use Rattle.mitex_state.specs.Commands.{typstName}
+use Rattle.mitex_meaning.specs.Commands.{typstName}
 use Rattle.mitex_plans.specs.Plans.{opening}
 use borrow.Author.Needs.{needs}
 use Rattle.mitex_plans.proofs.put_command_begin.Statement.{statement}

@@ -3,8 +3,8 @@ use mathlib.Core.Path.{_≡_, refl, sym, ap, _∙_}
 use mathlib.Core.List.{List, [], _++_, append-nil}
 use Prim.Native.Nat.{ℕ}
 use Rattle.text.proofs.Writing.{wrote-then, wrote-as}
-use Rattle.mitex_state.specs.Texts.{leftParen, hash}
-use Rattle.mitex_state.specs.declared.CaptionPart.{CaptionPart}
+use Rattle.mitex_meaning.specs.Texts.{leftParen, hash}
+use Rattle.mitex_meaning.specs.declared.CaptionPart.{CaptionPart}
 use Rattle.mitex_plans.specs.Plans.{captionText}
 use borrow.Author.Needs.{needs}
 use Rattle.mitex_plans.proofs.put_figure_begin.Statement.{statement}

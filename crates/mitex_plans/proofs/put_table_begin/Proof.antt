@@ -1,6 +1,6 @@
 -- `mitex_plans::put_table_begin` meets its contract: the call, and the head behind it.
 use Rattle.text.proofs.Writing.{wrote-then, wrote-as}
-use Rattle.mitex_state.specs.Tables.{tableHead}
+use Rattle.mitex_meaning.specs.Tables.{tableHead}
 use Rattle.mitex_plans.proofs.Meaning.{head-joined}
 use borrow.Author.Needs.{needs}
 use Rattle.mitex_plans.proofs.put_table_begin.Statement.{statement}

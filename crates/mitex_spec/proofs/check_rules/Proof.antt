@@ -1,5 +1,5 @@
--- Past the tests of lengths the file is `Whole`, and the loops decide (`checked-unfit`), fill the offsets (`begun-fit`) and the table (`checked-fit`).
-use Rattle.mitex_spec.proofs.RuleFile.{Whole}
+-- Past the tests of lengths the file is `RulesTrailed`, and the loops decide (`checked-unfit`), fill the offsets (`begun-fit`) and the table (`checked-fit`).
+use Rattle.mitex_spec.proofs.RuleFile.{RulesTrailed}
 use native.Mathlib.Omega.{arith}
 use mathlib.Core.Path.{sym}
 use borrow.Author.Tests.{not-true, not-false}
@@ -13,7 +13,7 @@ abbrev entry : tie.Else3 → tie.Start
 entry c = let a = c .before .before .before .before in a .before .before .before
 
 -- past the three tests of lengths
-whole : (c : tie.Else3) → Whole (entry c .args .file .now)
+whole : (c : tie.Else3) → RulesTrailed (entry c .args .file .now)
 whole c =
     let s = c .before .before .start-of .ensures .0 in
     let n = c .before .count-of .ensures .0 in
@@ -40,21 +40,6 @@ returns-2 c =
     let c₁ = c .before .before .before .before in
     checked-broken (c₁ .args .file .now) (c₁ .args .index .now) (λ w. omega (arith, w .most, c .if2 .taken))
 
-start-of-requires : tie.Need-start-of-requires
-start-of-requires c κs = search needs
-
-count-of-requires : tie.Need-count-of-requires
-count-of-requires c κs = search needs
-
-mul-if3 : tie.Need-mul-if3
-mul-if3 c = search needs
-
-add-if3 : tie.Need-add-if3
-add-if3 c = search needs
-
-add-if3-2 : tie.Need-add-if3-2
-add-if3-2 c = search needs
-
 returns-3 : tie.Need-returns-3
 returns-3 c =
     let c₁ = c .before in
@@ -62,26 +47,11 @@ returns-3 c =
     let c₃ = c₂ .before .before .before .before .before in
     checked-broken (c₃ .args .file .now) (c₃ .args .index .now) (λ w. c .if3 .taken (let s = c₂ .start-of .ensures .0 in let n = c₁ .count-of .ensures .0 in let e = w .sum in omega arith))
 
-sub-end : tie.Need-sub-end
-sub-end c = search needs
-
-sub-rules-fit : tie.Need-sub-rules-fit
-sub-rules-fit c = search needs
-
-part-rules-fit-start : tie.Need-part-rules-fit-start
-part-rules-fit-start c = search needs
-
-part-rules-fit-end : tie.Need-part-rules-fit-end
-part-rules-fit-end c = search needs
-
 slice-aggregate-rules-fit : tie.Need-slice-aggregate-rules-fit
 slice-aggregate-rules-fit c =
     let c₁ = c .before .before in
     let c₂ = c₁ .before .before in
     let w = whole c₁ in let e = w .sum in let s = c₂ .start-of .ensures .0 in sym (length-take-le _ _ (omega arith))
-
-rules-fit-requires : tie.Need-rules-fit-requires
-rules-fit-requires c κs = search needs
 
 returns-4 : tie.Need-returns-4
 returns-4 c =
@@ -91,26 +61,11 @@ returns-4 c =
     let c₄ = c₃ .before .before .before .before .before in
     checked-unfit (c₄ .args .file .now) (whole c₂) (c₃ .start-of .result) (c₃ .start-of .ensures .0) (c₄ .args .index .now) (c₁ .rules-fit .result) (c₁ .rules-fit .ensures) (not-true _ (c .if4 .taken))
 
-sub-fill-index : tie.Need-sub-fill-index
-sub-fill-index c = search needs
-
-part-fill-index-start : tie.Need-part-fill-index-start
-part-fill-index-start c = search needs
-
-part-fill-index-end : tie.Need-part-fill-index-end
-part-fill-index-end c = search needs
-
-fill-index-requires : tie.Need-fill-index-requires
-fill-index-requires c κs = search needs
-
 fill-firsts-requires : tie.Need-fill-firsts-requires
 fill-firsts-requires c κs =
     let filled = c .before .before .before in
     let known = tests filled .before .before .before .before .before .before .shared-slice-known .given in
     begun-numbered (begun filled) (λ i. omega (arith, known i)) (entry (tests filled) .pre)
-
-same-length : tie.Need-same-length
-same-length c = search needs
 
 returns-5 : tie.Need-returns-5
 returns-5 c =
@@ -123,23 +78,23 @@ check-rules-spec =
     (tie.spec
     returns
     returns-2
-    start-of-requires
-    count-of-requires
-    mul-if3
-    add-if3
-    add-if3-2
+    (λ c κs. search needs)
+    (λ c κs. search needs)
+    (λ c. search needs)
+    (λ c. search needs)
+    (λ c. search needs)
     returns-3
-    sub-end
-    sub-rules-fit
-    part-rules-fit-start
-    part-rules-fit-end
+    (λ c. search needs)
+    (λ c. search needs)
+    (λ c. search needs)
+    (λ c. search needs)
     slice-aggregate-rules-fit
-    rules-fit-requires
+    (λ c κs. search needs)
     returns-4
-    sub-fill-index
-    part-fill-index-start
-    part-fill-index-end
-    fill-index-requires
+    (λ c. search needs)
+    (λ c. search needs)
+    (λ c. search needs)
+    (λ c κs. search needs)
     fill-firsts-requires
-    same-length
+    (λ c. search needs)
     returns-5)

@@ -39,9 +39,6 @@ firsts-below-requires c κs =
     let inv = at .loop .inv .2 in
     (record { rules = s .rules; decodes = s .decodes; holds = inv (s .rules) (s .decodes) .holds }, λ rs e. inv rs e .low)
 
-add-store : tie.Need-add-store Inv-loop μ-loop
-add-store c = omega arith
-
 store-requires : tie.Need-store-requires Inv-loop μ-loop
 store-requires c κs =
     let at = c .before .before .before .before in
@@ -50,12 +47,6 @@ store-requires c κs =
     let n = few at (s .rules) (s .decodes) in
     let q = c .before .firsts-below .ensures (s .rules) (s .decodes) in
     omega arith
-
-add-b : tie.Need-add-b Inv-loop μ-loop
-add-b c = omega arith
-
-loop-less : tie.Need-loop-less Inv-loop μ-loop
-loop-less c = omega arith
 
 loop-again : tie.Need-loop-again Inv-loop μ-loop
 loop-again c =
@@ -84,10 +75,10 @@ fill-firsts-spec =
     μ-loop
     loop-holds
     firsts-below-requires
-    add-store
+    (λ c. omega arith)
     store-requires
-    add-b
-    loop-less
+    (λ c. omega arith)
+    (λ c. omega arith)
     loop-again
     same-length
     returns)

@@ -17,28 +17,10 @@ abbrev μ-loop : tie.MeasureT-loop
 loop-holds : tie.Need-loop-holds Inv-loop μ-loop
 loop-holds c = (omega arith, omega arith, refl, λ n e. filled-start n _ _ e)
 
-store-requires : tie.Need-store-requires Inv-loop μ-loop
-store-requires c κs = omega arith
-
 taken-requires : tie.Need-taken-requires Inv-loop μ-loop
 taken-requires c κs =
     let c₁ = c .before .before .before .before in
     c₁ .loop-test .taken
-
-add-at : tie.Need-add-at Inv-loop μ-loop
-add-at c = omega arith
-
-add-k : tie.Need-add-k Inv-loop μ-loop
-add-k c = omega arith
-
-sub-l : tie.Need-sub-l Inv-loop μ-loop
-sub-l c = omega arith
-
-part-l-start : tie.Need-part-l-start Inv-loop μ-loop
-part-l-start c = omega arith
-
-part-l-end : tie.Need-part-l-end Inv-loop μ-loop
-part-l-end c = omega arith
 
 loop-less : tie.Need-loop-less Inv-loop μ-loop
 loop-less c =
@@ -71,13 +53,13 @@ fill-index-spec =
     Inv-loop
     μ-loop
     loop-holds
-    store-requires
+    (λ c κs. omega arith)
     taken-requires
-    add-at
-    add-k
-    sub-l
-    part-l-start
-    part-l-end
+    (λ c. omega arith)
+    (λ c. omega arith)
+    (λ c. omega arith)
+    (λ c. omega arith)
+    (λ c. omega arith)
     loop-less
     loop-again
     same-length

@@ -48,9 +48,6 @@ name-at-requires c κs =
     let s = entry (c .before) .pre .0 in
     record { numbered = s; few = few c (s .rules) (s .decodes) }
 
-first-byte-requires : tie.Need-first-byte-requires Inv-loop μ-loop
-first-byte-requires c κs = search needs
-
 returns : tie.Need-returns Inv-loop μ-loop
 returns c =
     let turn = c .before .before .before in
@@ -61,12 +58,6 @@ returns c =
     let t = c .if1 .taken in
     let high = firsts-stop (entry (turn .before) .args .b) rs (loop .k) (few turn rs e) (omega arith) in
     omega arith
-
-add-k : tie.Need-add-k Inv-loop μ-loop
-add-k c = omega arith
-
-loop-less : tie.Need-loop-less Inv-loop μ-loop
-loop-less c = omega arith
 
 loop-again : tie.Need-loop-again Inv-loop μ-loop
 loop-again c =
@@ -95,9 +86,9 @@ firsts-below-spec =
     count-of-requires
     loop-holds
     name-at-requires
-    first-byte-requires
+    (λ c κs. search needs)
     returns
-    add-k
-    loop-less
+    (λ c. omega arith)
+    (λ c. omega arith)
     loop-again
     returns-2)

@@ -23,9 +23,6 @@ few c =
     let n = c .before .count-of .ensures .0 in
     record { numbered = ready-numbered s; few = omega arith }
 
-rank-requires : tie.Need-rank-requires
-rank-requires c κs = search needs
-
 count-of-requires : tie.Need-count-of-requires
 count-of-requires c κs =
     let c₁ = c .before .before .before .before in
@@ -43,9 +40,6 @@ returns c =
 
 name-at-requires : tie.Need-name-at-requires
 name-at-requires c κs = few (c)
-
-same-requires : tie.Need-same-requires
-same-requires c κs = search needs
 
 rule-at-requires : tie.Need-rule-at-requires
 rule-at-requires c κs = few (c .before .before .before)
@@ -81,11 +75,11 @@ pub get-spec : {M : Type 1} → statement M
 get-spec =
     tie.close
     (tie.spec
-    rank-requires
+    (λ c κs. search needs)
     count-of-requires
     returns
     name-at-requires
-    same-requires
+    (λ c κs. search needs)
     rule-at-requires
     returns-2
     returns-3)

@@ -16,9 +16,6 @@ mul-wide-u32 c = let h = here (c .before) in let r = h .row-end in let m = h .mo
 shared-slice-read-wide-u32 : tie.Need-shared-slice-read-wide-u32
 shared-slice-read-wide-u32 c = here (c .before .before) .room
 
-wide-u32-requires : tie.Need-wide-u32-requires
-wide-u32-requires c κs = search needs
-
 start-of-requires : tie.Need-start-of-requires
 start-of-requires c κs = let h = here (c .before .before .before) in let r = h .row-end in omega arith
 
@@ -36,15 +33,6 @@ read-u16-requires : tie.Need-read-u16-requires
 read-u16-requires c κs =
     let c₁ = c .before .before .before .before in
     let h = here c₁ in let r = h .row-end in let m = h .most in let q = c .start-of .ensures .0 in omega arith
-
-add-end : tie.Need-add-end
-add-end c = search needs
-
-sub-result : tie.Need-sub-result
-sub-result c = search needs
-
-part-result-start : tie.Need-part-result-start
-part-result-start c = search needs
 
 part-result-end : tie.Need-part-result-end
 part-result-end c =
@@ -68,13 +56,13 @@ name-at-spec =
     (tie.spec
     mul-wide-u32
     shared-slice-read-wide-u32
-    wide-u32-requires
+    (λ c κs. search needs)
     start-of-requires
     mul-row
     add-row
     read-u16-requires
-    add-end
-    sub-result
-    part-result-start
+    (λ c. search needs)
+    (λ c. search needs)
+    (λ c. search needs)
     part-result-end
     returns)

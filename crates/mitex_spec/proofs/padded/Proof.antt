@@ -8,14 +8,8 @@ use borrow.Author.Needs.{needs}
 use Rattle.mitex_spec.proofs.padded.Statement.{statement}
 use Rattle.mitex_spec.proofs.padded.Tie as tie
 
-shared-slice-read-if1 : tie.Need-shared-slice-read-if1
-shared-slice-read-if1 c = search needs
-
 returns : tie.Need-returns
 returns c = let rows = c .before .before .args .rows .now in and-first (eqb (getD rows 5 0) 0) _ (ne-eqb (getD rows 5 0) 0 (c .if1 .taken))
-
-shared-slice-read-if2 : tie.Need-shared-slice-read-if2
-shared-slice-read-if2 c = search needs
 
 returns-2 : tie.Need-returns-2
 returns-2 c =
@@ -23,9 +17,6 @@ returns-2 c =
     let c₂ = c₁ .before .before in
     let rows = c₂ .args .rows .now in
     and-later (eqb (getD rows 5 0) 0) _ _ (eq-eqb (getD rows 5 0) 0 (c₁ .if1 .left)) (and-first (eqb (getD rows 6 0) 0) _ (ne-eqb (getD rows 6 0) 0 (c .if2 .taken)))
-
-shared-slice-read-result : tie.Need-shared-slice-read-result
-shared-slice-read-result c = search needs
 
 returns-3 : tie.Need-returns-3
 returns-3 c =
@@ -39,9 +30,9 @@ pub padded-spec : {M : Type 1} → statement M
 padded-spec =
     tie.close
     (tie.spec
-    shared-slice-read-if1
+    (λ c. search needs)
     returns
-    shared-slice-read-if2
+    (λ c. search needs)
     returns-2
-    shared-slice-read-result
+    (λ c. search needs)
     returns-3)

@@ -49,35 +49,11 @@ tested c b t rs e =
     let a = entry (first (c .before .before .before)) .args in
     ap (λ x. precedes x (a .name .now)) (sym (c .before .name-at .ensures rs e)) ∙ sym (c .precedes .ensures) ∙ t
 
-first-byte-requires : tie.Need-first-byte-requires Inv-loop μ-loop
-first-byte-requires c κs = search needs
-
-add-wide-u32 : tie.Need-add-wide-u32 Inv-loop μ-loop
-add-wide-u32 c = omega arith
-
-mul-wide-u32 : tie.Need-mul-wide-u32 Inv-loop μ-loop
-mul-wide-u32 c = omega arith
-
 shared-slice-read-wide-u32 : tie.Need-shared-slice-read-wide-u32 Inv-loop μ-loop
 shared-slice-read-wide-u32 c = let r = room (c .before) in omega arith
 
-wide-u32-requires : tie.Need-wide-u32-requires Inv-loop μ-loop
-wide-u32-requires c κs = search needs
-
-add-wide-u32-2 : tie.Need-add-wide-u32-2 Inv-loop μ-loop
-add-wide-u32-2 c = omega arith
-
-add-wide-u32-3 : tie.Need-add-wide-u32-3 Inv-loop μ-loop
-add-wide-u32-3 c = omega arith
-
-mul-wide-u32-2 : tie.Need-mul-wide-u32-2 Inv-loop μ-loop
-mul-wide-u32-2 c = omega arith
-
 shared-slice-read-wide-u32-2 : tie.Need-shared-slice-read-wide-u32-2 Inv-loop μ-loop
 shared-slice-read-wide-u32-2 c = let r = room (c .before .before .before) in omega arith
-
-wide-u32-requires-2 : tie.Need-wide-u32-requires-2 Inv-loop μ-loop
-wide-u32-requires-2 c κs = search needs
 
 loop-holds : tie.Need-loop-holds Inv-loop μ-loop
 loop-holds c =
@@ -94,26 +70,11 @@ loop-holds c =
     let h = b .1 in
     (omega arith, high .ensures .1, between)
 
-sub-middle : tie.Need-sub-middle Inv-loop μ-loop
-sub-middle c = omega arith
-
-add-middle : tie.Need-add-middle Inv-loop μ-loop
-add-middle c = omega arith
-
 name-at-requires : tie.Need-name-at-requires Inv-loop μ-loop
 name-at-requires c κs =
     let s = entry (first (c .before)) .pre in
     let h = c .before .loop .inv .2 (s .rules) (s .ready .decodes) .2 in
     record { numbered = ready-numbered s; few = omega arith }
-
-precedes-requires : tie.Need-precedes-requires Inv-loop μ-loop
-precedes-requires c κs = search needs
-
-add-low : tie.Need-add-low Inv-loop μ-loop
-add-low c = omega arith
-
-loop-less : tie.Need-loop-less Inv-loop μ-loop
-loop-less c = omega arith
 
 loop-again : tie.Need-loop-again Inv-loop μ-loop
 loop-again c =
@@ -130,9 +91,6 @@ loop-again c =
           let d = file-rules (start .args .file .now) rs (λ i. omega (arith, known i)) e in
           (rank-high rs (start .args .name .now) (middle at) (d .rise) (omega arith) (tested (c .before) _ (c .if1 .taken) rs e), r .1, top),
     )
-
-loop-less-2 : tie.Need-loop-less-2 Inv-loop μ-loop
-loop-less-2 c = omega arith
 
 loop-again-2 : tie.Need-loop-again-2 Inv-loop μ-loop
 loop-again-2 c =
@@ -156,24 +114,24 @@ rank-spec =
     (tie.spec
     Inv-loop
     μ-loop
-    first-byte-requires
-    add-wide-u32
-    mul-wide-u32
+    (λ c κs. search needs)
+    (λ c. omega arith)
+    (λ c. omega arith)
     shared-slice-read-wide-u32
-    wide-u32-requires
-    add-wide-u32-2
-    add-wide-u32-3
-    mul-wide-u32-2
+    (λ c κs. search needs)
+    (λ c. omega arith)
+    (λ c. omega arith)
+    (λ c. omega arith)
     shared-slice-read-wide-u32-2
-    wide-u32-requires-2
+    (λ c κs. search needs)
     loop-holds
-    sub-middle
-    add-middle
+    (λ c. omega arith)
+    (λ c. omega arith)
     name-at-requires
-    precedes-requires
-    add-low
-    loop-less
+    (λ c κs. search needs)
+    (λ c. omega arith)
+    (λ c. omega arith)
     loop-again
-    loop-less-2
+    (λ c. omega arith)
     loop-again-2
     returns)

@@ -12,26 +12,17 @@ use borrow.Author.Needs.{needs}
 use Rattle.mitex_spec.proofs.row_fits.Statement.{statement}
 use Rattle.mitex_spec.proofs.row_fits.Tie as tie
 
-padded-requires : tie.Need-padded-requires
-padded-requires c κs = search needs
-
 returns : tie.Need-returns
 returns c =
     let c₁ = c .before in
     let c₂ = c₁ .before .before .before in
     row-not (c₂ .args .rows .now) (c₂ .args .text .now) (λ f. true≢false (sym (f .pad) ∙ sym (c₁ .padded .ensures) ∙ not-true _ (c .if1 .taken)))
 
-taken-requires : tie.Need-taken-requires
-taken-requires c κs = search needs
-
 returns-2 : tie.Need-returns-2
 returns-2 c =
     let c₁ = c .before in
     let c₂ = c₁ .before .before .before .before .before in
     row-not (c₂ .args .rows .now) (c₂ .args .text .now) (λ f. omega (arith, f .room, c₁ .taken .ensures .0, c .if2 .taken))
-
-shared-slice-read-if3 : tie.Need-shared-slice-read-if3
-shared-slice-read-if3 c = search needs
 
 returns-3 : tie.Need-returns-3
 returns-3 c =
@@ -49,18 +40,12 @@ returns-4 c =
     let c₆ = c₅ .before .before .before in
     row-plain (c₆ .args .rows .now) (c₆ .args .text .now) (sym (c₅ .padded .ensures) ∙ not-false _ (c₄ .if1 .left)) (omega (arith, c₃ .taken .ensures .0, c₂ .if2 .left)) (c₁ .if3 .left) (c₆ .pre .1 (c .if4 .taken))
 
-read-u16-requires : tie.Need-read-u16-requires
-read-u16-requires c κs = search needs
-
 slice-aggregate-valid : tie.Need-slice-aggregate-valid
 slice-aggregate-valid c =
     let c₁ = c .before in
     let c₂ = c₁ .before .before .before .before in
     let c₃ = c₂ .before in
     sym (length-take-le _ _ (omega (arith, c₁ .read-u16 .ensures .0, c₃ .taken .ensures .0, c₂ .if2 .left)))
-
-valid-requires : tie.Need-valid-requires
-valid-requires c κs = search needs
 
 returns-5 : tie.Need-returns-5
 returns-5 c =
@@ -69,18 +54,6 @@ returns-5 c =
     let c₃ = c₂ .before .before .before .before .before .before in
     let c₄ = c₃ .before .before .before .before in
     row-not (c₄ .args .rows .now) (c₄ .args .text .now) (λ f. true≢false (sym (f .name) ∙ ap (λ k. valid (take k (c₄ .args .text .now))) (sym (c₂ .read-u16 .ensures .0)) ∙ sym (c₁ .valid .ensures) ∙ not-true _ (c .if5 .taken)))
-
-sub-valid : tie.Need-sub-valid
-sub-valid c = search needs
-
-part-valid-start : tie.Need-part-valid-start
-part-valid-start c = search needs
-
-part-valid-end : tie.Need-part-valid-end
-part-valid-end c = search needs
-
-valid-requires-2 : tie.Need-valid-requires-2
-valid-requires-2 c κs = search needs
 
 returns-6 : tie.Need-returns-6
 returns-6 c =
@@ -99,19 +72,19 @@ pub row-fits-spec : {M : Type 1} → statement M
 row-fits-spec =
     tie.close
     (tie.spec
-    padded-requires
+    (λ c κs. search needs)
     returns
-    taken-requires
+    (λ c κs. search needs)
     returns-2
-    shared-slice-read-if3
+    (λ c. search needs)
     returns-3
     returns-4
-    read-u16-requires
+    (λ c κs. search needs)
     slice-aggregate-valid
-    valid-requires
+    (λ c κs. search needs)
     returns-5
-    sub-valid
-    part-valid-start
-    part-valid-end
-    valid-requires-2
+    (λ c. search needs)
+    (λ c. search needs)
+    (λ c. search needs)
+    (λ c κs. search needs)
     returns-6)

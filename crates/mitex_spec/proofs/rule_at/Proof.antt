@@ -51,17 +51,11 @@ shared-slice-read-wide-u32 c =
     let c₂ = c₁ .before in
     here c₂ .room
 
-wide-u32-requires : tie.Need-wide-u32-requires
-wide-u32-requires c κs = search needs
-
 read-u16-requires-2 : tie.Need-read-u16-requires-2
 read-u16-requires-2 c κs =
     let c₁ = c .before .before .before .before .before in
     let c₂ = c₁ .before .before in
     let h = here c₂ in let r = h .row-end in let q = c₁ .start-of .ensures .0 in omega arith
-
-add-at : tie.Need-add-at
-add-at c = search needs
 
 returns-2 : tie.Need-returns-2
 returns-2 c =
@@ -87,7 +81,7 @@ rule-at-spec =
     returns
     mul-wide-u32
     shared-slice-read-wide-u32
-    wide-u32-requires
+    (λ c κs. search needs)
     read-u16-requires-2
-    add-at
+    (λ c. search needs)
     returns-2)

@@ -1,10 +1,10 @@
--- The invariant is `Left`: the answer for all rows is that for the rows that are left, after the last name; and what is left of
+-- The invariant is `RulesLeft`: the answer for all rows is that for the rows that are left, after the last name; and what is left of
 -- a text whose characters have one byte each is such a text. The rows left fall.
 use Prim.Native.Nat.{_≤_, ℕ, _*_}
 use Rattle.text.proofs.Writing.{part-rest, rest-length}
 use Rattle.utf8.specs.Utf8.{oneByteEach}
 use Rattle.utf8.proofs.Texts.{one-drop}
-use Rattle.mitex_spec.specs.RuleFile.{rowFits, taken}
+use Rattle.mitex_spec.specs.RuleFile.{ruleRowFits, taken}
 use mathlib.Core.Bool.{true}
 use Rattle.mitex_spec.proofs.RuleFile.{row-says}
 use native.Mathlib.Omega.{arith}
@@ -13,28 +13,22 @@ use mathlib.Core.Path.{_≡_, sym, ap, _∙_}
 use borrow.Author.Tests.{not-true, not-false}
 use lib.ListN.{length}
 use lib.Seq.{length-take-le}
-use Rattle.mitex_spec.proofs.Checking.{Left, left-start, left-unfit, left-falls, left-next, left-end}
+use Rattle.mitex_spec.proofs.Checking.{RulesLeft, left-start, left-unfit, left-falls, left-next, left-end}
 use Rattle.mitex_spec.proofs.rules_fit.Statement.{statement}
 use Rattle.mitex_spec.proofs.rules_fit.Tie as tie
 
 abbrev Inv-loop : tie.InvT-loop
-Inv-loop rows text plain l₀ t₀ last₀ first₀ l t last first = (plain ≡ true → oneByteEach t ≡ true) × ((n : ℕ) → length rows ≡ 8 * n → Left n rows text first last l t)
+Inv-loop rows text plain l₀ t₀ last₀ first₀ l t last first = (plain ≡ true → oneByteEach t ≡ true) × ((n : ℕ) → length rows ≡ 8 * n → RulesLeft n rows text first last l t)
 
 abbrev μ-loop : tie.MeasureT-loop
 μ-loop rows text plain l₀ t₀ last₀ first₀ l t last first = length l
 
 -- in a turn the first row fits
-fit-true : (c : tie.Else1 Inv-loop μ-loop) → rowFits (c .before .before .before .loop .l .now) (c .before .before .before .loop .t .now) ≡ true
+fit-true : (c : tie.Else1 Inv-loop μ-loop) → ruleRowFits (c .before .before .before .loop .l .now) (c .before .before .before .loop .t .now) ≡ true
 fit-true c = sym (c .before .row-fits .ensures) ∙ not-false _ (c .if1 .left)
 
 room : (c : tie.Else1 Inv-loop μ-loop) → taken (c .before .before .before .loop .l .now) ≤ length (c .before .before .before .loop .t .now)
 room c = row-says _ _ (fit-true c) .room
-
-one-byte-each-requires : tie.Need-one-byte-each-requires Inv-loop μ-loop
-one-byte-each-requires c κs = search needs
-
-slice-aggregate-last : tie.Need-slice-aggregate-last Inv-loop μ-loop
-slice-aggregate-last c = search needs
 
 loop-holds : tie.Need-loop-holds Inv-loop μ-loop
 loop-holds c = (λ e. sym (c .before .one-byte-each .ensures) ∙ e, λ n e. left-start n _ _ _ e)
@@ -45,14 +39,8 @@ row-fits-requires c κs = (c .loop-test .taken, c .before .loop .inv .0)
 returns : tie.Need-returns Inv-loop μ-loop
 returns c = λ n e. left-unfit (c .before .before .before .loop .inv .1 n e) (c .before .before .loop-test .taken) (sym (c .before .row-fits .ensures) ∙ not-true _ (c .if1 .taken))
 
-read-u16-requires : tie.Need-read-u16-requires Inv-loop μ-loop
-read-u16-requires c κs = omega arith
-
 slice-aggregate-follows : tie.Need-slice-aggregate-follows Inv-loop μ-loop
 slice-aggregate-follows c = let f = room (c .before .before) in let n = c .before .read-u16 .ensures .0 in sym (length-take-le _ _ (omega arith))
-
-follows-requires : tie.Need-follows-requires Inv-loop μ-loop
-follows-requires c κs = search needs
 
 returns-2 : tie.Need-returns-2 Inv-loop μ-loop
 returns-2 c =
@@ -93,15 +81,6 @@ part-t-end c =
     let c₂ = c₁ .before .before .before .before .before in
     let f = room c₂ in let n = c₁ .taken .ensures .0 in omega arith
 
-sub-l : tie.Need-sub-l Inv-loop μ-loop
-sub-l c = omega arith
-
-part-l-start : tie.Need-part-l-start Inv-loop μ-loop
-part-l-start c = omega arith
-
-part-l-end : tie.Need-part-l-end Inv-loop μ-loop
-part-l-end c = omega arith
-
 loop-less : tie.Need-loop-less Inv-loop μ-loop
 loop-less c =
     let c₁ = c .before .before .before .before .before in
@@ -134,23 +113,23 @@ rules-fit-spec =
     (tie.spec
     Inv-loop
     μ-loop
-    one-byte-each-requires
-    slice-aggregate-last
+    (λ c κs. search needs)
+    (λ c. search needs)
     loop-holds
     row-fits-requires
     returns
-    read-u16-requires
+    (λ c κs. omega arith)
     slice-aggregate-follows
-    follows-requires
+    (λ c κs. search needs)
     returns-2
     taken-requires
     slice-aggregate-last-2
     sub-t
     part-t-start
     part-t-end
-    sub-l
-    part-l-start
-    part-l-end
+    (λ c. omega arith)
+    (λ c. omega arith)
+    (λ c. omega arith)
     loop-less
     loop-again
     returns-3)

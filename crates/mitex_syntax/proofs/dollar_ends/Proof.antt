@@ -7,26 +7,8 @@ use borrow.Author.Needs.{needs}
 use Rattle.mitex_syntax.proofs.dollar_ends.Statement.{statement}
 use Rattle.mitex_syntax.proofs.dollar_ends.Tie as tie
 
-slice-aggregate-is-pair : tie.Need-slice-aggregate-is-pair
-slice-aggregate-is-pair c = search needs
-
-slice-aggregate-is-pair-2 : tie.Need-slice-aggregate-is-pair-2
-slice-aggregate-is-pair-2 c = search needs
-
-is-pair-requires : tie.Need-is-pair-requires
-is-pair-requires c κs = search needs
-
 returns : tie.Need-returns
 returns c = λ f first last. or-then _ (isPair TokenDollar (ascii "$$") TokenDollar (ascii "$$") f) (c .before .is-pair .ensures f first last) (c .if1 .taken)
-
-slice-aggregate-is-pair-3 : tie.Need-slice-aggregate-is-pair-3
-slice-aggregate-is-pair-3 c = search needs
-
-slice-aggregate-is-pair-4 : tie.Need-slice-aggregate-is-pair-4
-slice-aggregate-is-pair-4 c = search needs
-
-is-pair-requires-2 : tie.Need-is-pair-requires-2
-is-pair-requires-2 c κs = search needs
 
 returns-2 : tie.Need-returns-2
 returns-2 c =
@@ -37,11 +19,11 @@ pub dollar-ends-spec : {M : Type 1} → statement M
 dollar-ends-spec =
     tie.close
     (tie.spec
-    slice-aggregate-is-pair
-    slice-aggregate-is-pair-2
-    is-pair-requires
+    (λ c. search needs)
+    (λ c. search needs)
+    (λ c κs. search needs)
     returns
-    slice-aggregate-is-pair-3
-    slice-aggregate-is-pair-4
-    is-pair-requires-2
+    (λ c. search needs)
+    (λ c. search needs)
+    (λ c κs. search needs)
     returns-2)

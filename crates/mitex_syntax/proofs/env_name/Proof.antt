@@ -7,7 +7,7 @@ use Rattle.mitex_syntax.specs.Syntax.{ItemBegin}
 use Rattle.mitex_syntax.specs.Tree.{Tree, Forest}
 use Rattle.mitex_syntax.specs.Views.{isOf, childrenOf, childrenIn, firstToken, firstTokens, textIn}
 use Rattle.mitex_syntax.specs.Spells.{Begins}
-use Rattle.mitex_syntax.specs.Places.{Stands}
+use Rattle.mitex_syntax.specs.Places.{FirstAt}
 use Rattle.mitex_syntax.proofs.Places.{stands, nowhere, found-children, found-some, children-found}
 use borrow.Author.Needs.{needs}
 use Rattle.mitex_syntax.proofs.env_name.Statement.{statement}
@@ -20,33 +20,15 @@ start c = c .before .before .before .before .before
 begun :
     (c : tie.After-row) (f : Forest) → Begins f (start c .args .rows .now) (start c .args .text .now)
     → let g = c .row .given .0 in
-    Stands (isOf ItemBegin) f (start c .args .rows .now) (start c .args .text .now) 0 (g .0) (g .1 .0) (g .1 .1 .0) (g .1 .1 .1 .0)
+    FirstAt (isOf ItemBegin) f (start c .args .rows .now) (start c .args .text .now) 0 (g .0) (g .1 .0) (g .1 .1 .0) (g .1 .1 .1 .0)
 begun c f sp = stands (c .before .before .begin .ensures f sp) (c .row .given .1)
 
 abbrev here :
     (c : tie.After-row)
     → let g = c .row .given .0 in
-    Stands (isOf ItemBegin) (start c .pre .forest) (start c .args .rows .now) (start c .args .text .now) 0 (g .0) (g .1 .0) (g .1 .1 .0)
+    FirstAt (isOf ItemBegin) (start c .pre .forest) (start c .args .rows .now) (start c .args .text .now) 0 (g .0) (g .1 .0) (g .1 .1 .0)
     (g .1 .1 .1 .0)
 here c = begun c (start c .pre .forest) (start c .pre .begins)
-
-begin-requires : tie.Need-begin-requires
-begin-requires c κs = search needs
-
-enum-told : tie.Need-enum-told
-enum-told c = search needs
-
-sub-result : tie.Need-sub-result
-sub-result c = search needs
-
-part-result-start : tie.Need-part-result-start
-part-result-start c = search needs
-
-part-result-end : tie.Need-part-result-end
-part-result-end c = search needs
-
-enum-known-row : tie.Need-enum-known-row
-enum-known-row c = search needs
 
 sub-s : tie.Need-sub-s
 sub-s c = let z = here (c .before) .some-text in omega arith
@@ -95,12 +77,12 @@ pub env-name-spec : {M : Type 1} → statement M
 env-name-spec =
     tie.close
     (tie.spec
-    begin-requires
-    enum-told
-    sub-result
-    part-result-start
-    part-result-end
-    enum-known-row
+    (λ c κs. search needs)
+    (λ c. search needs)
+    (λ c. search needs)
+    (λ c. search needs)
+    (λ c. search needs)
+    (λ c. search needs)
     sub-s
     part-s-start
     part-s-end

@@ -52,12 +52,6 @@ add-end c = let k = kid (c .before) in let z = k .end in omega arith
 add-to : tie.Need-add-to Inv-loop μ-loop
 add-to c = let k = kid (c .before .before) in let z = k .stop in omega arith
 
-sub-is-wanted : tie.Need-sub-is-wanted Inv-loop μ-loop
-sub-is-wanted c = omega arith
-
-part-is-wanted-start : tie.Need-part-is-wanted-start Inv-loop μ-loop
-part-is-wanted-start c = omega arith
-
 part-is-wanted-end : tie.Need-part-is-wanted-end Inv-loop μ-loop
 part-is-wanted-end c = let k = kid (c .before .before) in let z = k .end in omega arith
 
@@ -102,8 +96,8 @@ find-spec =
     span-at-requires
     add-end
     add-to
-    sub-is-wanted
-    part-is-wanted-start
+    (λ c. omega arith)
+    (λ c. omega arith)
     part-is-wanted-end
     is-wanted-requires
     returns

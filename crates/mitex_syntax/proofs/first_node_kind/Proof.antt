@@ -28,9 +28,6 @@ add-if1 c = omega (arith, eight c)
 shared-slice-read-if1 : tie.Need-shared-slice-read-if1 Inv-loop μ-loop
 shared-slice-read-if1 c = omega (arith, eight (c .before))
 
-shared-slice-read-result : tie.Need-shared-slice-read-result Inv-loop μ-loop
-shared-slice-read-result c = omega arith
-
 returns : tie.Need-returns Inv-loop μ-loop
 returns c = λ f e. nodes-found (c .before .before .before .before .loop .inv .1 f e) (c .before .before .before .loop-test .taken) (c .before .if1 .taken)
 
@@ -55,7 +52,7 @@ first-node-kind-spec =
     loop-holds
     add-if1
     shared-slice-read-if1
-    shared-slice-read-result
+    (λ c. omega arith)
     returns
     add-i
     loop-less

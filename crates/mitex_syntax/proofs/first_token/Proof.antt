@@ -32,15 +32,6 @@ whole c =
 loop-holds : tie.Need-loop-holds Inv-loop μ-loop
 loop-holds c = (c .before .before .pre .few, λ f sp. first-start f _ _ sp)
 
-number-requires : tie.Need-number-requires Inv-loop μ-loop
-number-requires c κs = omega arith
-
-shared-slice-read-if1 : tie.Need-shared-slice-read-if1 Inv-loop μ-loop
-shared-slice-read-if1 c = omega arith
-
-shared-slice-read-t10 : tie.Need-shared-slice-read-t10 Inv-loop μ-loop
-shared-slice-read-t10 c = omega arith
-
 returns : tie.Need-returns Inv-loop μ-loop
 returns c =
     let n = c .before .before .before in
@@ -53,12 +44,6 @@ mul-l c = omega (arith, whole c)
 
 add-l : tie.Need-add-l Inv-loop μ-loop
 add-l c = omega (arith, whole c)
-
-sub-l : tie.Need-sub-l Inv-loop μ-loop
-sub-l c = omega arith
-
-part-l-start : tie.Need-part-l-start Inv-loop μ-loop
-part-l-start c = omega arith
 
 part-l-end : tie.Need-part-l-end Inv-loop μ-loop
 part-l-end c = omega (arith, whole c)
@@ -86,14 +71,14 @@ first-token-spec =
     Inv-loop
     μ-loop
     loop-holds
-    number-requires
-    shared-slice-read-if1
-    shared-slice-read-t10
+    (λ c κs. omega arith)
+    (λ c. omega arith)
+    (λ c. omega arith)
     returns
     mul-l
     add-l
-    sub-l
-    part-l-start
+    (λ c. omega arith)
+    (λ c. omega arith)
     part-l-end
     loop-less
     loop-again

@@ -20,9 +20,6 @@ sub-first-node-kind c = omega (arith, eight (c .before .before .before))
 part-first-node-kind-start : tie.Need-part-first-node-kind-start
 part-first-node-kind-start c = omega (arith, eight (c .before .before .before))
 
-part-first-node-kind-end : tie.Need-part-first-node-kind-end
-part-first-node-kind-end c = search needs
-
 first-node-kind-requires : tie.Need-first-node-kind-requires
 first-node-kind-requires c κs =
     let pre = c .before .before .before .before .pre in
@@ -44,7 +41,7 @@ is-argument-with-spec =
     shared-slice-read-if1
     sub-first-node-kind
     part-first-node-kind-start
-    part-first-node-kind-end
+    (λ c. search needs)
     first-node-kind-requires
     returns
     returns-2)

@@ -17,12 +17,6 @@ inside :
     → (c .first-token .result .from ≤ c .first-token .result .to) × (c .first-token .result .to ≤ length (start c .args .text .now))
 inside c = let pre = start c .pre in let is = c .first-token .ensures (pre .forest) (pre .begins) in (is .some, is .stop)
 
-first-token-requires : tie.Need-first-token-requires
-first-token-requires c κs = search needs
-
-slice-aggregate-is-token-of : tie.Need-slice-aggregate-is-token-of
-slice-aggregate-is-token-of c = search needs
-
 is-token-of-requires : tie.Need-is-token-of-requires
 is-token-of-requires c κs = inside (c .before)
 
@@ -32,9 +26,6 @@ returns c =
     let first = test .before .before .first-token in
     λ f sp. or-then _ (isTokenOf TokenBeginMath (ascii "\\(") (firstTokens f)) (test .is-token-of .ensures (firstTokens f) (first .ensures f sp))
     (c .if1 .taken)
-
-slice-aggregate-is-token-of-2 : tie.Need-slice-aggregate-is-token-of-2
-slice-aggregate-is-token-of-2 c = search needs
 
 is-token-of-requires-2 : tie.Need-is-token-of-requires-2
 is-token-of-requires-2 c κs = inside (c .before .before .before .before)
@@ -51,10 +42,10 @@ pub is-inline-spec : {M : Type 1} → statement M
 is-inline-spec =
     tie.close
     (tie.spec
-    first-token-requires
-    slice-aggregate-is-token-of
+    (λ c κs. search needs)
+    (λ c. search needs)
     is-token-of-requires
     returns
-    slice-aggregate-is-token-of-2
+    (λ c. search needs)
     is-token-of-requires-2
     returns-2)

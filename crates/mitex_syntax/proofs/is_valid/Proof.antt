@@ -18,12 +18,6 @@ inside c =
     let last = c .last-token .ensures (pre .forest) (pre .begins) in
     ((first .some, first .stop), (last .some, last .stop))
 
-first-token-requires : tie.Need-first-token-requires
-first-token-requires c κs = search needs
-
-last-token-requires : tie.Need-last-token-requires
-last-token-requires c κs = search needs
-
 dollar-ends-requires : tie.Need-dollar-ends-requires
 dollar-ends-requires c κs = inside c
 
@@ -50,8 +44,8 @@ pub is-valid-spec : {M : Type 1} → statement M
 is-valid-spec =
     tie.close
     (tie.spec
-    first-token-requires
-    last-token-requires
+    (λ c κs. search needs)
+    (λ c κs. search needs)
     dollar-ends-requires
     returns
     math-ends-requires

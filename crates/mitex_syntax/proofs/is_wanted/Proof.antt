@@ -14,38 +14,17 @@ use Rattle.mitex_syntax.proofs.is_wanted.Tie as tie
 eight : (c : tie.Start) → 8 ≤ length (c .args .rows .now)
 eight c = rows-eight (c .pre .tree) _ (c .pre .rows-are)
 
-enum-known-wanted : tie.Need-enum-known-wanted
-enum-known-wanted c = search needs
-
 shared-slice-read-result : tie.Need-shared-slice-read-result
 shared-slice-read-result c = omega (arith, eight (c .before .before .before .before .before))
-
-enum-told : tie.Need-enum-told
-enum-told c = search needs
 
 shared-slice-read-result-2 : tie.Need-shared-slice-read-result-2
 shared-slice-read-result-2 c = omega (arith, eight (c .before .before .before .before))
 
-enum-known-wanted-2 : tie.Need-enum-known-wanted-2
-enum-known-wanted-2 c = search needs
-
-is-argument-with-requires : tie.Need-is-argument-with-requires
-is-argument-with-requires c κs = search needs
-
-enum-known-wanted-3 : tie.Need-enum-known-wanted-3
-enum-known-wanted-3 c = search needs
-
 shared-slice-read-result-3 : tie.Need-shared-slice-read-result-3
 shared-slice-read-result-3 c = omega (arith, eight (c .before .before .before .before .before))
 
-enum-told-2 : tie.Need-enum-told-2
-enum-told-2 c = search needs
-
 shared-slice-read-is-trivia : tie.Need-shared-slice-read-is-trivia
 shared-slice-read-is-trivia c = omega (arith, eight (c .before .before .before .before))
-
-is-trivia-requires : tie.Need-is-trivia-requires
-is-trivia-requires c κs = search needs
 
 returns : tie.Need-returns
 returns c = λ t e. wanted-kind t _ e _ ∙ ap (λ (w : Wanted). picks w t) (sym (c .before .before .wanted .given .1))
@@ -67,17 +46,17 @@ pub is-wanted-spec : {M : Type 1} → statement M
 is-wanted-spec =
     tie.close
     (tie.spec
-    enum-known-wanted
+    (λ c. search needs)
     shared-slice-read-result
-    enum-told
+    (λ c. search needs)
     shared-slice-read-result-2
-    enum-known-wanted-2
-    is-argument-with-requires
-    enum-known-wanted-3
+    (λ c. search needs)
+    (λ c κs. search needs)
+    (λ c. search needs)
     shared-slice-read-result-3
-    enum-told-2
+    (λ c. search needs)
     shared-slice-read-is-trivia
-    is-trivia-requires
+    (λ c κs. search needs)
     returns
     returns-2
     returns-3

@@ -8,7 +8,7 @@ use native.Mathlib.Omega.{arith}
 use Rattle.mitex_syntax.specs.Tree.{Forest}
 use Rattle.mitex_syntax.specs.Spells.{Begins}
 use Rattle.mitex_syntax.proofs.Trees.{spans}
-use Rattle.mitex_syntax.proofs.Tokens.{Lasts, Steps, last-start, last-element, last-found, last-bare, last-next, last-none, no-token}
+use Rattle.mitex_syntax.proofs.Tokens.{Lasts, LastSteps, last-start, last-element, last-found, last-bare, last-next, last-none, no-token}
 use Rattle.mitex_syntax.proofs.last_token.Statement.{statement}
 use Rattle.mitex_syntax.proofs.last_token.Tie as tie
 
@@ -33,7 +33,7 @@ eight c =
 steps :
     (c : tie.After-hop Inv-loop μ-loop) (f : Forest)
     → Begins f (start (c .before .before) .args .rows .now) (start (c .before .before) .args .text .now)
-    → Steps f (start (c .before .before) .args .rows .now) (start (c .before .before) .args .text .now) (c .before .before .before .loop .i)
+    → LastSteps f (start (c .before .before) .args .rows .now) (start (c .before .before) .args .text .now) (c .before .before .before .loop .i)
     (c .before .before .before .loop .j) (c .hop .result)
 steps c f sp =
     let l = c .before .before in
@@ -43,7 +43,7 @@ steps c f sp =
 
 abbrev step :
     (c : tie.After-hop Inv-loop μ-loop)
-    → Steps (start (c .before .before) .pre .forest) (start (c .before .before) .args .rows .now) (start (c .before .before) .args .text .now)
+    → LastSteps (start (c .before .before) .pre .forest) (start (c .before .before) .args .rows .now) (start (c .before .before) .args .text .now)
     (c .before .before .before .loop .i) (c .before .before .before .loop .j) (c .hop .result)
 step c = let pre = start (c .before .before) .pre in steps c (pre .forest) (pre .begins)
 
@@ -58,9 +58,6 @@ add-if2 c = omega (arith, eight (c .before))
 
 shared-slice-read-if2 : tie.Need-shared-slice-read-if2 Inv-loop μ-loop
 shared-slice-read-if2 c = omega (arith, eight (c .before .before))
-
-shared-slice-read-t14 : tie.Need-shared-slice-read-t14 Inv-loop μ-loop
-shared-slice-read-t14 c = omega arith
 
 number-requires : tie.Need-number-requires Inv-loop μ-loop
 number-requires c κs = omega (arith, eight (c .before .before .before .before))
@@ -127,7 +124,7 @@ last-token-spec =
     add-if1
     add-if2
     shared-slice-read-if2
-    shared-slice-read-t14
+    (λ c. omega arith)
     number-requires
     add-t16
     returns

@@ -4,21 +4,6 @@ use borrow.Author.Needs.{needs}
 use Rattle.mitex_syntax.proofs.span_at.Statement.{statement}
 use Rattle.mitex_syntax.proofs.span_at.Tie as tie
 
-extent-requires : tie.Need-extent-requires
-extent-requires c κs = search needs
-
-add-text-len : tie.Need-add-text-len
-add-text-len c = search needs
-
-sub-text-len : tie.Need-sub-text-len
-sub-text-len c = search needs
-
-part-text-len-start : tie.Need-part-text-len-start
-part-text-len-start c = search needs
-
-part-text-len-end : tie.Need-part-text-len-end
-part-text-len-end c = search needs
-
 text-len-requires : tie.Need-text-len-requires
 text-len-requires c κs =
     let c₁ = c .before in
@@ -41,10 +26,10 @@ pub span-at-spec : {M : Type 1} → statement M
 span-at-spec =
     tie.close
     (tie.spec
-    extent-requires
-    add-text-len
-    sub-text-len
-    part-text-len-start
-    part-text-len-end
+    (λ c κs. search needs)
+    (λ c. search needs)
+    (λ c. search needs)
+    (λ c. search needs)
+    (λ c. search needs)
     text-len-requires
     returns)

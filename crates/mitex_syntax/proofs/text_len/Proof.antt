@@ -14,22 +14,10 @@ Inv-loop rows i₀ sum₀ i sum = (i ≤ length rows) × (i % 8 ≡ 0) × (sum +
 abbrev μ-loop : tie.MeasureT-loop
 μ-loop rows i₀ sum₀ i sum = length rows - i
 
-loop-holds : tie.Need-loop-holds Inv-loop μ-loop
-loop-holds c = omega arith
-
-token-len-requires : tie.Need-token-len-requires Inv-loop μ-loop
-token-len-requires c κs = omega arith
-
 add-sum : tie.Need-add-sum Inv-loop μ-loop
 add-sum c =
     omega
     (arith, tokenSum-at (c .before .before .before .before .args .rows .now) (c .before .before .loop .i) (omega arith), c .token-len .ensures)
-
-add-i : tie.Need-add-i Inv-loop μ-loop
-add-i c = omega arith
-
-loop-less : tie.Need-loop-less Inv-loop μ-loop
-loop-less c = omega arith
 
 loop-again : tie.Need-loop-again Inv-loop μ-loop
 loop-again c = (
@@ -54,10 +42,10 @@ text-len-spec =
     (tie.spec
     Inv-loop
     μ-loop
-    loop-holds
-    token-len-requires
+    (λ c. omega arith)
+    (λ c κs. omega arith)
     add-sum
-    add-i
-    loop-less
+    (λ c. omega arith)
+    (λ c. omega arith)
     loop-again
     returns)

@@ -4,7 +4,7 @@ use Prim.Native.Nat.{_-_, _≤_}
 use native.Mathlib.Omega.{arith}
 use lib.ListN.{length, take, getD}
 use lib.Seq.{take-all}
-use Rattle.mitex_state.specs.Tables.{columns}
+use Rattle.mitex_meaning.specs.Tables.{columns}
 use Rattle.mitex_tables.specs.Letters.{counted}
 use Rattle.mitex_tables.proofs.Letters.{columns-more, counted-most}
 use Rattle.mitex_tables.proofs.columns.Statement.{statement}
@@ -19,18 +19,6 @@ abbrev μ-loop : tie.MeasureT-loop
 loop-holds : tie.Need-loop-holds Inv-loop μ-loop
 unfolding columns
 loop-holds c = (omega arith, omega arith, refl)
-
-shared-slice-read-counted : tie.Need-shared-slice-read-counted Inv-loop μ-loop
-shared-slice-read-counted c = omega arith
-
-counted-requires : tie.Need-counted-requires Inv-loop μ-loop
-counted-requires c κs = omega arith
-
-add-i : tie.Need-add-i Inv-loop μ-loop
-add-i c = omega arith
-
-loop-less : tie.Need-loop-less Inv-loop μ-loop
-loop-less c = omega arith
 
 loop-again : tie.Need-loop-again Inv-loop μ-loop
 loop-again c =
@@ -54,9 +42,9 @@ columns-spec =
     Inv-loop
     μ-loop
     loop-holds
-    shared-slice-read-counted
-    counted-requires
-    add-i
-    loop-less
+    (λ c. omega arith)
+    (λ c κs. omega arith)
+    (λ c. omega arith)
+    (λ c. omega arith)
     loop-again
     returns)

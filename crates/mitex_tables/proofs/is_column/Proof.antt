@@ -1,7 +1,7 @@
 -- `is_column`: each letter is one of three, or none of them.
 use mathlib.Core.Path.{sym, ap}
 use borrow.Author.Tests.{ne-eqb}
-use Rattle.mitex_state.specs.Tables.{isColumn}
+use Rattle.mitex_meaning.specs.Tables.{isColumn}
 use Rattle.mitex_tables.proofs.is_column.Statement.{statement}
 use Rattle.mitex_tables.proofs.is_column.Tie as tie
 

@@ -2,7 +2,7 @@
 use mathlib.Core.Path.{sym, ap, _∙_}
 use mathlib.Core.Bool.{_||_}
 use borrow.Author.Needs.{needs}
-use Rattle.mitex_state.specs.Tables.{isLine}
+use Rattle.mitex_meaning.specs.Tables.{isLine}
 use Rattle.mitex_tables.proofs.is_letter.Statement.{statement}
 use Rattle.mitex_tables.proofs.is_letter.Tie as tie
 

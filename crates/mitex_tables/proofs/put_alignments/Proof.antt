@@ -6,7 +6,7 @@ use lib.ListN.{length, take}
 use lib.Seq.{take-all}
 use Rattle.text.specs.Writing.{Wrote}
 use Rattle.text.proofs.Writing.{wrote-nil, wrote-as, wrote-then, wrote-low, wrote-long}
-use Rattle.mitex_state.specs.Tables.{alignments}
+use Rattle.mitex_meaning.specs.Tables.{alignments}
 use Rattle.mitex_tables.proofs.Letters.{alignments-more}
 use Rattle.mitex_tables.proofs.put_alignments.Statement.{statement}
 use Rattle.mitex_tables.proofs.put_alignments.Tie as tie
@@ -21,20 +21,11 @@ loop-holds : tie.Need-loop-holds Inv-loop μ-loop
 unfolding alignments
 loop-holds c = (omega arith, wrote-nil _ _ (c .before .before .pre .0))
 
-shared-slice-read-put-alignment : tie.Need-shared-slice-read-put-alignment Inv-loop μ-loop
-shared-slice-read-put-alignment c = omega arith
-
 put-alignment-requires : tie.Need-put-alignment-requires Inv-loop μ-loop
 put-alignment-requires c κs =
     let l = c .before .before .before in
     let w = l .loop .inv .1 in
     (wrote-low w, omega (arith, wrote-long w, l .before .before .before .pre .1))
-
-add-i : tie.Need-add-i Inv-loop μ-loop
-add-i c = omega arith
-
-loop-less : tie.Need-loop-less Inv-loop μ-loop
-loop-less c = omega arith
 
 loop-again : tie.Need-loop-again Inv-loop μ-loop
 loop-again c =
@@ -59,10 +50,10 @@ put-alignments-spec =
     Inv-loop
     μ-loop
     loop-holds
-    shared-slice-read-put-alignment
+    (λ c. omega arith)
     put-alignment-requires
-    add-i
-    loop-less
+    (λ c. omega arith)
+    (λ c. omega arith)
     loop-again
     same-length
     returns)

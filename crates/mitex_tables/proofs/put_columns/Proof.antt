@@ -4,35 +4,11 @@ use mathlib.Core.List.{_++_}
 use borrow.Author.Needs.{needs}
 use Rattle.text.specs.Writing.{decimal}
 use Rattle.text.proofs.Writing.{wrote-as, wrote-then}
-use Rattle.mitex_state.specs.Texts.{columnsBegin, alignBegin}
-use Rattle.mitex_state.specs.Tables.{columns, alignments}
+use Rattle.mitex_meaning.specs.Texts.{columnsBegin, alignBegin}
+use Rattle.mitex_meaning.specs.Tables.{columns, alignments}
 use Rattle.mitex_tables.proofs.Letters.{columns-parts}
 use Rattle.mitex_tables.proofs.put_columns.Statement.{statement}
 use Rattle.mitex_tables.proofs.put_columns.Tie as tie
-
-slice-aggregate-put : tie.Need-slice-aggregate-put
-slice-aggregate-put c = search needs
-
-put-requires : tie.Need-put-requires
-put-requires c κs = search needs
-
-columns-requires : tie.Need-columns-requires
-columns-requires c κs = search needs
-
-put-decimal-requires : tie.Need-put-decimal-requires
-put-decimal-requires c κs = search needs
-
-slice-aggregate-put-2 : tie.Need-slice-aggregate-put-2
-slice-aggregate-put-2 c = search needs
-
-put-requires-2 : tie.Need-put-requires-2
-put-requires-2 c κs = search needs
-
-put-alignments-requires : tie.Need-put-alignments-requires
-put-alignments-requires c κs = search needs
-
-same-length : tie.Need-same-length
-same-length c = search needs
 
 returns : tie.Need-returns
 returns c =
@@ -53,12 +29,12 @@ pub put-columns-spec : {M : Type 1} → statement M
 put-columns-spec =
     tie.close
     (tie.spec
-    slice-aggregate-put
-    put-requires
-    columns-requires
-    put-decimal-requires
-    slice-aggregate-put-2
-    put-requires-2
-    put-alignments-requires
-    same-length
+    (λ c. search needs)
+    (λ c κs. search needs)
+    (λ c κs. search needs)
+    (λ c κs. search needs)
+    (λ c. search needs)
+    (λ c κs. search needs)
+    (λ c κs. search needs)
+    (λ c. search needs)
     returns)

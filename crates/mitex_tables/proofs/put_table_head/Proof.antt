@@ -2,32 +2,11 @@
 use borrow.Author.Needs.{needs}
 use Rattle.text.specs.Writing.{decimal}
 use Rattle.text.proofs.Writing.{wrote-as, wrote-then}
-use Rattle.mitex_state.specs.Texts.{lineFeed, columnsBegin, alignBegin, alignEnd}
-use Rattle.mitex_state.specs.Tables.{columns, alignments, vlines}
+use Rattle.mitex_meaning.specs.Texts.{lineFeed, columnsBegin, alignBegin, alignEnd}
+use Rattle.mitex_meaning.specs.Tables.{columns, alignments, vlines}
 use Rattle.mitex_tables.proofs.Letters.{head-parts}
 use Rattle.mitex_tables.proofs.put_table_head.Statement.{statement}
 use Rattle.mitex_tables.proofs.put_table_head.Tie as tie
-
-put-columns-requires : tie.Need-put-columns-requires
-put-columns-requires c κs = search needs
-
-slice-aggregate-put : tie.Need-slice-aggregate-put
-slice-aggregate-put c = search needs
-
-put-requires : tie.Need-put-requires
-put-requires c κs = search needs
-
-put-vlines-requires : tie.Need-put-vlines-requires
-put-vlines-requires c κs = search needs
-
-slice-aggregate-put-2 : tie.Need-slice-aggregate-put-2
-slice-aggregate-put-2 c = search needs
-
-put-requires-2 : tie.Need-put-requires-2
-put-requires-2 c κs = search needs
-
-same-length : tie.Need-same-length
-same-length c = search needs
 
 returns : tie.Need-returns
 returns c =
@@ -46,11 +25,11 @@ pub put-table-head-spec : {M : Type 1} → statement M
 put-table-head-spec =
     tie.close
     (tie.spec
-    put-columns-requires
-    slice-aggregate-put
-    put-requires
-    put-vlines-requires
-    slice-aggregate-put-2
-    put-requires-2
-    same-length
+    (λ c κs. search needs)
+    (λ c. search needs)
+    (λ c κs. search needs)
+    (λ c κs. search needs)
+    (λ c. search needs)
+    (λ c κs. search needs)
+    (λ c. search needs)
     returns)

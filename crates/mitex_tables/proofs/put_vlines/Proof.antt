@@ -7,7 +7,7 @@ use lib.ListN.{length, take, getD}
 use lib.Seq.{take-all}
 use Rattle.text.specs.Writing.{Wrote}
 use Rattle.text.proofs.Writing.{wrote-nil, wrote-as, wrote-then, wrote-low, wrote-long}
-use Rattle.mitex_state.specs.Tables.{columns, vlines}
+use Rattle.mitex_meaning.specs.Tables.{columns, vlines}
 use Rattle.mitex_tables.specs.Letters.{counted, vline}
 use Rattle.mitex_tables.proofs.Letters.{columns-more, counted-most, vlines-more}
 use Rattle.mitex_tables.proofs.put_vlines.Statement.{statement}
@@ -23,23 +23,11 @@ loop-holds : tie.Need-loop-holds Inv-loop μ-loop
 unfolding vlines columns
 loop-holds c = (omega arith, omega arith, refl, wrote-nil _ _ (c .before .before .pre .0))
 
-shared-slice-read-b : tie.Need-shared-slice-read-b Inv-loop μ-loop
-shared-slice-read-b c = omega arith
-
 put-vline-requires : tie.Need-put-vline-requires Inv-loop μ-loop
 put-vline-requires c κs =
     let l = c .before .before .before in
     let w = l .loop .inv .3 in
     (wrote-low w, omega (arith, wrote-long w, l .before .before .before .pre .1))
-
-counted-requires : tie.Need-counted-requires Inv-loop μ-loop
-counted-requires c κs = omega arith
-
-add-i : tie.Need-add-i Inv-loop μ-loop
-add-i c = omega arith
-
-loop-less : tie.Need-loop-less Inv-loop μ-loop
-loop-less c = omega arith
 
 loop-again : tie.Need-loop-again Inv-loop μ-loop
 loop-again c =
@@ -69,11 +57,11 @@ put-vlines-spec =
     Inv-loop
     μ-loop
     loop-holds
-    shared-slice-read-b
+    (λ c. omega arith)
     put-vline-requires
-    counted-requires
-    add-i
-    loop-less
+    (λ c κs. omega arith)
+    (λ c. omega arith)
+    (λ c. omega arith)
     loop-again
     same-length
     returns)

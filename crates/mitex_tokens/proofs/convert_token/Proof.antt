@@ -1,5 +1,5 @@
 -- `mitex_tokens::convert_token` meets its contract: what the token comes to, and the converter behind it.
-use Rattle.mitex_state.specs.State.{carryOf}
+use Rattle.mitex_meaning.specs.State.{carryOf}
 use Rattle.mitex_tokens.proofs.Putting.{settles-agrees}
 use borrow.Author.Needs.{needs}
 use Rattle.mitex_tokens.proofs.convert_token.Statement.{statement}

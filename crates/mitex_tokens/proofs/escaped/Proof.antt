@@ -1,6 +1,6 @@
 -- `mitex_tokens::escaped` meets its contract: each kind is computed, any other has no escape.
 use mathlib.Core.Path.{ap, sym}
-use Rattle.mitex_state.specs.Texts.{escape}
+use Rattle.mitex_meaning.specs.Texts.{escape}
 use Rattle.mitex_tokens.proofs.Tokens.{no-escape}
 use Rattle.mitex_tokens.proofs.escaped.Statement.{statement}
 use Rattle.mitex_tokens.proofs.escaped.Tie as tie

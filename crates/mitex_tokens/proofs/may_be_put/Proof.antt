@@ -1,6 +1,6 @@
 -- `mitex_tokens::may_be_put` meets its contract: such a node is neither the begin nor the end of an environment.
 use mathlib.Core.Path.{ap}
-use Rattle.mitex_state.specs.Children.{isEnds}
+use Rattle.mitex_meaning.specs.Children.{isEnds}
 use Rattle.mitex_tokens.proofs.Running.{never}
 use Rattle.mitex_tokens.proofs.may_be_put.Statement.{statement}
 use Rattle.mitex_tokens.proofs.may_be_put.Tie as tie

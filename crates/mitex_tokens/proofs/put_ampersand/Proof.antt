@@ -1,7 +1,7 @@
 -- `mitex_tokens::put_ampersand` meets its contract: a matrix has a text of its own.
 use mathlib.Core.Path.{ap, sym}
 use Rattle.text.proofs.Writing.{wrote-as}
-use Rattle.mitex_state.specs.Texts.{ampersand}
+use Rattle.mitex_meaning.specs.Texts.{ampersand}
 use Rattle.mitex_tokens.proofs.Tokens.{column-rest}
 use borrow.Author.Needs.{needs}
 use Rattle.mitex_tokens.proofs.put_ampersand.Statement.{statement}

@@ -7,7 +7,7 @@ use lib.ListN.{length, take, drop}
 use lib.Seq.{length-take-le}
 use Rattle.text.proofs.Writing.{part-rest}
 use Rattle.mitex_syntax.specs.Rows.{numOf}
-use Rattle.mitex_state.specs.declared.LaTeXMode.the-variants.{Math}
+use Rattle.mitex_meaning.specs.declared.LaTeXMode.the-variants.{Math}
 use Rattle.mitex_tokens.specs.Nodes.{Attachment}
 use Rattle.mitex_tokens.proofs.Attaching.{nodes-left, nodes-as, signEnd, attach-fits, attach-written}
 use borrow.Author.Needs.{needs}

@@ -3,8 +3,8 @@ use mathlib.Core.Path.{sym, ap, _∙_}
 use mathlib.Core.Bool.{Bool, cond}
 use mathlib.Core.List.{[]}
 use Rattle.text.proofs.Writing.{wrote-nil, wrote-as}
-use Rattle.mitex_state.specs.Texts.{blankGroup}
-use Rattle.mitex_state.specs.declared.LaTeXMode.{LaTeXMode}
+use Rattle.mitex_meaning.specs.Texts.{blankGroup}
+use Rattle.mitex_meaning.specs.declared.LaTeXMode.{LaTeXMode}
 use Rattle.mitex_tokens.specs.Braces.{bracedEnd}
 use borrow.Author.Needs.{needs}
 use Rattle.mitex_tokens.proofs.put_blank.Statement.{statement}

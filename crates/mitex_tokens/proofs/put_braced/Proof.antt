@@ -6,10 +6,10 @@ use mathlib.Core.Option.Option.{some}
 use native.Mathlib.Omega.{arith}
 use Rattle.mitex_spec.specs.Rules.{Rule}
 use Rattle.mitex_spec.specs.RuleFile.{rulesOf}
-use Rattle.mitex_state.specs.Outcome.{Label}
-use Rattle.mitex_state.specs.Outcome.Label.{unheld}
-use Rattle.mitex_state.specs.Tokens.{tokenOut}
-use Rattle.mitex_state.specs.declared.LaTeXEnv.{LaTeXEnv}
+use Rattle.mitex_meaning.specs.Outcome.{Label}
+use Rattle.mitex_meaning.specs.Outcome.Label.{unheld}
+use Rattle.mitex_meaning.specs.Tokens.{tokenOut}
+use Rattle.mitex_meaning.specs.declared.LaTeXEnv.{LaTeXEnv}
 use Rattle.mitex_tokens.specs.Puts.{inside, carrying, Puts}
 use Rattle.mitex_tokens.specs.Braces.{inBraces, bracedEnd}
 use Rattle.mitex_tokens.proofs.Putting.{puts-as, puts-low}

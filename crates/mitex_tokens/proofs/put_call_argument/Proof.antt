@@ -6,10 +6,10 @@ use native.Mathlib.Omega.{arith}
 use Rattle.text.specs.Writing.{Wrote}
 use Rattle.text.proofs.Writing.{wrote-low}
 use Rattle.mitex_spec.specs.Rules.{Rule}
-use Rattle.mitex_state.specs.Outcome.{Label, Outcome}
-use Rattle.mitex_state.specs.Outcome.Label.{unheld}
-use Rattle.mitex_state.specs.Children.{behind}
-use Rattle.mitex_state.specs.declared.Act.{Act}
+use Rattle.mitex_meaning.specs.Outcome.{Label, Outcome}
+use Rattle.mitex_meaning.specs.Outcome.Label.{unheld}
+use Rattle.mitex_meaning.specs.Children.{behind}
+use Rattle.mitex_meaning.specs.declared.Act.{Act}
 use Rattle.mitex_tokens.specs.Puts.{inside, carrying}
 use Rattle.mitex_tokens.specs.Braces.{bracedOut}
 use Rattle.mitex_tokens.specs.Nodes.{callAct}

@@ -6,8 +6,8 @@ use native.Mathlib.Omega.{arith}
 use lib.ListN.{length}
 use lib.Seq.{length-take-le}
 use Rattle.mitex_syntax.specs.Rows.{numOf}
-use Rattle.mitex_state.specs.Outcome.{Context}
-use Rattle.mitex_state.specs.declared.LaTeXMode.the-variants.{Text}
+use Rattle.mitex_meaning.specs.Outcome.{Context}
+use Rattle.mitex_meaning.specs.declared.LaTeXMode.the-variants.{Text}
 use Rattle.mitex_tokens.proofs.Running.{steady, rows-eight}
 use Rattle.mitex_tokens.proofs.Copying.{Copied, copied-start, copied-next, copied-stop, copied-row, copied-run}
 use borrow.Author.Needs.{needs}

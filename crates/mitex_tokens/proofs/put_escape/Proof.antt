@@ -1,7 +1,7 @@
 -- `mitex_tokens::put_escape` meets its contract: an apostrophe, no escape, or a backslash and the byte.
 use mathlib.Core.Path.{_∙_, ap, sym}
 use Rattle.text.proofs.Writing.{wrote-as, wrote-nil, wrote-then}
-use Rattle.mitex_state.specs.Texts.{escape}
+use Rattle.mitex_meaning.specs.Texts.{escape}
 use Rattle.mitex_tokens.specs.Escapes.{escapeOf}
 use Rattle.mitex_tokens.proofs.Tokens.{some-escape}
 use borrow.Author.Needs.{needs}

@@ -3,7 +3,7 @@ use mathlib.Core.Path.{ap, sym, _∙_}
 use mathlib.Core.Bool.{false}
 use Prim.Native.Nat.{ℕ}
 use native.Mathlib.Omega.{arith}
-use Rattle.mitex_state.specs.Commands.{itemIn}
+use Rattle.mitex_meaning.specs.Commands.{itemIn}
 use Rattle.mitex_commands.specs.Leaves.{markOf}
 use Rattle.mitex_commands.proofs.Items.{item-refused, item-written}
 use Rattle.mitex_tokens.specs.Puts.{carrying}

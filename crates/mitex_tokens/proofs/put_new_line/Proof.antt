@@ -1,7 +1,7 @@
 -- `mitex_tokens::put_new_line` meets its contract: three environments have a text of their own.
 use mathlib.Core.Path.{ap, sym}
 use Rattle.text.proofs.Writing.{wrote-as, wrote-nil}
-use Rattle.mitex_state.specs.Texts.{newLine}
+use Rattle.mitex_meaning.specs.Texts.{newLine}
 use Rattle.mitex_tokens.proofs.Tokens.{line-rest}
 use borrow.Author.Needs.{needs}
 use Rattle.mitex_tokens.proofs.put_new_line.Statement.{statement}

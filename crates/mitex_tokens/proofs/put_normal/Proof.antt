@@ -10,12 +10,12 @@ use Rattle.text.proofs.Writing.{wrote-then, wrote-low, wrote-room}
 use Rattle.mitex_spec.specs.Rules.{Rule}
 use Rattle.mitex_spec.specs.RuleFile.{rulesOf}
 use Rattle.mitex_syntax.specs.Tree.{Forest}
-use Rattle.mitex_state.specs.Outcome.{Context, Carry, Conv, after}
-use Rattle.mitex_state.specs.Texts.{leftParen}
-use Rattle.mitex_state.specs.Commands.{typstName, argumentsOf, argumentsBy, normalCommand}
-use Rattle.mitex_state.specs.Conversion.{convert}
-use Rattle.mitex_state.specs.declared.Arguments.{Arguments}
-use Rattle.mitex_state.proofs.Outcomes.{after-after}
+use Rattle.mitex_meaning.specs.Outcome.{Context, Carry, Conv, after}
+use Rattle.mitex_meaning.specs.Texts.{leftParen}
+use Rattle.mitex_meaning.specs.Commands.{typstName, argumentsOf, argumentsBy, normalCommand}
+use Rattle.mitex_meaning.specs.Conversion.{convert}
+use Rattle.mitex_meaning.specs.declared.Arguments.{Arguments}
+use Rattle.mitex_meaning.proofs.Outcomes.{after-after}
 use Rattle.mitex_commands.specs.Leaves.{classOf}
 use Rattle.mitex_tokens.specs.Puts.{inside, carrying}
 use Rattle.mitex_tokens.specs.Nodes.{callArm}

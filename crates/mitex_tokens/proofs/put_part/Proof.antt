@@ -6,7 +6,7 @@ use native.Mathlib.Nat.{zero-add}
 use native.Mathlib.Omega.{arith}
 use lib.ListN.{take, getD}
 use lib.Seq.{length-take-le}
-use Rattle.mitex_state.specs.declared.Act.the-variants.{Convert}
+use Rattle.mitex_meaning.specs.declared.Act.the-variants.{Convert}
 use Rattle.mitex_tokens.specs.Puts.{inside}
 use Rattle.mitex_tokens.specs.Running.{runOf}
 use Rattle.mitex_tokens.specs.Runs.{Runs}

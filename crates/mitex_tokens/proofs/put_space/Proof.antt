@@ -1,7 +1,7 @@
 -- `mitex_tokens::put_space` meets its contract: by the flag.
 use mathlib.Core.Path.{refl, ap}
 use Rattle.text.proofs.Writing.{wrote-nil}
-use Rattle.mitex_state.specs.Tokens.{whiteSpace}
+use Rattle.mitex_meaning.specs.Tokens.{whiteSpace}
 use Rattle.mitex_tokens.specs.Puts.{carrying}
 use Rattle.mitex_tokens.specs.Puts.Puts.{accepts}
 use Rattle.mitex_tokens.proofs.Putting.{puts-as}

@@ -5,8 +5,8 @@ use Prim.Native.Nat.{_+_, _≤_}
 use native.Mathlib.Omega.{arith}
 use lib.ListN.{length}
 use Rattle.mitex_spec.specs.Rules.{getCmd}
-use Rattle.mitex_state.specs.Outcome.Label.{unheld}
-use Rattle.mitex_state.specs.Tokens.{symbolBy}
+use Rattle.mitex_meaning.specs.Outcome.Label.{unheld}
+use Rattle.mitex_meaning.specs.Tokens.{symbolBy}
 use Rattle.mitex_tokens.specs.Puts.{carrying}
 use Rattle.mitex_tokens.specs.Puts.Puts.{declines}
 use Rattle.mitex_tokens.proofs.Tokens.{alias-inside, symbol-absent, symbol-aliased, symbol-plain}

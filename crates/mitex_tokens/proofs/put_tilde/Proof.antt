@@ -1,7 +1,7 @@
 -- `mitex_tokens::put_tilde` meets its contract: each mode is computed.
 use mathlib.Core.Path.{ap, sym}
 use Rattle.text.proofs.Writing.{wrote-as}
-use Rattle.mitex_state.specs.Texts.{tilde}
+use Rattle.mitex_meaning.specs.Texts.{tilde}
 use borrow.Author.Needs.{needs}
 use Rattle.mitex_tokens.proofs.put_tilde.Statement.{statement}
 use Rattle.mitex_tokens.proofs.put_tilde.Tie as tie

@@ -1,8 +1,8 @@
 -- `mitex_tokens::put_token_text` meets its contract: each kind is computed, any other has an escape or none.
 use mathlib.Core.Path.{_∙_, ap, sym}
 use Rattle.text.proofs.Writing.{wrote-as}
-use Rattle.mitex_state.specs.Texts.{ampersand, newLine, tilde}
-use Rattle.mitex_state.specs.Tokens.{tokenText, word}
+use Rattle.mitex_meaning.specs.Texts.{ampersand, newLine, tilde}
+use Rattle.mitex_meaning.specs.Tokens.{tokenText, word}
 use Rattle.mitex_tokens.proofs.Tokens.{other-text}
 use borrow.Author.Needs.{needs}
 use Rattle.mitex_tokens.proofs.put_token_text.Statement.{statement}

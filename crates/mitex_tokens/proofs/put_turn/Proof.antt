@@ -4,8 +4,8 @@ use mathlib.Core.List.{List}
 use borrow.Author.Tests.{not-true, not-false}
 use native.Mathlib.Omega.{arith}
 use Rattle.mitex_spec.specs.Rules.{Rule}
-use Rattle.mitex_state.specs.Outcome.{Label, Carry, Outcome}
-use Rattle.mitex_state.specs.Outcome.Label.{unheld}
+use Rattle.mitex_meaning.specs.Outcome.{Label, Carry, Outcome}
+use Rattle.mitex_meaning.specs.Outcome.Label.{unheld}
 use Rattle.mitex_tokens.specs.Puts.{inside, carrying}
 use Rattle.mitex_tokens.specs.Puts.Puts.{accepts}
 use Rattle.mitex_tokens.specs.Braces.{heldOut}

@@ -1,7 +1,7 @@
 -- `mitex_tokens::put_word` meets its contract: each mode is computed.
 use mathlib.Core.Path.{ap, sym}
 use Rattle.text.proofs.Writing.{wrote-as}
-use Rattle.mitex_state.specs.Tokens.{word}
+use Rattle.mitex_meaning.specs.Tokens.{word}
 use borrow.Author.Needs.{needs}
 use Rattle.mitex_tokens.proofs.put_word.Statement.{statement}
 use Rattle.mitex_tokens.proofs.put_word.Tie as tie

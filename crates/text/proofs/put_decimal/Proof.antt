@@ -1,15 +1,15 @@
--- The invariant is `Left`: the digits of what is left, before those that stand in the array, are the digits of n. The rest m falls.
+-- The invariant is `DigitsLeft`: the digits of what is left, before those that stand in the array, are the digits of n. The rest m falls.
 use lib.ListN.{length-set}
 use native.Mathlib.Omega.{arith}
 use borrow.Author.Needs.{needs}
 use mathlib.Core.Path.{refl}
-use Rattle.text.proofs.Decimal.{Left, left-start, left-next, left-end}
+use Rattle.text.proofs.Decimal.{DigitsLeft, left-start, left-next, left-end}
 use Rattle.text.proofs.Writing.{wrote-as, wrote-long}
 use Rattle.text.proofs.put_decimal.Statement.{statement}
 use Rattle.text.proofs.put_decimal.Tie as tie
 
 abbrev Inv-loop : tie.InvT-loop
-Inv-loop out at n digits₀ i₀ m₀ digits i m = Left n digits i m
+Inv-loop out at n digits₀ i₀ m₀ digits i m = DigitsLeft n digits i m
 
 abbrev μ-loop : tie.MeasureT-loop
 μ-loop out at n digits₀ i₀ m₀ digits i m = m
@@ -20,29 +20,14 @@ loop-holds c = left-start (c .before .args .n) _ refl (c .before .fits .n .fits)
 sub-i : tie.Need-sub-i Inv-loop μ-loop
 sub-i c = c .before .loop .inv .some
 
-low-byte-requires : tie.Need-low-byte-requires Inv-loop μ-loop
-low-byte-requires c κs = search needs
-
-add-digits : tie.Need-add-digits Inv-loop μ-loop
-add-digits c = omega arith
-
 array-write-digits : tie.Need-array-write-digits Inv-loop μ-loop
 array-write-digits c = let s = c .before .before .loop .inv in let l = s .long in let h = s .some in let r = s .room in omega arith
-
-loop-less : tie.Need-loop-less Inv-loop μ-loop
-loop-less c = omega arith
 
 loop-again : tie.Need-loop-again Inv-loop μ-loop
 loop-again c = left-next (c .low-byte .result) (c .before .before .loop .inv) (c .before .loop-test .taken) (c .low-byte .ensures)
 
 sub-i-2 : tie.Need-sub-i-2 Inv-loop μ-loop
 sub-i-2 c = c .before .loop .inv .some
-
-low-byte-requires-2 : tie.Need-low-byte-requires-2 Inv-loop μ-loop
-low-byte-requires-2 c κs = search needs
-
-add-digits-2 : tie.Need-add-digits-2 Inv-loop μ-loop
-add-digits-2 c = omega arith
 
 array-write-digits-2 : tie.Need-array-write-digits-2 Inv-loop μ-loop
 array-write-digits-2 c = let s = c .before .before .loop .inv in let l = s .long in let h = s .some in let r = s .room in omega arith
@@ -85,14 +70,14 @@ put-decimal-spec =
     μ-loop
     loop-holds
     sub-i
-    low-byte-requires
-    add-digits
+    (λ c κs. search needs)
+    (λ c. omega arith)
     array-write-digits
-    loop-less
+    (λ c. omega arith)
     loop-again
     sub-i-2
-    low-byte-requires-2
-    add-digits-2
+    (λ c κs. search needs)
+    (λ c. omega arith)
     array-write-digits-2
     sub-put
     part-put-start

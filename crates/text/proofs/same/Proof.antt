@@ -20,9 +20,6 @@ returns c = same-lengths (c .before .args .a .now) (c .before .args .b .now) (c 
 loop-holds : tie.Need-loop-holds Inv-loop μ-loop
 loop-holds c = (omega arith, refl)
 
-shared-slice-read-if2 : tie.Need-shared-slice-read-if2 Inv-loop μ-loop
-shared-slice-read-if2 c = omega arith
-
 shared-slice-read-if2-2 : tie.Need-shared-slice-read-if2-2 Inv-loop μ-loop
 shared-slice-read-if2-2 c =
     let c₁ = c .before .before .before .before in
@@ -35,12 +32,6 @@ returns-2 c =
     let c₃ = c₂ .before in
     let c₄ = c₃ .before in
     let loop = c₂ .loop in let args = c₄ .args in same-stop (args .a .now) (args .b .now) (loop .i) (c₁ .loop-test .taken) (c₃ .if1 .left) (c .if2 .taken) (loop .inv .1)
-
-add-i : tie.Need-add-i Inv-loop μ-loop
-add-i c = omega arith
-
-loop-less : tie.Need-loop-less Inv-loop μ-loop
-loop-less c = omega arith
 
 loop-again : tie.Need-loop-again Inv-loop μ-loop
 loop-again c =
@@ -61,10 +52,10 @@ same-spec =
     μ-loop
     returns
     loop-holds
-    shared-slice-read-if2
+    (λ c. omega arith)
     shared-slice-read-if2-2
     returns-2
-    add-i
-    loop-less
+    (λ c. omega arith)
+    (λ c. omega arith)
     loop-again
     returns-3)

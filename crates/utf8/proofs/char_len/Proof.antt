@@ -5,12 +5,12 @@ use native.Mathlib.Omega.{arith}
 use borrow.Author.Needs.{needs}
 use borrow.Author.Tests.{not-true, not-false}
 use lib.ListN.{length}
-use Rattle.utf8.proofs.Chars.{Passed, passed-none, passed-one, passed-on, passed-stop, passed-all}
+use Rattle.utf8.proofs.Chars.{CharPassed, passed-none, passed-one, passed-on, passed-stop, passed-all}
 use Rattle.utf8.proofs.char_len.Statement.{statement}
 use Rattle.utf8.proofs.char_len.Tie as tie
 
 abbrev Inv-loop : tie.InvT-loop
-Inv-loop s n₀ n = (n ≤ length s) × Passed s n
+Inv-loop s n₀ n = (n ≤ length s) × CharPassed s n
 
 abbrev μ-loop : tie.MeasureT-loop
 μ-loop s n₀ n = length s - n
@@ -21,23 +21,11 @@ returns c = passed-none _ (c .if1 .taken)
 loop-holds : tie.Need-loop-holds Inv-loop μ-loop
 loop-holds c = (omega (arith, c .if1 .left), passed-one _ (c .if1 .left))
 
-shared-slice-read-continues : tie.Need-shared-slice-read-continues Inv-loop μ-loop
-shared-slice-read-continues c = search needs
-
-continues-requires : tie.Need-continues-requires Inv-loop μ-loop
-continues-requires c κs = search needs
-
 returns-2 : tie.Need-returns-2 Inv-loop μ-loop
 returns-2 c =
     let turn = c .before .before .before in
     passed-stop _ _ (turn .before .loop .inv .1) (turn .loop-test .taken)
     (sym (c .before .continues .ensures) ∙ not-true _ (c .if2 .taken))
-
-add-n : tie.Need-add-n Inv-loop μ-loop
-add-n c = search needs
-
-loop-less : tie.Need-loop-less Inv-loop μ-loop
-loop-less c = search needs
 
 loop-again : tie.Need-loop-again Inv-loop μ-loop
 loop-again c =
@@ -58,10 +46,10 @@ char-len-spec =
     μ-loop
     returns
     loop-holds
-    shared-slice-read-continues
-    continues-requires
+    (λ c. search needs)
+    (λ c κs. search needs)
     returns-2
-    add-n
-    loop-less
+    (λ c. search needs)
+    (λ c. search needs)
     loop-again
     returns-3)

@@ -4,38 +4,11 @@ use Rattle.utf8.proofs.White.{white-bytes-1, white-bytes-2, white-bytes
 use Rattle.utf8.proofs.is_white.Statement.{statement}
 use Rattle.utf8.proofs.is_white.Tie as tie
 
-shared-slice-read-white-one : tie.Need-shared-slice-read-white-one
-shared-slice-read-white-one c = search needs
-
-white-one-requires : tie.Need-white-one-requires
-white-one-requires c κs = search needs
-
 returns : tie.Need-returns
 returns c = white-bytes-1 _ _ (c .before .before .if1 .taken) (c .white-one .ensures)
 
-shared-slice-read-white-two : tie.Need-shared-slice-read-white-two
-shared-slice-read-white-two c = search needs
-
-shared-slice-read-white-two-2 : tie.Need-shared-slice-read-white-two-2
-shared-slice-read-white-two-2 c = search needs
-
-white-two-requires : tie.Need-white-two-requires
-white-two-requires c κs = search needs
-
 returns-2 : tie.Need-returns-2
 returns-2 c = white-bytes-2 _ _ (c .before .before .before .if2 .taken) (c .white-two .ensures)
-
-shared-slice-read-white-three : tie.Need-shared-slice-read-white-three
-shared-slice-read-white-three c = search needs
-
-shared-slice-read-white-three-2 : tie.Need-shared-slice-read-white-three-2
-shared-slice-read-white-three-2 c = search needs
-
-shared-slice-read-white-three-3 : tie.Need-shared-slice-read-white-three-3
-shared-slice-read-white-three-3 c = search needs
-
-white-three-requires : tie.Need-white-three-requires
-white-three-requires c κs = search needs
 
 returns-3 : tie.Need-returns-3
 returns-3 c = white-bytes-3 _ _ (c .before .before .before .before .if3 .taken) (c .white-three .ensures)
@@ -47,16 +20,16 @@ pub is-white-spec : {M : Type 1} → statement M
 is-white-spec =
     tie.close
     (tie.spec
-    shared-slice-read-white-one
-    white-one-requires
+    (λ c. search needs)
+    (λ c κs. search needs)
     returns
-    shared-slice-read-white-two
-    shared-slice-read-white-two-2
-    white-two-requires
+    (λ c. search needs)
+    (λ c. search needs)
+    (λ c κs. search needs)
     returns-2
-    shared-slice-read-white-three
-    shared-slice-read-white-three-2
-    shared-slice-read-white-three-3
-    white-three-requires
+    (λ c. search needs)
+    (λ c. search needs)
+    (λ c. search needs)
+    (λ c κs. search needs)
     returns-3
     returns-4)

@@ -12,26 +12,11 @@ Inv-loop s k₀ k = OneFrom s k
 abbrev μ-loop : tie.MeasureT-loop
 μ-loop s k₀ k = k
 
-sub-k : tie.Need-sub-k Inv-loop μ-loop
-sub-k c = search needs
-
 loop-holds : tie.Need-loop-holds Inv-loop μ-loop
 loop-holds c = one-start _ (c .before .pre)
 
-shared-slice-read-continues : tie.Need-shared-slice-read-continues Inv-loop μ-loop
-shared-slice-read-continues c = search needs
-
-continues-requires : tie.Need-continues-requires Inv-loop μ-loop
-continues-requires c κs = search needs
-
 returns : tie.Need-returns Inv-loop μ-loop
 returns c = one-stop _ _ (c .before .before .before .before .loop .inv) (sym (c .before .continues .ensures) ∙ not-true _ (c .if1 .taken))
-
-sub-k-2 : tie.Need-sub-k-2 Inv-loop μ-loop
-sub-k-2 c = search needs
-
-loop-less : tie.Need-loop-less Inv-loop μ-loop
-loop-less c = search needs
 
 loop-again : tie.Need-loop-again Inv-loop μ-loop
 loop-again c =
@@ -47,12 +32,12 @@ last-at-spec =
     (tie.spec
     Inv-loop
     μ-loop
-    sub-k
+    (λ c. search needs)
     loop-holds
-    shared-slice-read-continues
-    continues-requires
+    (λ c. search needs)
+    (λ c κs. search needs)
     returns
-    sub-k-2
-    loop-less
+    (λ c. search needs)
+    (λ c. search needs)
     loop-again
     returns-2)

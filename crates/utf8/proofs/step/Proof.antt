@@ -4,34 +4,19 @@ use borrow.Author.Tests.{eq-eqb, ne-eqb, le-leb, lt-leb}
 use Rattle.utf8.proofs.step.Statement.{statement}
 use Rattle.utf8.proofs.step.Tie as tie
 
-begin-requires : tie.Need-begin-requires
-begin-requires c κs = search needs
-
 returns : tie.Need-returns
 returns c = rw (eq-eqb _ _ (c .before .if1 .taken)) (c .begin .ensures)
-
-dead-requires : tie.Need-dead-requires
-dead-requires c κs = search needs
 
 returns-2 : tie.Need-returns-2
 returns-2 c =
     let low = c .before in
     rw (ne-eqb _ _ (low .before .before .if1 .left), lt-leb _ _ (low .if2 .taken)) (c .dead .ensures)
 
-dead-requires-2 : tie.Need-dead-requires-2
-dead-requires-2 c κs = search needs
-
 returns-3 : tie.Need-returns-3
 returns-3 c =
     let high = c .before in
     let low = high .before .before in
     rw (ne-eqb _ _ (low .before .before .if1 .left), le-leb _ _ (low .if2 .left), lt-leb _ _ (high .if3 .taken)) (c .dead2 .ensures)
-
-sub-plain : tie.Need-sub-plain
-sub-plain c = search needs
-
-plain-requires : tie.Need-plain-requires
-plain-requires c κs = search needs
 
 returns-4 : tie.Need-returns-4
 returns-4 c =
@@ -43,12 +28,12 @@ pub step-spec : {M : Type 1} → statement M
 step-spec =
     tie.close
     (tie.spec
-    begin-requires
+    (λ c κs. search needs)
     returns
-    dead-requires
+    (λ c κs. search needs)
     returns-2
-    dead-requires-2
+    (λ c κs. search needs)
     returns-3
-    sub-plain
-    plain-requires
+    (λ c. search needs)
+    (λ c κs. search needs)
     returns-4)

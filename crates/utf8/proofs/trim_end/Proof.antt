@@ -27,21 +27,6 @@ tested c =
 loop-holds : tie.Need-loop-holds Inv-loop μ-loop
 loop-holds c = refl
 
-last-at-requires : tie.Need-last-at-requires Inv-loop μ-loop
-last-at-requires c κs = search needs
-
-sub-is-white : tie.Need-sub-is-white Inv-loop μ-loop
-sub-is-white c = search needs
-
-part-is-white-start : tie.Need-part-is-white-start Inv-loop μ-loop
-part-is-white-start c = search needs
-
-part-is-white-end : tie.Need-part-is-white-end Inv-loop μ-loop
-part-is-white-end c = search needs
-
-is-white-requires : tie.Need-is-white-requires Inv-loop μ-loop
-is-white-requires c κs = search needs
-
 returns : tie.Need-returns Inv-loop μ-loop
 returns c =
     let last = c .before .before .before in
@@ -76,11 +61,11 @@ trim-end-spec =
     Inv-loop
     μ-loop
     loop-holds
-    last-at-requires
-    sub-is-white
-    part-is-white-start
-    part-is-white-end
-    is-white-requires
+    (λ c κs. search needs)
+    (λ c. search needs)
+    (λ c. search needs)
+    (λ c. search needs)
+    (λ c κs. search needs)
     returns
     slice-aggregate-t
     loop-less

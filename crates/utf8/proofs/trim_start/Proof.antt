@@ -23,14 +23,8 @@ first c = rw (c .char-len .ensures) (charLen-first _ (c .before .loop-test .take
 loop-holds : tie.Need-loop-holds Inv-loop μ-loop
 loop-holds c = refl
 
-char-len-requires : tie.Need-char-len-requires Inv-loop μ-loop
-char-len-requires c κs = search needs
-
 slice-aggregate-is-white : tie.Need-slice-aggregate-is-white Inv-loop μ-loop
 slice-aggregate-is-white c = sym (length-take-le _ _ (first (c .before) .within))
-
-is-white-requires : tie.Need-is-white-requires Inv-loop μ-loop
-is-white-requires c κs = search needs
 
 returns : tie.Need-returns Inv-loop μ-loop
 returns c =
@@ -42,9 +36,6 @@ sub-t c = first (c .before .before .before) .within
 
 part-t-start : tie.Need-part-t-start Inv-loop μ-loop
 part-t-start c = let f = first (c .before .before .before) in search needs
-
-part-t-end : tie.Need-part-t-end Inv-loop μ-loop
-part-t-end c = search needs
 
 loop-less : tie.Need-loop-less Inv-loop μ-loop
 loop-less c =
@@ -67,13 +58,13 @@ trim-start-spec =
     Inv-loop
     μ-loop
     loop-holds
-    char-len-requires
+    (λ c κs. search needs)
     slice-aggregate-is-white
-    is-white-requires
+    (λ c κs. search needs)
     returns
     sub-t
     part-t-start
-    part-t-end
+    (λ c. search needs)
     loop-less
     loop-again
     returns-2)

@@ -18,29 +18,11 @@ Inv-loop s u₀ i₀ u i = (i ≤ length s) × (run u (drop i s) ≡ run whole s
 abbrev μ-loop : tie.MeasureT-loop
 μ-loop s u₀ i₀ u i = length s - i
 
-one-byte-each-requires : tie.Need-one-byte-each-requires Inv-loop μ-loop
-one-byte-each-requires c κs = search needs
-
 returns : tie.Need-returns Inv-loop μ-loop
 returns c = sym (one-valid _ (sym (c .before .one-byte-each .ensures) ∙ c .if1 .taken))
 
-plain-requires : tie.Need-plain-requires Inv-loop μ-loop
-plain-requires c κs = search needs
-
 loop-holds : tie.Need-loop-holds Inv-loop μ-loop
 loop-holds c = (omega arith, rw (c .plain .ensures))
-
-shared-slice-read-step : tie.Need-shared-slice-read-step Inv-loop μ-loop
-shared-slice-read-step c = search needs
-
-step-requires : tie.Need-step-requires Inv-loop μ-loop
-step-requires c κs = search needs
-
-add-i : tie.Need-add-i Inv-loop μ-loop
-add-i c = search needs
-
-loop-less : tie.Need-loop-less Inv-loop μ-loop
-loop-less c = search needs
 
 loop-again : tie.Need-loop-again Inv-loop μ-loop
 loop-again c =
@@ -62,13 +44,13 @@ valid-spec =
     (tie.spec
     Inv-loop
     μ-loop
-    one-byte-each-requires
+    (λ c κs. search needs)
     returns
-    plain-requires
+    (λ c κs. search needs)
     loop-holds
-    shared-slice-read-step
-    step-requires
-    add-i
-    loop-less
+    (λ c. search needs)
+    (λ c κs. search needs)
+    (λ c. search needs)
+    (λ c. search needs)
     loop-again
     returns-2)

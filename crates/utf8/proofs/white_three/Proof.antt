@@ -6,9 +6,6 @@ use Rattle.text.specs.Compare.{same}
 use Rattle.utf8.proofs.white_three.Statement.{statement}
 use Rattle.utf8.proofs.white_three.Tie as tie
 
-white-20-requires : tie.Need-white-20-requires
-white-20-requires c κs = search needs
-
 returns : tie.Need-returns
 returns c = rw (c .before .before .if1 .taken, c .before .if2 .taken) (c .white-20 .ensures)
 
@@ -44,7 +41,7 @@ pub white-three-spec : {M : Type 1} → statement M
 white-three-spec =
     tie.close
     (tie.spec
-    white-20-requires
+    (λ c κs. search needs)
     returns
     returns-2
     returns-3

@@ -3,7 +3,7 @@ use mathlib.Core.Path.{_≡_, refl, ap}
 use mir.Syntax.{w64}
 use mir.Val.{toZ, ofZ}
 use borrow.Author.Needs.{needs}
-use Rattle.edit.specs.Calls.{answerOf}
+use Rattle.calls.specs.Calls.{answerOfEdit}
 use Rattle.zaldrume.proofs.Telling.{tells}
 use Rattle.zaldrume.proofs.zaldrume_edit.Statement.{statement}
 use Rattle.zaldrume.proofs.zaldrume_edit.Tie as tie
@@ -12,47 +12,26 @@ use Rattle.zaldrume.proofs.zaldrume_edit.Tie as tie
 abbrev call : tie.After-slice-known4 → tie.After-edit
 call c = c .before .before .before .before
 
-edit-requires : tie.Need-edit-requires
-edit-requires c κs = search needs
-
-enum-known-number : tie.Need-enum-known-number
-enum-known-number c = search needs
-
-enum-known-length : tie.Need-enum-known-length
-enum-known-length c = search needs
-
-same-length : tie.Need-same-length
-same-length c = search needs
-
-same-length-2 : tie.Need-same-length-2
-same-length-2 c = search needs
-
 returns : tie.Need-returns
-returns c = tells _ (call (c .before .before .before) .edit .ensures .gives) (ap answerOf (c .before .number .given .1)) refl
-
-same-length-3 : tie.Need-same-length-3
-same-length-3 c = search needs
-
-same-length-4 : tie.Need-same-length-4
-same-length-4 c = search needs
+returns c = tells _ (call (c .before .before .before) .edit .ensures .gives) (ap answerOfEdit (c .before .number .given .1)) refl
 
 -- a signed number that fits is read back as it was written
 read-back : (c : tie.After-known-told2) → toZ w64 (ofZ w64 (c .before .length .given .0 .1 .0)) ≡ c .before .length .given .0 .1 .0
 read-back c = search needs
 
 returns-2 : tie.Need-returns-2
-returns-2 c = tells _ (call (c .before .before .before) .edit .ensures .gives) (ap answerOf (c .before .length .given .1)) (read-back c)
+returns-2 c = tells _ (call (c .before .before .before) .edit .ensures .gives) (ap answerOfEdit (c .before .length .given .1)) (read-back c)
 
 pub zaldrume-edit-spec : {M : Type 1} → statement M
 zaldrume-edit-spec =
     tie.close
     (tie.spec
-    edit-requires
-    enum-known-number
-    enum-known-length
-    same-length
-    same-length-2
+    (λ c κs. search needs)
+    (λ c. search needs)
+    (λ c. search needs)
+    (λ c. search needs)
+    (λ c. search needs)
     returns
-    same-length-3
-    same-length-4
+    (λ c. search needs)
+    (λ c. search needs)
     returns-2)

@@ -1,14 +1,14 @@
 -- The needs of `body`.
 use mathlib.Core.Path.{ap, _∙_}
 use mathlib.Core.List.{[]}
-use Rattle.mitex_state.specs.State.{contextOf, carryOf}
-use Rattle.mitex_state.specs.Conversion.{convert as meaning}
-use Rattle.mitex_state.specs.Environments.{plainEnv, mathEnv, envBody}
-use Rattle.mitex_state.proofs.Agreeing.{agrees-as}
+use Rattle.mitex_meaning.specs.State.{contextOf, carryOf}
+use Rattle.mitex_meaning.specs.Conversion.{convert as meaning}
+use Rattle.mitex_meaning.specs.Environments.{plainEnv, mathEnv, envBody}
+use Rattle.mitex_meaning.proofs.Agreeing.{agrees-as}
 use Rattle.mitex.proofs.Rooms.{siblings-forest, room-behind}
 use Rattle.mitex.proofs.Planning.{plan-agrees, both-agree, given-in, both-in}
 use Rattle.mitex.proofs.Environing.{plain-by-tag, math-by-tag}
-use Rattle.mitex_state.specs.declared.LaTeXEnv.{LaTeXEnv}
+use Rattle.mitex_meaning.specs.declared.LaTeXEnv.{LaTeXEnv}
 use native.Mathlib.Omega.{arith}
 use borrow.Author.Needs.{needs}
 use Prim.Native.Nat.{ℕ}

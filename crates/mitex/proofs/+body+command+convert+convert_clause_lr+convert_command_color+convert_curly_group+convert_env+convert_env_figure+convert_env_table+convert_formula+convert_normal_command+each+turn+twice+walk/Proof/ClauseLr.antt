@@ -1,6 +1,6 @@
 -- The needs of `convert_clause_lr`.
 use mathlib.Core.Path.{_∙_}
-use Rattle.mitex_state.specs.Groups.{clauseLr}
+use Rattle.mitex_meaning.specs.Groups.{clauseLr}
 use Rattle.mitex.proofs.Rooms.{siblings-forest, room-behind}
 use Rattle.mitex.proofs.Planning.{plan-agrees, given-in}
 use native.Mathlib.Omega.{arith}

@@ -10,16 +10,16 @@ use Rattle.mitex_spec.specs.Index.{SomeRules}
 use Rattle.mitex_syntax.specs.Tree.{Forest}
 use Rattle.mitex_syntax.specs.Spells.{SpellsAll}
 use Rattle.mitex_syntax.proofs.Trees.{all-begins}
-use Rattle.mitex_state.specs.State.{contextOf, carryOf}
-use Rattle.mitex_state.specs.Conversion.{convert as meaning}
-use Rattle.mitex_state.specs.Commands.{commandBy, command as command-arm}
-use Rattle.mitex_state.specs.Colors.{argumentModel}
-use Rattle.mitex_state.specs.declared.Command.{Command}
-use Rattle.mitex_state.specs.declared.Command.the-variants.{Item, Label, IncludeGraphics, Array, Color, ColorArguments, Normal}
-use Rattle.mitex_state.proofs.Agreeing.{agrees-as, agrees-done}
+use Rattle.mitex_meaning.specs.State.{contextOf, carryOf}
+use Rattle.mitex_meaning.specs.Conversion.{convert as meaning}
+use Rattle.mitex_meaning.specs.Commands.{commandBy, command as command-arm}
+use Rattle.mitex_meaning.specs.Colors.{argumentModel}
+use Rattle.mitex_meaning.specs.declared.Command.{Command}
+use Rattle.mitex_meaning.specs.declared.Command.the-variants.{Item, Label, IncludeGraphics, Array, Color, ColorArguments, Normal}
+use Rattle.mitex_meaning.proofs.Agreeing.{agrees-as, agrees-done}
 use Rattle.mitex_loops.specs.Given.{numberOf}
-use Rattle.mitex_state.specs.declared.Loop.{Loop}
-use Rattle.mitex_state.specs.declared.ModelPart.{ModelPart}
+use Rattle.mitex_meaning.specs.declared.Loop.{Loop}
+use Rattle.mitex_meaning.specs.declared.ModelPart.{ModelPart}
 use Rattle.mitex_plans.specs.Plans.{ColorGiven}
 use Rattle.mitex.specs.Walks.{Room, Siblings}
 use Rattle.mitex.proofs.Rooms.{siblings-forest}

@@ -1,7 +1,7 @@
 -- The needs of `convert_command_color`.
 use mathlib.Core.Path.{_∙_}
 use Rattle.text.proofs.Writing.{wrote-nil, wrote-low, wrote-as}
-use Rattle.mitex_state.proofs.Agreeing.{agrees-after}
+use Rattle.mitex_meaning.proofs.Agreeing.{agrees-after}
 use Rattle.mitex_plans.specs.Plans.{coloredBy}
 use Rattle.mitex.proofs.Rooms.{room-behind}
 use Rattle.mitex.proofs.Planning.{both-agree}

@@ -11,13 +11,13 @@ use Rattle.mitex_spec.specs.Index.{SomeRules}
 use Rattle.mitex_syntax.specs.Tree.{Forest}
 use Rattle.mitex_syntax.specs.Spells.{SpellsAll}
 use Rattle.mitex_syntax.proofs.Trees.{rows-some}
-use Rattle.mitex_state.specs.Outcome.{Arm}
-use Rattle.mitex_state.specs.State.{contextOf, carryOf}
-use Rattle.mitex_state.specs.Conversion.{elementOf, armBy, convert as meaning}
-use Rattle.mitex_state.specs.declared.Element.{Element}
-use Rattle.mitex_state.specs.declared.Element.the-variants.{Children, Formula, CurlyGroup, ClauseLr, AttachComponent, Silent, Command, Environment, TypstCode}
-use Rattle.mitex_state.specs.declared.Walked.{Walked}
-use Rattle.mitex_state.proofs.Agreeing.{agrees-as, agrees-here, agrees-shift, agrees-carried}
+use Rattle.mitex_meaning.specs.Outcome.{Arm}
+use Rattle.mitex_meaning.specs.State.{contextOf, carryOf}
+use Rattle.mitex_meaning.specs.Conversion.{elementOf, armBy, convert as meaning}
+use Rattle.mitex_meaning.specs.declared.Element.{Element}
+use Rattle.mitex_meaning.specs.declared.Element.the-variants.{Children, Formula, CurlyGroup, ClauseLr, AttachComponent, Silent, Command, Environment, TypstCode}
+use Rattle.mitex_meaning.specs.declared.Walked.{Walked}
+use Rattle.mitex_meaning.proofs.Agreeing.{agrees-as, agrees-here, agrees-shift, agrees-carried}
 use Rattle.mitex_commands.proofs.Elements.{ofNode}
 use Rattle.mitex_plans.specs.Plans.{Single, Means}
 use Rattle.mitex_plans.specs.declared.Plan.{Plan}

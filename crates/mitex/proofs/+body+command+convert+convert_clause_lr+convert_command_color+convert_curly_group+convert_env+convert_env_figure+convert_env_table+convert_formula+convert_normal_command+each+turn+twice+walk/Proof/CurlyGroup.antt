@@ -1,6 +1,6 @@
 -- The needs of `convert_curly_group`.
 use Rattle.text.proofs.Writing.{wrote-nil}
-use Rattle.mitex_state.specs.Groups.{curlyGroup}
+use Rattle.mitex_meaning.specs.Groups.{curlyGroup}
 use Rattle.mitex.proofs.Planning.{plan-agrees, given-in}
 use native.Mathlib.Omega.{arith}
 use borrow.Author.Needs.{needs}

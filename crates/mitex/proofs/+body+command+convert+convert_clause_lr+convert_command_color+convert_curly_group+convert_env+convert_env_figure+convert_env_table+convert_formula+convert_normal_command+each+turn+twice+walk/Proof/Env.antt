@@ -6,10 +6,10 @@ use Rattle.mitex_spec.specs.Rules.{Rule, getEnv}
 use Rattle.mitex_syntax.specs.Tree.{Forest}
 use Rattle.mitex_syntax.specs.Spells.{SpellsAll}
 use Rattle.mitex_syntax.proofs.Trees.{all-begins}
-use Rattle.mitex_state.specs.State.{contextOf, carryOf}
-use Rattle.mitex_state.specs.Conversion.{convert as meaning}
-use Rattle.mitex_state.specs.Environments.{envOf, envBy, envBody, environment, isList}
-use Rattle.mitex_state.proofs.Agreeing.{agrees-as, agrees-here}
+use Rattle.mitex_meaning.specs.State.{contextOf, carryOf}
+use Rattle.mitex_meaning.specs.Conversion.{convert as meaning}
+use Rattle.mitex_meaning.specs.Environments.{envOf, envBy, envBody, environment, isList}
+use Rattle.mitex_meaning.proofs.Agreeing.{agrees-as, agrees-here}
 use Rattle.mitex.proofs.Rooms.{siblings-forest}
 use Rattle.mitex.proofs.Planning.{walks-good, agrees-takes-as}
 use Rattle.mitex.proofs.Environing.{env-named, env-absent, env-found}

@@ -1,10 +1,10 @@
 -- The needs of `convert_env_figure`.
 use mathlib.Core.Path.{sym, _∙_}
 use mathlib.Core.List.{List, [], _++_}
-use Rattle.mitex_state.specs.State.{contextOf, carryOf}
-use Rattle.mitex_state.specs.Conversion.{convert as meaning}
-use Rattle.mitex_state.specs.Environments.{figureEnv}
-use Rattle.mitex_state.proofs.Agreeing.{agrees-as, agrees-refused}
+use Rattle.mitex_meaning.specs.State.{contextOf, carryOf}
+use Rattle.mitex_meaning.specs.Conversion.{convert as meaning}
+use Rattle.mitex_meaning.specs.Environments.{figureEnv}
+use Rattle.mitex_meaning.proofs.Agreeing.{agrees-as, agrees-refused}
 use Rattle.mitex.proofs.Rooms.{siblings-forest, room-behind}
 use Rattle.mitex.proofs.Planning.{both-agree, both-in, declined-row}
 use Rattle.mitex.proofs.Environing.{figure-bare, bare-row-low}
@@ -14,7 +14,7 @@ use Prim.Native.Nat.{ℕ}
 use Rattle.mitex_spec.specs.Rules.{Rule}
 use Rattle.mitex_syntax.specs.Tree.{Forest}
 use Rattle.mitex_syntax.specs.Spells.{SpellsAll}
-use Rattle.mitex_state.specs.Texts.{hash, leftParen}
+use Rattle.mitex_meaning.specs.Texts.{hash, leftParen}
 use Rattle.mitex_plans.specs.Plans.{MeansBoth, captionText}
 use Rattle.mitex.proofs.convert_env_figure.Reads as self
 use Rattle.mitex.proofs.+body+command+convert+convert_clause_lr+convert_command_color+convert_curly_group+convert_env+convert_env_figure+convert_env_table+convert_formula+convert_normal_command+each+turn+twice+walk.Lts-convert_env_figure as lts

@@ -4,10 +4,10 @@ use mathlib.Core.List.{List, []}
 use Rattle.utf8.specs.Trim.{trim}
 use Rattle.mitex_syntax.specs.Syntax.{ClauseArgument}
 use Rattle.mitex_syntax.specs.Views.{firstOf, beginOf}
-use Rattle.mitex_state.specs.State.{contextOf, carryOf}
-use Rattle.mitex_state.specs.Conversion.{convert as meaning}
-use Rattle.mitex_state.specs.Environments.{tableEnv, tableWith}
-use Rattle.mitex_state.proofs.Agreeing.{agrees-as, agrees-here}
+use Rattle.mitex_meaning.specs.State.{contextOf, carryOf}
+use Rattle.mitex_meaning.specs.Conversion.{convert as meaning}
+use Rattle.mitex_meaning.specs.Environments.{tableEnv, tableWith}
+use Rattle.mitex_meaning.proofs.Agreeing.{agrees-as, agrees-here}
 use borrow.Author.Tests.{not-true, not-false}
 use Rattle.mitex_plans.specs.Plans.{tableCells}
 use Rattle.mitex.proofs.Rooms.{siblings-forest, room-behind}

@@ -1,10 +1,10 @@
 -- The needs of `convert_formula`.
 use mathlib.Core.Path.{sym, _∙_}
 use Rattle.mitex_syntax.proofs.Trees.{all-begins}
-use Rattle.mitex_state.specs.State.{contextOf, carryOf}
-use Rattle.mitex_state.specs.Conversion.{convert as meaning}
-use Rattle.mitex_state.specs.Groups.{formula as formula-arm}
-use Rattle.mitex_state.proofs.Agreeing.{agrees-as, agrees-here}
+use Rattle.mitex_meaning.specs.State.{contextOf, carryOf}
+use Rattle.mitex_meaning.specs.Conversion.{convert as meaning}
+use Rattle.mitex_meaning.specs.Groups.{formula as formula-arm}
+use Rattle.mitex_meaning.proofs.Agreeing.{agrees-as, agrees-here}
 use borrow.Author.Tests.{not-true, not-false}
 use Rattle.mitex.proofs.Rooms.{siblings-forest, room-behind}
 use Rattle.mitex.proofs.Planning.{plan-agrees, given-in, formula-bad}
@@ -15,7 +15,7 @@ use Prim.Native.Nat.{ℕ}
 use Rattle.mitex_spec.specs.Rules.{Rule}
 use Rattle.mitex_syntax.specs.Tree.{Forest}
 use Rattle.mitex_syntax.specs.Spells.{SpellsAll}
-use Rattle.mitex_state.specs.Texts.{formulaBegin}
+use Rattle.mitex_meaning.specs.Texts.{formulaBegin}
 use Rattle.mitex_plans.specs.Plans.{Means}
 use Rattle.mitex.proofs.convert_formula.Reads as self
 use Rattle.mitex.proofs.+body+command+convert+convert_clause_lr+convert_command_color+convert_curly_group+convert_env+convert_env_figure+convert_env_table+convert_formula+convert_normal_command+each+turn+twice+walk.Lts-convert_formula as lts

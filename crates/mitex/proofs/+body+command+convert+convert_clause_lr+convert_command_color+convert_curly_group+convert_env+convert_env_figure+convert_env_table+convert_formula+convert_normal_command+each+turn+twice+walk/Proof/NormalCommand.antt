@@ -1,9 +1,9 @@
 -- The needs of `convert_normal_command`.
 use mathlib.Core.Path.{sym, ap, _∙_, _≡_}
 use mathlib.Core.List.{List}
-use Rattle.mitex_state.specs.State.{contextOf, carryOf}
-use Rattle.mitex_state.specs.Conversion.{convert as meaning}
-use Rattle.mitex_state.proofs.Agreeing.{agrees-as, agrees-here}
+use Rattle.mitex_meaning.specs.State.{contextOf, carryOf}
+use Rattle.mitex_meaning.specs.Conversion.{convert as meaning}
+use Rattle.mitex_meaning.proofs.Agreeing.{agrees-as, agrees-here}
 use Rattle.mitex_plans.specs.Plans.{argumentsIn}
 use Rattle.mitex.proofs.Rooms.{siblings-forest, room-behind}
 use Rattle.mitex.proofs.Planning.{plan-agrees, given-in, means-after}
@@ -11,8 +11,8 @@ use Rattle.mitex_spec.specs.Rules.{Rule}
 use Rattle.mitex_spec.specs.Index.{Ready}
 use Rattle.mitex_syntax.specs.Tree.{Forest}
 use Rattle.mitex_commands.specs.Leaves.{classOf}
-use Rattle.mitex_state.specs.Outcome.{after}
-use Rattle.mitex_state.specs.Commands.{argumentsOf, typstName, normalCommand}
+use Rattle.mitex_meaning.specs.Outcome.{after}
+use Rattle.mitex_meaning.specs.Commands.{argumentsOf, typstName, normalCommand}
 use Rattle.mitex_commands.proofs.Ruling.{normal-absent, normal-found}
 use Rattle.mitex.proofs.Commanding.{normal-written, arguments-missing, arguments-taken}
 use native.Mathlib.Omega.{arith}

@@ -102,9 +102,9 @@ use Rattle.mitex_plans.proofs.table_plan.Reads as table-plan-reads
 use Rattle.mitex_spec.proofs.get_cmd.Reads as get-cmd-reads
 use Rattle.mitex_spec.proofs.get_env.Reads as get-env-reads
 use Rattle.mitex_spec.proofs.written_name.Reads as written-name-reads
-use Rattle.mitex_state.proofs.Converter.with_flag.Reads as with-flag-reads
-use Rattle.mitex_state.proofs.refuse.Reads as refuse-reads
-use Rattle.mitex_state.proofs.went.Reads as went-reads
+use Rattle.mitex_meaning.proofs.Converter.with_flag.Reads as with-flag-reads
+use Rattle.mitex_meaning.proofs.refuse.Reads as refuse-reads
+use Rattle.mitex_meaning.proofs.went.Reads as went-reads
 use Rattle.mitex_syntax.proofs.env_name.Reads as env-name-reads
 use Rattle.mitex_syntax.proofs.inner.Reads as inner-reads
 use Rattle.mitex_syntax.proofs.is_inline.Reads as is-inline-reads

@@ -2,7 +2,7 @@
 use mathlib.Core.Path.{_≡_, sym, _∙_}
 use mathlib.Core.Bool.{true}
 use borrow.Author.Tests.{not-true, not-false}
-use Rattle.mitex_state.specs.Children.{converts}
+use Rattle.mitex_meaning.specs.Children.{converts}
 use Rattle.mitex.proofs.Rooms.{room-behind}
 use Rattle.mitex.proofs.Walking.{turned-passed, turned-refused, turned, converts-good}
 use native.Mathlib.Omega.{arith}

@@ -1,7 +1,7 @@
 -- The needs of `twice`.
 use mathlib.Core.Path.{sym, ap, subst, _∙_}
-use Rattle.mitex_state.specs.Conversion.{convert as meaning}
-use Rattle.mitex_state.proofs.Agreeing.{then-done, then-refused}
+use Rattle.mitex_meaning.specs.Conversion.{convert as meaning}
+use Rattle.mitex_meaning.proofs.Agreeing.{then-done, then-refused}
 use Rattle.mitex_plans.specs.Plans.{Given, planned}
 use Rattle.mitex.proofs.Rooms.{room-on}
 use Rattle.mitex.proofs.Planning.{planned-good, agrees-in}

@@ -1,7 +1,0 @@
-pub mod Manuscript
-pub mod Stepping
-pub mod Reaching
-pub mod Pieces
-pub mod Measuring
-pub mod Rewriting
-pub mod Drafting

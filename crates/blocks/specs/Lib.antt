@@ -1,2 +1,0 @@
-pub mod Manuscript
-pub mod Passes

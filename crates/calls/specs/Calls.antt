@@ -1,0 +1,149 @@
+-- What Convert and Edit answer, and what their parts are given and promise.
+use mathlib.Core.Path.{_≡_}
+use mathlib.Core.Bool.{true}
+use mathlib.Core.Option.{Option}
+use mathlib.Core.Option.Option.{none as nothing, some}
+use mathlib.Core.List.{List}
+use Prim.Native.Nat.{ℕ, _+_, _*_, _-_, _≤_, min}
+use lib.ListN.{length, take}
+use Rattle.text.specs.Writing.{cap}
+use Rattle.mitex_spec.specs.Rules.{Rule}
+use Rattle.mitex_spec.specs.Index.{Ready, SomeRules}
+use Rattle.mitex_syntax.specs.Tree.{Forest, count}
+use Rattle.mitex_syntax.specs.Spells.{SpellsAll}
+use Rattle.tree_file.specs.Layout.{fileMost, blocksMost}
+use Rattle.tree_file.specs.declared.Checked.{Checked}
+use Rattle.tree_file.specs.declared.Checked.the-variants.{Whole as Sound, Refused as Bad}
+use Rattle.mitex_meaning.specs.State.{newOf, carryOf, Carried}
+use Rattle.mitex_meaning.specs.Conversion.{startCarry}
+use Rattle.mitex_meaning.specs.declared.LaTeXMode.{LaTeXMode}
+use Rattle.mitex_meaning.specs.declared.Converter.{Converter}
+use Rattle.ledger.specs.Ledger.{rowSize, decodeRows, encodeRows, fits, Piece, written, rowsFrom}
+use Rattle.edit_meaning.specs.Walk.{walk}
+use Rattle.edit_meaning.specs.Walk.CheckedFile.{good}
+use Rattle.edit_meaning.specs.Edit.{Answer, settle, endBefore, carryBefore, textAfter, ledgerAfter, write, editChecked}
+use Rattle.edit_meaning.specs.Edit.Answer.{refused, converted, edited}
+use Rattle.edit_meaning.specs.Calls.{Gives}
+use Rattle.manuscript.specs.Manuscript.{listed, blocksIn}
+use Rattle.passes.specs.Passes.{BlocksGiven, Pieced, converterOf, WrotePieces}
+use Rattle.passes.specs.Passes.{FirstPieces}
+use Rattle.passes.specs.declared.Standing.{Standing}
+use Rattle.calls.specs.declared.Converted.{Converted}
+use Rattle.calls.specs.declared.Converted.the-variants.{Refused as NotConverted, Done as WasConverted}
+use Rattle.calls.specs.declared.Edited.{Edited}
+use Rattle.calls.specs.declared.Edited.the-variants.{Refused as NotEdited, Done as WasEdited}
+use Rattle.calls.specs.declared.Opened.{Opened}
+use Rattle.calls.specs.declared.Opened.the-variants.{Shut, Open}
+
+-- ---- answers
+
+abbrev pub answerOfConvert : Converted → Answer
+answerOfConvert (NotConverted number row) = refused number row
+answerOfConvert (WasConverted length blocks) = converted length blocks
+
+abbrev pub answerOfEdit : Edited → Answer
+answerOfEdit (NotEdited number row) = refused number row
+answerOfEdit (WasEdited length growth count) = edited length growth count
+
+-- ---- the files
+
+-- what the checks leave: 3 to 5 by the tree file, 2 before them, and 1 before it
+abbrev pub openTree : LaTeXMode → Checked → Opened
+openTree m (Bad number row) = Shut number row
+openTree m (Sound start rows blocks) = Open m start blocks
+
+abbrev pub openRules : LaTeXMode → Option (List Rule) → Checked → Opened
+openRules m nothing v = Shut 2 0
+openRules m (some rs) v = openTree m v
+
+abbrev pub opened : Option LaTeXMode → Option (List Rule) → Checked → Opened
+opened nothing rules v = Shut 1 0
+opened (some m) rules v = openRules m rules v
+
+-- and the index of the rules
+abbrev pub Indexed : Opened → List ℕ → List ℕ → Type 0
+Indexed (Shut number row) rules index = Unit {0}
+Indexed (Open m start blocks) rules index = SomeRules rules index
+
+-- a document past the checks: its rules, and its blocks, spelt by the rows after the root's
+pub record Document (rules index rows text : List ℕ) (n : ℕ) : Type 0 where
+  pub rs : List Rule
+  pub ready : Ready rules index rs
+  pub blocks : Forest
+  pub spells : SpellsAll blocks rows text
+  pub many : count blocks ≡ n
+  pub most : n ≤ blocksMost
+  pub few : length rows ≤ fileMost
+  pub short : length text ≤ fileMost
+
+-- ---- Convert
+
+-- the pieces of a document's blocks, and a draft of them: their text, where it is no longer than the draft, and their rows
+pub record Draft (rules index rows text : List ℕ) (from : Standing) (n : ℕ) (draft draftRows out ledger : List ℕ) : Type 0 where
+  pub pieced : Pieced rules index rows text from n ledger
+  pub first : from .walked .at ≡ 0
+  pub begins : from .block ≡ 0
+  pub long : length out ≡ length (written (pieced .ps))
+  pub holds : length out ≤ length draft → take (length out) draft ≡ written (pieced .ps)
+  pub room : rowSize * n ≤ length draftRows
+  pub holds-rows : take (rowSize * n) draftRows ≡ encodeRows (rowsFrom 0 (pieced .ps))
+
+abbrev pub Delivers :
+    (rules index rows text : List ℕ) (from : Standing) (n : ℕ) (draft draftRows out ledger out′ ledger′ : List ℕ) → Type 0
+Delivers rules index rows text from n draft draftRows out ledger out′ ledger′ =
+    (w : Draft rules index rows text from n draft draftRows out ledger) → WrotePieces (w .pieced .ps) from out ledger out′ ledger′
+
+abbrev pub ConvertsBlocks :
+    (rules index rows text : List ℕ) (m : LaTeXMode) (n : ℕ) (out ledger : List ℕ) (r : Converted) (out′ ledger′ : List ℕ) → Type 0
+ConvertsBlocks rules index rows text m n out ledger r out′ ledger′ =
+    (w : Document rules index rows text n)
+    → Gives (settle (walk (blocksIn m (w .rs)) startCarry 1 (listed (w .blocks))) out ledger) (answerOfConvert r) out′ ledger′
+
+-- ---- Edit
+
+-- where a block begins, and the converter that it begins with, in a ledger of n rows or more
+abbrev pub EndsBefore : (ledger : List ℕ) (k : ℕ) (r : ℕ) → Type 0
+EndsBefore ledger k r = (n : ℕ) → k ≤ n → r ≡ endBefore k (decodeRows n ledger)
+
+abbrev pub CarriesBefore : (ledger : List ℕ) (k : ℕ) (m : LaTeXMode) (r : Converter) → Type 0
+CarriesBefore ledger k m r = (n : ℕ) → k ≤ n → Carried (newOf m) (carryBefore k (decodeRows n ledger)) r
+
+-- the blocks from a standing on were measured up to another: their pieces, and a ledger of n rows that fits the kept text
+pub record Measured (rules index rows text : List ℕ) (n kept : ℕ) (from m : Standing) (out ledger : List ℕ) : Type 0 where
+  pub given : BlocksGiven rules index rows text from
+  pub qs : List Piece
+  pub are : FirstPieces (converterOf given) (carryOf (from .walked .converter)) (listed (given .blocks)) qs
+  pub many : m .block ≡ from .block + length qs
+  pub end : m .walked .at ≡ min cap (from .walked .at + length (written qs))
+  pub begins : from .walked .at ≡ endBefore (from .block) (decodeRows n ledger)
+  pub within : m .block ≤ n
+  pub most : n ≤ blocksMost
+  pub fitting : fits n kept ledger ≡ true
+  pub inside : kept ≤ length out
+
+-- where the kept text of the blocks measured ends
+abbrev pub oldEnd : ℕ → Standing → List ℕ → ℕ
+oldEnd n m ledger = endBefore (m .block) (decodeRows n ledger)
+
+-- both buffers overwritten, where the new text has room
+pub record Overwrote (n kept : ℕ) (from m : Standing) (qs : List Piece) (out ledger out′ ledger′ : List ℕ) : Type 0 where
+  pub text :
+      out′
+      ≡ textAfter (from .walked .at) (oldEnd n m ledger) kept (m .walked .at + (kept - oldEnd n m ledger)) (written qs) out
+  pub rows : ledger′ ≡ ledgerAfter n (from .block) (from .walked .at) (oldEnd n m ledger) (m .walked .at) qs ledger
+
+abbrev pub Overwrites : (rules index rows text : List ℕ) (n kept : ℕ) (from m : Standing) (out ledger out′ ledger′ : List ℕ) → Type 0
+Overwrites rules index rows text n kept from m out ledger out′ ledger′ =
+    (w : Measured rules index rows text n kept from m out ledger) → Overwrote n kept from m (w .qs) out ledger out′ ledger′
+
+abbrev pub Splices :
+    (rules index rows text : List ℕ) (n kept : ℕ) (from m : Standing) (out ledger : List ℕ) (r : Edited) (out′ ledger′ : List ℕ) → Type 0
+Splices rules index rows text n kept from m out ledger r out′ ledger′ =
+    (w : Measured rules index rows text n kept from m out ledger)
+    → Gives (write n (from .block) kept (decodeRows n ledger) (w .qs) out ledger) (answerOfEdit r) out′ ledger′
+
+abbrev pub EditsBlocks :
+    (rules index rows text : List ℕ) (m : LaTeXMode) (n k kept : ℕ) (out ledger : List ℕ) (r : Edited) (out′ ledger′ : List ℕ) → Type 0
+EditsBlocks rules index rows text m n k kept out ledger r out′ ledger′ =
+    (w : Document rules index rows text n)
+    → Gives (editChecked (blocksIn m (w .rs)) (good (listed (w .blocks))) k kept out ledger) (answerOfEdit r) out′ ledger′

@@ -1,0 +1,634 @@
+// Convert and Edit, for any caller with any bytes: the files are checked, the blocks measured, and only then any lent byte is written.
+use ledger::ROW_SIZE;
+use ledger::ledger_fits;
+use ledger::move_rows;
+use ledger::row_carry;
+use ledger::row_end;
+use mitex_meaning::Converter;
+use mitex_meaning::LaTeXMode;
+use mitex_spec::INDEX_SIZE;
+use mitex_spec::check_rules;
+use passes::Standing;
+use passes::draft_blocks;
+use passes::measure;
+use passes::stand_at;
+use passes::write_blocks;
+use text::move_bytes;
+use text::put;
+use tree_file::Checked;
+use tree_file::check_tree;
+ghost use mathlib.Core.Path.{_≡_};
+ghost use mathlib.Core.Bool.{true, _&&_};
+ghost use Prim.Native.Nat.{_+_, _*_, _-_, _≤_, _<_, min};
+ghost use lib.ListN.{length, replicate};
+ghost use lib.Seq.{sets};
+ghost use lib.Dec.{leb};
+ghost use Rattle.text.specs.Writing.{cap};
+ghost use Rattle.mitex_spec.specs.RuleFile.{rulesOf};
+ghost use Rattle.mitex_spec.specs.Index.{indexSize};
+ghost use Rattle.tree_file.specs.Check.{checkTree, checkedAnswer};
+ghost use Rattle.mitex_meaning.specs.State.{newOf, Carried};
+ghost use Rattle.mitex_meaning.specs.Conversion.{startCarry};
+ghost use Rattle.ledger.specs.Ledger.{rowSize, HasRow, RowFits};
+ghost use Rattle.edit_meaning.specs.Edit.{textMost, roomForText, editFits};
+ghost use Rattle.edit_meaning.specs.Run.{sizeAfter};
+ghost use Rattle.edit_meaning.specs.Calls.{Converts, Edits, Runs, Demanded};
+ghost use Rattle.manuscript.specs.Manuscript.{modeOf, manuscript};
+ghost use Rattle.calls.specs.Calls.{answerOfConvert, answerOfEdit, openTree, opened, Indexed, Document, Draft, Delivers, ConvertsBlocks, EndsBefore, CarriesBefore, Measured, oldEnd, Overwrites, Splices, EditsBlocks};
+ghost use Rattle.calls.specs.Three.{threeEdits, threeAnswers};
+
+// A text buffer counts as at most so many bytes.
+const TEXT_MOST: usize = 4294967295;
+
+// Bytes of a draft's text, and as many of its rows: those of 512 blocks, the most that a document has.
+const DRAFT: usize = 65536;
+
+// The same for a short document.
+const SHORT_DRAFT: usize = 8192;
+
+// A short document has at most so many blocks, whose rows have room in its draft.
+const SHORT_BLOCKS: usize = 64;
+
+// And at most so many bytes of token texts, half of what its draft can hold: the text that they come to is seldom twice as long.
+const SHORT_TEXT: usize = 4096;
+
+// The same for a document that is not short, and not long either: a draft's text, its rows, its blocks and its token texts.
+const MIDDLE_DRAFT: usize = 32768;
+
+const MIDDLE_ROWS: usize = 16384;
+
+const MIDDLE_BLOCKS: usize = 128;
+
+const MIDDLE_TEXT: usize = 16384;
+
+// Convert's answer: a refusal's number and row, or the text's length and the count of blocks.
+pub enum Converted {
+    Refused { number: u8, row: usize },
+    Done { length: usize, blocks: usize },
+}
+
+// Edit's answer: a refusal's number and row, or the new length, the growth, and the count of blocks converted again.
+pub enum Edited {
+    Refused {
+        number: u8,
+        row: usize,
+    },
+    Done {
+        length: usize,
+        growth: i64,
+        count: usize,
+    },
+}
+
+// What three edits in a row answered, and the text's length behind them.
+pub struct Three {
+    pub first: Edited,
+    pub second: Edited,
+    pub third: Edited,
+    pub length: usize,
+}
+
+// What refusals 1 to 5 leave: a mode, where the tree file's rows begin, and how many blocks there are.
+pub enum Opened {
+    Shut {
+        number: u8,
+        row: usize,
+    },
+    Open {
+        mode: LaTeXMode,
+        start: usize,
+        blocks: usize,
+    },
+}
+
+// ---- the files
+
+// Refusals 3 to 5.
+fn open_tree(mode: LaTeXMode, tree: &[u8]) -> Opened
+    ensures { λ r. ⌜ r ≡ openTree mode (checkedAnswer (checkTree (now (tree .entry)))) ⌝ }
+{
+    match check_tree(tree) {
+        Checked::Refused { number, row } => Opened::Shut { number, row },
+        Checked::Whole {
+            start,
+            rows: _,
+            blocks,
+        } => Opened::Open {
+            mode,
+            start,
+            blocks,
+        },
+    }
+}
+
+// Refusals 1 to 5; where there is none the index is that of the rules.
+fn open(mode: u8, rules: &[u8], tree: &[u8], index: &mut [u32]) -> Opened
+    requires { ⌜ length (now index) ≡ indexSize ⌝ }
+    ensures answer { λ r. ⌜ r ≡ opened (modeOf mode) (rulesOf (now (rules .entry))) (checkedAnswer (checkTree (now (tree .entry)))) ⌝ }
+    ensures index { λ r. ⌜ Indexed r (now (rules .entry)) (now (index .exit)) ⌝ }
+{
+    if 1 < mode {
+        return Opened::Shut { number: 1, row: 0 };
+    }
+    if !check_rules(rules, index) {
+        return Opened::Shut { number: 2, row: 0 };
+    }
+    if mode == 0 {
+        return open_tree(LaTeXMode::Text, tree);
+    }
+    open_tree(LaTeXMode::Math, tree)
+}
+
+// ---- what both begin with
+
+// A new converter past the root: its flag is cleared.
+fn opening(mode: LaTeXMode) -> Converter
+    ensures { λ r. ⌜ Carried (newOf mode) startCarry r ⌝ }
+{
+    Converter::new(mode).with_flag(false)
+}
+
+// The text buffer as far as it counts.
+fn text_room(out: &[u8]) -> usize
+    ensures { λ r. ⌜ r ≡ min (length (now (out .entry))) textMost ⌝ }
+{
+    if TEXT_MOST < out.len() {
+        return TEXT_MOST;
+    }
+    out.len()
+}
+
+// ---- Convert
+
+// Whether the buffers have room for a text of so many bytes and a row for each of so many blocks.
+fn has_room(out: &[u8], ledger: &[u8], at: usize, blocks: usize) -> bool
+    ensures { λ r. ⌜ r ≡ roomForText at (length (now (out .entry))) && leb (rowSize * blocks) (length (now (ledger .entry))) ⌝ }
+{
+    if text_room(out) < at {
+        return false;
+    }
+    if ledger.len() / ROW_SIZE < blocks {
+        return false;
+    }
+    true
+}
+
+// The draft's text and rows, where the draft is long enough for the text; else the blocks are converted once more.
+fn deliver<'a>(
+    draft: &[u8],
+    draft_rows: &[u8],
+    rows: &[u8],
+    text: &'a [u8],
+    rules: &'a [u8],
+    index: &[u32],
+    from: Standing,
+    blocks: usize,
+    out: &mut [u8],
+    ledger: &mut [u8],
+)
+    requires { ⌜ Draft (now rules) (now index) (now rows) (now text) from blocks (now draft) (now «draft_rows») (now out) (now ledger) ⌝ }
+    ensures { λ _. ⌜ Delivers (now (rules .entry)) (now (index .entry)) (now (rows .entry)) (now (text .entry)) from blocks (now (draft .entry)) (now («draft_rows» .entry)) (now (out .entry)) (now (ledger .entry)) (now (out .exit)) (now (ledger .exit)) ⌝ }
+{
+    let at = out.len();
+    if draft.len() < at {
+        write_blocks(out, ledger, rows, text, rules, index, from, blocks);
+        return;
+    }
+    let end = ROW_SIZE * blocks;
+    put(out, 0, &draft[..at]);
+    put(&mut ledger[..end], 0, &draft_rows[..end]);
+}
+
+// The blocks of a document, drafted and then delivered: the text, and a row for each.
+fn convert_by_draft<'a>(
+    draft: &mut [u8],
+    draft_rows: &mut [u8],
+    rows: &[u8],
+    text: &'a [u8],
+    rules: &'a [u8],
+    index: &[u32],
+    mode: LaTeXMode,
+    blocks: usize,
+    out: &mut [u8],
+    ledger: &mut [u8],
+) -> Converted
+    requires { ⌜ Document (now rules) (now index) (now rows) (now text) blocks ⌝ }
+    requires { ⌜ (length (now draft) ≤ cap) × (rowSize * blocks ≤ length (now «draft_rows»)) ⌝ }
+    ensures { λ r. ⌜ ConvertsBlocks (now (rules .entry)) (now (index .entry)) (now (rows .entry)) (now (text .entry)) mode blocks (now (out .entry)) (now (ledger .entry)) r (now (out .exit)) (now (ledger .exit)) ⌝ }
+{
+    let from = stand_at(rows, 0, 0, opening(mode));
+    let m = draft_blocks(draft, draft_rows, rows, text, rules, index, from, blocks);
+    let whole = m.walked;
+    let number = whole.refusal;
+    let row = whole.row;
+    let at = whole.at;
+    let room = has_room(out, ledger, at, blocks);
+    if number != 0 {
+        return Converted::Refused { number, row };
+    }
+    if !room {
+        return Converted::Refused { number: 15, row: 0 };
+    }
+    deliver(
+        draft,
+        draft_rows,
+        rows,
+        text,
+        rules,
+        index,
+        from,
+        blocks,
+        &mut out[..at],
+        ledger,
+    );
+    Converted::Done { length: at, blocks }
+}
+
+// Whether a document has at most so much text and so many blocks.
+fn is_within(text: &[u8], blocks: usize, longest: usize, most: usize) -> bool
+    ensures { λ r. ⌜ (r ≡ true → blocks ≤ most) ⌝ }
+{
+    if longest < text.len() {
+        return false;
+    }
+    blocks <= most
+}
+
+// The blocks of a document that is not short, over a draft.
+fn convert_longer<'a>(
+    rows: &[u8],
+    text: &'a [u8],
+    rules: &'a [u8],
+    index: &[u32],
+    mode: LaTeXMode,
+    blocks: usize,
+    out: &mut [u8],
+    ledger: &mut [u8],
+) -> Converted
+    requires { ⌜ Document (now rules) (now index) (now rows) (now text) blocks ⌝ }
+    ensures { λ r. ⌜ ConvertsBlocks (now (rules .entry)) (now (index .entry)) (now (rows .entry)) (now (text .entry)) mode blocks (now (out .entry)) (now (ledger .entry)) r (now (out .exit)) (now (ledger .exit)) ⌝ }
+{
+    if is_within(text, blocks, MIDDLE_TEXT, MIDDLE_BLOCKS) {
+        let mut draft = [0u8; MIDDLE_DRAFT];
+        let mut draft_rows = [0u8; MIDDLE_ROWS];
+        return convert_by_draft(
+            &mut draft,
+            &mut draft_rows,
+            rows,
+            text,
+            rules,
+            index,
+            mode,
+            blocks,
+            out,
+            ledger,
+        );
+    }
+    let mut draft = [0u8; DRAFT];
+    let mut draft_rows = [0u8; DRAFT];
+    convert_by_draft(
+        &mut draft,
+        &mut draft_rows,
+        rows,
+        text,
+        rules,
+        index,
+        mode,
+        blocks,
+        out,
+        ledger,
+    )
+}
+
+// The blocks of a document, over a draft: a shorter one for a shorter document, since a draft is cleared before it is used.
+fn convert_blocks<'a>(
+    rows: &[u8],
+    text: &'a [u8],
+    rules: &'a [u8],
+    index: &[u32],
+    mode: LaTeXMode,
+    blocks: usize,
+    out: &mut [u8],
+    ledger: &mut [u8],
+) -> Converted
+    requires { ⌜ Document (now rules) (now index) (now rows) (now text) blocks ⌝ }
+    ensures { λ r. ⌜ ConvertsBlocks (now (rules .entry)) (now (index .entry)) (now (rows .entry)) (now (text .entry)) mode blocks (now (out .entry)) (now (ledger .entry)) r (now (out .exit)) (now (ledger .exit)) ⌝ }
+{
+    if is_within(text, blocks, SHORT_TEXT, SHORT_BLOCKS) {
+        let mut draft = [0u8; SHORT_DRAFT];
+        let mut draft_rows = [0u8; SHORT_DRAFT];
+        return convert_by_draft(
+            &mut draft,
+            &mut draft_rows,
+            rows,
+            text,
+            rules,
+            index,
+            mode,
+            blocks,
+            out,
+            ledger,
+        );
+    }
+    convert_longer(rows, text, rules, index, mode, blocks, out, ledger)
+}
+
+// A tree file converted from its start, for mode 0 (text) or 1 (math): the text and a ledger row for each block are written.
+pub fn convert<'a>(
+    mode: u8,
+    rules: &'a [u8],
+    tree: &'a [u8],
+    text: &mut [u8],
+    ledger: &mut [u8],
+) -> Converted
+    ensures { λ r. ⌜ Converts (manuscript mode (now (rules .entry))) (now (tree .entry)) (now (text .entry)) (now (ledger .entry)) (answerOfConvert r) (now (text .exit)) (now (ledger .exit)) ⌝ }
+{
+    let mut index = [0u32; INDEX_SIZE];
+    match open(mode, rules, tree, &mut index) {
+        Opened::Shut { number, row } => Converted::Refused { number, row },
+        Opened::Open {
+            mode: m,
+            start,
+            blocks,
+        } => {
+            let from = start + 8;
+            let end = tree.len() - 8;
+            convert_blocks(
+                &tree[from..end],
+                &tree[..start],
+                rules,
+                &index,
+                m,
+                blocks,
+                text,
+                ledger,
+            )
+        }
+    }
+}
+
+// `convert_text` of the Rust.
+pub fn convert_text<'a>(
+    rules: &'a [u8],
+    tree: &'a [u8],
+    text: &mut [u8],
+    ledger: &mut [u8],
+) -> Converted
+    ensures { λ r. ⌜ Converts (manuscript 0 (now (rules .entry))) (now (tree .entry)) (now (text .entry)) (now (ledger .entry)) (answerOfConvert r) (now (text .exit)) (now (ledger .exit)) ⌝ }
+{
+    convert(0, rules, tree, text, ledger)
+}
+
+// `convert_math` of the Rust.
+pub fn convert_math<'a>(
+    rules: &'a [u8],
+    tree: &'a [u8],
+    text: &mut [u8],
+    ledger: &mut [u8],
+) -> Converted
+    ensures { λ r. ⌜ Converts (manuscript 1 (now (rules .entry))) (now (tree .entry)) (now (text .entry)) (now (ledger .entry)) (answerOfConvert r) (now (text .exit)) (now (ledger .exit)) ⌝ }
+{
+    convert(1, rules, tree, text, ledger)
+}
+
+// ---- Edit
+
+// Where block `k` begins, by the row before it.
+fn end_before(ledger: &[u8], k: usize) -> usize
+    requires { ⌜ (0 < k → HasRow (k - 1) (now ledger)) ⌝ }
+    ensures { λ r. ⌜ EndsBefore (now (ledger .entry)) k r × (r < cap) ⌝ }
+{
+    if k == 0 {
+        return 0;
+    }
+    row_end(ledger, k - 1)
+}
+
+// The converter with which block `k` begins, by the row before it.
+fn carry_before(ledger: &[u8], k: usize, mode: LaTeXMode) -> Converter
+    requires { ⌜ (0 < k → RowFits (k - 1) (now ledger)) ⌝ }
+    ensures { λ r. ⌜ CarriesBefore (now (ledger .entry)) k mode r ⌝ }
+{
+    if k == 0 {
+        return opening(mode);
+    }
+    row_carry(ledger, k - 1, opening(mode))
+}
+
+// Refusal 6: whether the block exists, the kept text is in the buffer, and the ledger fits.
+fn edit_fits(blocks: usize, block: usize, kept: usize, text: &[u8], ledger: &[u8]) -> bool
+    ensures { λ r. ⌜ r ≡ editFits blocks block kept (now (text .entry)) (now (ledger .entry)) ⌝ }
+{
+    if blocks <= block {
+        return false;
+    }
+    if text.len() < kept {
+        return false;
+    }
+    ledger_fits(ledger, blocks, kept)
+}
+
+// Zeros from `from` up to `to`, where that is behind it.
+fn clear_between(out: &mut [u8], from: usize, to: usize)
+    requires { ⌜ to ≤ length (now out) ⌝ }
+    ensures { λ _. ⌜ now (out .exit) ≡ sets (now (out .entry)) from (replicate (to - from) 0) ⌝ }
+{
+    let mut i = from;
+    while i < to {
+        out[i] = 0;
+        i += 1;
+    }
+}
+
+// The tail moved, the blocks that were measured written before it, zeros where the text shrank; then the rows behind them moved.
+fn overwrite<'a>(
+    rows: &[u8],
+    text: &'a [u8],
+    rules: &'a [u8],
+    index: &[u32],
+    blocks: usize,
+    kept: usize,
+    from: Standing,
+    m: Standing,
+    old: usize,
+    out: &mut [u8],
+    ledger: &mut [u8],
+)
+    requires { ⌜ Measured (now rules) (now index) (now rows) (now text) blocks kept from m (now out) (now ledger) ⌝ }
+    requires { ⌜ (old ≡ oldEnd blocks m (now ledger)) × (m .walked .at + (kept - old) ≤ length (now out)) × (m .walked .at + (kept - old) < cap) ⌝ }
+    ensures { λ _. ⌜ Overwrites (now (rules .entry)) (now (index .entry)) (now (rows .entry)) (now (text .entry)) blocks kept from m (now (out .entry)) (now (ledger .entry)) (now (out .exit)) (now (ledger .exit)) ⌝ }
+{
+    let walked = m.walked;
+    let at = walked.at;
+    let tail = kept - old;
+    let to = m.block;
+    move_bytes(out, old, at, tail);
+    write_blocks(&mut out[..at], ledger, rows, text, rules, index, from, to);
+    clear_between(out, at + tail, kept);
+    move_rows(ledger, to, blocks, old, at);
+}
+
+// The blocks that were measured, in the place of the kept ones, where there is room for the new text.
+fn splice<'a>(
+    rows: &[u8],
+    text: &'a [u8],
+    rules: &'a [u8],
+    index: &[u32],
+    blocks: usize,
+    kept: usize,
+    from: Standing,
+    m: Standing,
+    out: &mut [u8],
+    ledger: &mut [u8],
+) -> Edited
+    requires { ⌜ Measured (now rules) (now index) (now rows) (now text) blocks kept from m (now out) (now ledger) ⌝ }
+    ensures { λ r. ⌜ Splices (now (rules .entry)) (now (index .entry)) (now (rows .entry)) (now (text .entry)) blocks kept from m (now (out .entry)) (now (ledger .entry)) r (now (out .exit)) (now (ledger .exit)) ⌝ }
+{
+    let old = end_before(ledger, m.block);
+    let walked = m.walked;
+    let new = walked.at + (kept - old);
+    if text_room(out) < new {
+        return Edited::Refused { number: 15, row: 0 };
+    }
+    overwrite(
+        rows,
+        text,
+        rules,
+        index,
+        blocks,
+        kept,
+        from,
+        m,
+        old,
+        out,
+        ledger,
+    );
+    let growth = new as i64 - kept as i64;
+    let count = m.block - from.block;
+    Edited::Done {
+        length: new,
+        growth,
+        count,
+    }
+}
+
+// The named block and those behind it converted again, up to the first whose carry is that of its kept row.
+fn edit_blocks<'a>(
+    rows: &[u8],
+    text: &'a [u8],
+    rules: &'a [u8],
+    index: &[u32],
+    mode: LaTeXMode,
+    blocks: usize,
+    block: usize,
+    kept: usize,
+    out: &mut [u8],
+    ledger: &mut [u8],
+) -> Edited
+    requires { ⌜ Document (now rules) (now index) (now rows) (now text) blocks ⌝ }
+    ensures { λ r. ⌜ EditsBlocks (now (rules .entry)) (now (index .entry)) (now (rows .entry)) (now (text .entry)) mode blocks block kept (now (out .entry)) (now (ledger .entry)) r (now (out .exit)) (now (ledger .exit)) ⌝ }
+{
+    if !edit_fits(blocks, block, kept, out, ledger) {
+        return Edited::Refused { number: 6, row: 0 };
+    }
+    let at = end_before(ledger, block);
+    let from = stand_at(rows, block, at, carry_before(ledger, block, mode));
+    let m = measure(rows, text, rules, index, ledger, from, blocks);
+    let walked = m.walked;
+    if walked.refusal != 0 {
+        return Edited::Refused {
+            number: walked.refusal,
+            row: walked.row,
+        };
+    }
+    splice(rows, text, rules, index, blocks, kept, from, m, out, ledger)
+}
+
+// An edit of block `block`: `tree` is the new tree file, `kept` the text's length before; text and ledger are those that were kept.
+pub fn edit<'a>(
+    mode: u8,
+    rules: &'a [u8],
+    tree: &'a [u8],
+    block: usize,
+    kept: usize,
+    text: &mut [u8],
+    ledger: &mut [u8],
+) -> Edited
+    ensures { λ r. ⌜ Edits (manuscript mode (now (rules .entry))) (now (tree .entry)) block kept (now (text .entry)) (now (ledger .entry)) (answerOfEdit r) (now (text .exit)) (now (ledger .exit)) ⌝ }
+{
+    let mut index = [0u32; INDEX_SIZE];
+    match open(mode, rules, tree, &mut index) {
+        Opened::Shut { number, row } => Edited::Refused { number, row },
+        Opened::Open {
+            mode: m,
+            start,
+            blocks,
+        } => {
+            let from = start + 8;
+            let end = tree.len() - 8;
+            edit_blocks(
+                &tree[from..end],
+                &tree[..start],
+                rules,
+                &index,
+                m,
+                blocks,
+                block,
+                kept,
+                text,
+                ledger,
+            )
+        }
+    }
+}
+
+// ---- three edits in a row
+
+// The text's length behind an edit: a refused one leaves it as it was.
+fn length_after(r: Edited, kept: usize) -> usize
+    ensures { λ n. ⌜ n ≡ sizeAfter (answerOfEdit r) kept ⌝ }
+{
+    match r {
+        Edited::Refused { number: _, row: _ } => kept,
+        Edited::Done {
+            length,
+            growth: _,
+            count: _,
+        } => length,
+    }
+}
+
+// Three edits, each with what the one before left: a small example of what a caller does. The calls are a run, so demand 3 holds of them.
+pub fn three_edits<'a>(
+    mode: u8,
+    rules: &'a [u8],
+    one: &'a [u8],
+    i: usize,
+    two: &'a [u8],
+    j: usize,
+    three: &'a [u8],
+    k: usize,
+    kept: usize,
+    text: &mut [u8],
+    ledger: &mut [u8],
+) -> Three
+    ensures run { λ r. ⌜ Runs (manuscript mode (now (rules .entry))) kept (now (text .entry)) (now (ledger .entry))
+        (threeEdits (now (one .entry)) i (now (two .entry)) j (now (three .entry)) k)
+        (threeAnswers r) (r .length) (now (text .exit)) (now (ledger .exit)) ⌝ }
+    ensures demand { λ r. ⌜ Demanded (manuscript mode (now (rules .entry))) kept (now (text .entry)) (now (ledger .entry))
+        (threeEdits (now (one .entry)) i (now (two .entry)) j (now (three .entry)) k)
+        (threeAnswers r) (r .length) (now (text .exit)) (now (ledger .exit)) ⌝ }
+{
+    let first = edit(mode, rules, one, i, kept, text, ledger);
+    let after_one = length_after(first, kept);
+    let second = edit(mode, rules, two, j, after_one, text, ledger);
+    let after_two = length_after(second, after_one);
+    let third = edit(mode, rules, three, k, after_two, text, ledger);
+    let length = length_after(third, after_two);
+    Three {
+        first,
+        second,
+        third,
+        length,
+    }
+}

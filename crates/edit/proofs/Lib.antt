@@ -1,8 +1,0 @@
-pub mod Demand
-pub mod Answers
-pub mod Files
-pub mod Starting
-pub mod Settling
-pub mod Delivering
-pub mod Splicing
-pub mod Again

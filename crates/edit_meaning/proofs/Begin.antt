@@ -1,0 +1,74 @@
+-- What an accepted Convert leaves is what demand 3 starts from (`converts-holds`): only that both buffers keep their length is left to
+-- show, since `Holds` speaks of the very buffers that the conversion leaves.
+use mathlib.Core.Path.{_≡_, refl, sym, subst}
+use mathlib.Core.Bool.{Bool, true, false}
+use mathlib.Core.List.{List}
+use Prim.Native.Nat.{ℕ, _*_, _≤_, min}
+use native.Mathlib.Omega.{arith}
+use lib.ListN.{length, length-append, length-drop}
+use Rattle.mitex_meaning.specs.Conversion.{startCarry}
+use Rattle.ledger.specs.Ledger.{rowSize, encodeRows, Piece, written, rowsFrom}
+use Rattle.edit_meaning.specs.Walk.{CheckedFile, BlockConverter, KeepsShort, Walk}
+use Rattle.edit_meaning.specs.Walk.CheckedFile.{bad, good}
+use Rattle.edit_meaning.specs.Walk.Walk.{stopped, pieces}
+use Rattle.edit_meaning.specs.Edit.{textMost, room, put, settle, conversion, convertDocument}
+use Rattle.edit_meaning.specs.Edit.Answer.{refused, converted}
+use Rattle.edit_meaning.specs.Run.{Kept, Holds}
+use Rattle.edit_meaning.specs.Calls.{Converts}
+use Rattle.edit_meaning.proofs.Walks.{Walked, walk-walked}
+use Rattle.edit_meaning.proofs.Holding.{room-says, rows-length, walked-encodable}
+
+put-length : (new l : List ℕ) → length new ≤ length l → length (put new l) ≡ length l
+put-length new l h = simp (length-append, length-drop) (omega arith)
+
+module _ (𝓒 : BlockConverter) (keeps-short : KeepsShort 𝓒) (tree t l : List ℕ) (size blocks : ℕ) where
+  open BlockConverter 𝓒 using (Block, check)
+
+  abbrev left : Kept
+  left = record { text = (convertDocument 𝓒 tree t l) .text; ledger = (convertDocument 𝓒 tree t l) .ledger; size = size }
+
+  sized :
+      (bs : List Block) (ps : List Piece) → check tree ≡ good bs → conversion 𝓒 tree ≡ pieces ps → (b : Bool) → room (length t) (length l) ps ≡ b
+      → (convertDocument 𝓒 tree t l) .answer ≡ converted size blocks
+      → (length ((convertDocument 𝓒 tree t l) .text) ≡ length t) × (length ((convertDocument 𝓒 tree t l) .ledger) ≡ length l)
+  unfolding convertDocument settle conversion
+  sized bs ps ch c false r e =
+      let x : refused 15 0 ≡ converted size blocks = rw (c, r) at e in
+      let y : _≡_ {A = ℕ} 0 1 = cc in absurd (omega arith)
+  sized bs ps ch c true r e =
+      let fit : (length (written ps) ≤ min (length t) textMost) × (rowSize * length ps ≤ length l) = room-says (length t) (length l) ps r in
+      let w : Walked 𝓒 startCarry bs ps = walk-walked 𝓒 bs startCarry 1 ps (rw ch at c) in
+      let n : length (encodeRows (rowsFrom 0 ps)) ≡ rowSize * length ps = rows-length ps (walked-encodable 𝓒 keeps-short w (omega arith)) in
+      (rw (c, r) (put-length (written ps) t (omega arith)), rw (c, r) (put-length (encodeRows (rowsFrom 0 ps)) l (omega arith)))
+
+  by-walk :
+      (bs : List Block) → check tree ≡ good bs → (w : Walk) → conversion 𝓒 tree ≡ w → (convertDocument 𝓒 tree t l) .answer ≡ converted size blocks
+      → (length ((convertDocument 𝓒 tree t l) .text) ≡ length t) × (length ((convertDocument 𝓒 tree t l) .ledger) ≡ length l)
+  unfolding convertDocument settle
+  by-walk bs ch (stopped n i) c e =
+      let x : refused n i ≡ converted size blocks = rw c at e in
+      let y : _≡_ {A = ℕ} 0 1 = cc in absurd (omega arith)
+  by-walk bs ch (pieces ps) c e = sized bs ps ch c (room (length t) (length l) ps) refl e
+
+  by-check :
+      (x : CheckedFile Block) → check tree ≡ x → (convertDocument 𝓒 tree t l) .answer ≡ converted size blocks
+      → (length ((convertDocument 𝓒 tree t l) .text) ≡ length t) × (length ((convertDocument 𝓒 tree t l) .ledger) ≡ length l)
+  unfolding convertDocument settle conversion
+  by-check (bad n i) ch e =
+      let x : refused n i ≡ converted size blocks = rw ch at e in
+      let y : _≡_ {A = ℕ} 0 1 = cc in absurd (omega arith)
+  by-check (good bs) ch e = by-walk bs ch (conversion 𝓒 tree) refl e
+
+  pub converted-holds : (convertDocument 𝓒 tree t l) .answer ≡ converted size blocks → Holds 𝓒 t l tree left
+  converted-holds e =
+      let n = by-check (check tree) refl e in
+      record { blocks = blocks; accepted = e; text = refl; rows = refl; textSize = n .0; ledgerSize = n .1 }
+
+  -- told of the call: what the contract of `convert` gives
+  pub converts-holds :
+      {text′ ledger′ : List ℕ} → Converts 𝓒 tree t l (converted size blocks) text′ ledger′
+      → Holds 𝓒 t l tree (record { text = text′; ledger = ledger′; size = size })
+  converts-holds g =
+      let s : left ≡ record { text = _; ledger = _; size = size }
+      = λ i. record { text = sym (g .gives .bytes) i; ledger = sym (g .gives .rows) i; size = size } in
+      subst (Holds 𝓒 t l tree) s (converted-holds (sym (g .gives .answer)))

@@ -1,0 +1,53 @@
+-- What `countTo` counts, in words (`countTo-first`): to the first block after which both carry the same, or to the last.
+use mathlib.Core.Path.{_≡_, refl}
+use mathlib.Core.Logic.{_≢_}
+use mathlib.Core.Bool.{Bool, true, false, cond}
+use mathlib.Core.List.{List, [], _∷_}
+use Prim.Native.Nat.{ℕ, zero, suc, _≤_, _<_}
+use native.Mathlib.Nat.{le-of-suc-le-suc}
+use native.Mathlib.Omega.{arith}
+use lib.ListN.{length, getD}
+use Rattle.mitex_meaning.specs.Outcome.{Carry}
+use Rattle.mitex_meaning.specs.Conversion.{startCarry}
+use Rattle.ledger.specs.Ledger.{sameCarry}
+use Rattle.ledger.proofs.Carries.{sameCarry-true, sameCarry-false}
+use Rattle.edit_meaning.specs.Walk.{countTo}
+
+-- n blocks: no more than there are (`within`), one at least (`one`), before the last of them the carries differ (`apart`), and
+-- after it they are the same, unless it is the last of all (`meets`)
+pub record FirstSame (cs ds : List Carry) (n : ℕ) : Type 0 where
+  pub within : n ≤ length cs
+  pub one : 0 < length cs → 0 < n
+  pub apart : (j : ℕ) → suc j < n → getD cs j startCarry ≢ getD ds j startCarry
+  pub meets : (j : ℕ) → suc j ≡ n → n < length cs → getD cs j startCarry ≡ getD ds j startCarry
+
+first-step :
+    (c d : Carry) (cs ds : List Carry) (n : ℕ) → FirstSame cs ds n → (b : Bool) → sameCarry c d ≡ b
+    → FirstSame (c ∷ cs) (d ∷ ds) (suc (cond b 0 n))
+first-step c d cs ds n f true e =
+    record { within = omega arith; one = omega arith; apart = λ j h. absurd (omega arith); meets = meet }
+  where
+    meet : (j : ℕ) → suc j ≡ 1 → 1 < suc (length cs) → getD (c ∷ cs) j startCarry ≡ getD (d ∷ ds) j startCarry
+    meet zero q h = sameCarry-true c d e
+    meet (suc j) q h = absurd (omega arith)
+first-step c d cs ds n f false e = record { within = omega (arith, f .within); one = omega arith; apart = part; meets = meet }
+  where
+    part : (j : ℕ) → suc j < suc n → getD (c ∷ cs) j startCarry ≢ getD (d ∷ ds) j startCarry
+    part zero h = sameCarry-false c d e
+    part (suc j) h = f .apart j (le-of-suc-le-suc h)
+
+    meet : (j : ℕ) → suc j ≡ suc n → suc n < suc (length cs) → getD (c ∷ cs) j startCarry ≡ getD (d ∷ ds) j startCarry
+    meet zero q h = let x : 0 < n = f .one (omega arith) in absurd (omega arith)
+    meet (suc j) q h = f .meets j (omega arith) (omega arith)
+
+pub countTo-first : (cs ds : List Carry) → length cs ≡ length ds → FirstSame cs ds (countTo cs ds)
+countTo-first [] [] h =
+    record {
+      within = omega arith;
+      one = λ x. absurd (omega arith);
+      apart = λ j x. absurd (omega arith);
+      meets = λ j q x. absurd (omega arith);
+    }
+countTo-first [] (d ∷ ds) h = absurd (omega arith)
+countTo-first (c ∷ cs) [] h = absurd (omega arith)
+countTo-first (c ∷ cs) (d ∷ ds) h = first-step c d cs ds (countTo cs ds) (countTo-first cs ds (omega arith)) (sameCarry c d) refl

@@ -1,0 +1,11 @@
+pub mod Walks
+pub mod Splice
+pub mod Holding
+pub mod Demand
+pub mod Count
+pub mod Numbers
+pub mod Six
+pub mod Calls
+pub mod Bytes
+pub mod Begin
+pub mod Untouched

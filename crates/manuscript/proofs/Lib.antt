@@ -1,0 +1,3 @@
+pub mod Manuscript
+pub mod Root
+pub mod Answers

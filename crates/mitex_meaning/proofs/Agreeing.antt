@@ -1,0 +1,119 @@
+-- Laws of answers that agree with outcomes: how agreement follows `after`, `closing`, `andThen` and `shift`.
+use mathlib.Core.Path.{_≡_, sym, ap, subst, _∙_}
+use mathlib.Core.Bool.{Bool}
+use mathlib.Core.List.{List}
+use Prim.Native.Nat.{ℕ, _+_, _≤_, _<_}
+use native.Mathlib.Omega.{arith}
+use lib.ListN.{length}
+use Rattle.text.specs.Writing.{cap, Wrote}
+use Rattle.text.proofs.Writing.{wrote-then, wrote-low}
+use Rattle.mitex_meaning.specs.Outcome.{Carry, Outcome, andThen, after, closing, shift, labelMost}
+use Rattle.mitex_meaning.specs.Outcome.Outcome.{refused, done}
+use Rattle.mitex_meaning.specs.State.{carryOf, placed, Carried}
+use Rattle.mitex_meaning.specs.Contract.{Place, placeOf, Agrees, Went, Declined, Takes}
+use Rattle.mitex_meaning.specs.Contract.Agrees.{declines, accepts}
+use Rattle.mitex_meaning.specs.Environments.{taken, dropped, takeLabel}
+use Rattle.mitex_meaning.specs.declared.LaTeXMode.{LaTeXMode}
+use Rattle.mitex_meaning.specs.declared.Converter.{Converter}
+use Rattle.mitex_meaning.specs.declared.Walked.{Walked}
+
+pub agrees-as :
+    {o o′ : Outcome} {a : Walked} {x : Place} {row at : ℕ} {out out′ : List ℕ} → o ≡ o′ → Agrees a x row at out out′ o′
+    → Agrees a x row at out out′ o
+agrees-as {o} {o′} {a} {x} {row} {at} {out} {out′} e m = subst (Agrees a x row at out out′) (sym e) m
+
+-- an answer that is no refusal
+pub record Good (a : Walked) (x : Place) : Type 0 where
+  pub place : a .at ≤ cap
+  pub short : a .converter .«label_len» ≤ labelMost
+  pub placed-so : placeOf (a .converter) ≡ x
+
+module _ {a : Walked} {x : Place} {row at : ℕ} {out out′ : List ℕ} where
+  pub agrees-done :
+      {c : Carry} {w : List ℕ} {p : ℕ} (d : Converter) → Went d p a → placeOf d ≡ x → carryOf d ≡ c → d .«label_len» ≤ labelMost
+      → Wrote at out w p out′ → Agrees a x row at out out′ (done c w)
+  agrees-done {c} {w} {p} d g ex ec l wr =
+      accepts (g .well) (ap placeOf (g .gives) ∙ ex) (ap carryOf (g .gives) ∙ ec)
+      (subst (λ (z : Converter). z .«label_len» ≤ labelMost) (sym (g .gives)) l) (subst (λ (q : ℕ). Wrote at out w q out′) (sym (g .next)) wr)
+
+  -- the converter went on with another carry
+  pub agrees-carried :
+      {c : Converter} {e : Carry} {w : List ℕ} {p : ℕ} (d : Converter) → Went d p a → Carried c e d → placeOf c ≡ x
+      → c .«label_len» ≤ labelMost → Wrote at out w p out′ → Agrees a x row at out out′ (done e w)
+  agrees-carried {c} d g m ex l wr =
+      let same : placeOf d ≡ placeOf c = λ i. record { mode = m .mode i; env = m .env i; indent = m .indent i } in
+      agrees-done d g (same ∙ ex) (m .carry) (m .short l) wr
+
+  pub agrees-refused : {n : ℕ} (r : ℕ) → 0 < n → Declined n (row + r) a → Agrees a x row at out out′ (refused n r)
+  agrees-refused r h d = declines {r = r} h (d .number) (d .at-row)
+
+  -- refused at the element's own row
+  pub agrees-here : {n : ℕ} → 0 < n → Declined n row a → Agrees a x row at out out′ (refused n 0)
+  agrees-here {n} h d = declines {r = 0} h (d .number) (let e = d .at-row in omega arith)
+
+  pub good : {o : Outcome} → Agrees a x row at out out′ o → a .refusal ≡ 0 → Good a x
+  good (declines h p q) z = absurd (omega arith)
+  good (accepts u ex ec l w) z = record { place = wrote-low w; short = l; placed-so = ex }
+
+  -- a child's rows are counted from its own first row
+  pub agrees-shift : {o : Outcome} (n : ℕ) → Agrees a x (row + n) at out out′ o → Agrees a x row at out out′ (shift n o)
+  agrees-shift n (declines {r = r} h p q) = declines {r = n + r} h p (omega arith)
+  agrees-shift n (accepts u ex ec l w) = accepts u ex ec l w
+
+  -- a refusal is one in every place
+  pub refused-in : {y : Place} {o : Outcome} → Agrees a y row at out out′ o → (a .refusal ≡ 0 → ⊥) → Agrees a x row at out out′ o
+  refused-in (declines h p q) z = declines h p q
+  refused-in (accepts u ex ec l w) z = absurd (z u)
+
+module _ {row at at₁ : ℕ} {out out₁ out₂ w : List ℕ} {a : Walked} {x : Place} where
+  -- what was written before
+  pub agrees-after :
+      {o : Outcome} → length out ≤ cap → Wrote at out w at₁ out₁ → Agrees a x row at₁ out₁ out₂ o → Agrees a x row at out out₂ (after w o)
+  agrees-after h wr (declines g p q) = declines g p q
+  agrees-after h wr (accepts u ex ec l v) = accepts u ex ec l (wrote-then h wr v)
+
+-- what follows a walk: a refusal is handed on; else the converter is brought to the place x, and w is written behind
+pub record Closed (a : Walked) (x : Place) (w out : List ℕ) (r : Walked) (out′ : List ℕ) : Type 0 where
+  pub refused-on : (a .refusal ≡ 0 → ⊥) → (r ≡ a) × (out′ ≡ out)
+  pub accepted : a .refusal ≡ 0 → r .refusal ≡ 0
+  pub converter : a .refusal ≡ 0 → r .converter ≡ placed (x .mode) (x .env) (x .indent) (a .converter)
+  pub written : a .refusal ≡ 0 → Wrote (a .at) out w (r .at) out′
+
+module _ {row at : ℕ} {out out₁ out₂ w : List ℕ} {a r : Walked} {x y : Place} where
+  -- a walk in another place is closed: the converter comes back to this one
+  pub agrees-close :
+      {o : Outcome} → length out ≤ cap → Agrees a y row at out out₁ o → Closed a x w out₁ r out₂ → Agrees r x row at out out₂ (closing w o)
+  agrees-close h (declines {n} {r = k} g p q) c =
+      let z : a .refusal ≡ 0 → ⊥ = λ e. omega arith in
+      let same = c .refused-on z .0 in
+      declines {r = k} g (ap (λ (b : Walked). b .refusal) same ∙ p) (ap (λ (b : Walked). b .row) same ∙ q)
+  agrees-close h (accepts u ex ec l v) c =
+      let same = c .converter u in
+      accepts (c .accepted u) (ap placeOf same) (ap carryOf same ∙ ec) (subst (λ (z : Converter). z .«label_len» ≤ labelMost) (sym same) l)
+      (wrote-then h v (c .written u))
+
+module _ {row at : ℕ} {out out₁ out₂ : List ℕ} {a r : Walked} {x : Place} (list : Bool) (m : LaTeXMode) where
+  -- an environment takes the held label
+  pub agrees-takes :
+      {o : Outcome} → length out ≤ cap → Agrees a x row at out out₁ o → Takes a list m out₁ r out₂ → Agrees r x row at out out₂ (takeLabel list m o)
+  agrees-takes h (declines {n} {r = k} g p q) t =
+      let z : a .refusal ≡ 0 → ⊥ = λ e. omega arith in
+      let same = t .refused-on z .0 in
+      declines {r = k} g (ap (λ (b : Walked). b .refusal) same ∙ p) (ap (λ (b : Walked). b .row) same ∙ q)
+  agrees-takes h (accepts {c} {w} u ex ec l v) t =
+      accepts (t .accepted u) (t .placed-so u ∙ ex) (t .carry u ∙ ap (dropped list m) ec) (t .short u)
+      (wrote-then h v (subst (λ (y : Carry). Wrote (a .at) out₁ (taken list m (y .label)) (r .at) out₂) ec (t .written u)))
+
+module _ {row at : ℕ} {out out₁ : List ℕ} {a : Walked} {x : Place} (k : Carry → Outcome) where
+  -- an element was converted, and what follows it goes on from there, in whatever place
+  pub then-done :
+      {o : Outcome} {b : Walked} {y : Place} {out₂ : List ℕ} → length out ≤ cap → Agrees a x row at out out₁ o → a .refusal ≡ 0
+      → Agrees b y row (a .at) out₁ out₂ (k (carryOf (a .converter))) → Agrees b y row at out out₂ (andThen o k)
+  then-done h (declines g p q) z m = absurd (omega arith)
+  then-done {o} {b} {y} {out₂} h (accepts {c} u ex ec l v) z m =
+      agrees-after h v (subst (λ (e : Carry). Agrees b y row (a .at) out₁ out₂ (k e)) ec m)
+
+  -- an element was refused, and so is the whole
+  pub then-refused : {o : Outcome} {y : Place} → Agrees a x row at out out₁ o → (a .refusal ≡ 0 → ⊥) → Agrees a y row at out out₁ (andThen o k)
+  then-refused (declines g p q) z = declines g p q
+  then-refused (accepts u ex ec l v) z = absurd (z u)

@@ -1,0 +1,50 @@
+-- What a walk over an element promises: its answer agrees with the outcome that the definitions give.
+use mathlib.Core.Path.{_≡_}
+use mathlib.Core.Bool.{Bool}
+use Prim.Native.Nat.{ℕ, _+_, _≤_, _<_}
+use mathlib.Core.List.{List}
+use Rattle.text.specs.Writing.{Wrote}
+use Rattle.mitex_meaning.specs.Outcome.{Carry, Outcome, labelMost}
+use Rattle.mitex_meaning.specs.Outcome.Outcome.{refused, done}
+use Rattle.mitex_meaning.specs.State.{carryOf}
+use Rattle.mitex_meaning.specs.Environments.{taken, dropped}
+use Rattle.mitex_meaning.specs.declared.LaTeXMode.{LaTeXMode}
+use Rattle.mitex_meaning.specs.declared.LaTeXEnv.{LaTeXEnv}
+use Rattle.mitex_meaning.specs.declared.Converter.{Converter}
+use Rattle.mitex_meaning.specs.declared.Walked.{Walked}
+
+-- mode, environment and indent
+pub record Place : Type 0 where
+  pub mode : LaTeXMode
+  pub env : LaTeXEnv
+  pub indent : ℕ
+
+abbrev pub placeOf : Converter → Place
+placeOf c = record { mode = c .mode; env = c .env; indent = c .indent }
+
+-- An answer agrees with an outcome: it refuses as the outcome does, at a row counted from `row`; or it gives the converter back in the
+-- place x with the outcome's carry, and what `out` then holds is what it held with the text written from `at` on.
+pub data Agrees (a : Walked) (x : Place) (row at : ℕ) (out out′ : List ℕ) : Outcome → Type 0 where
+  declines : {n r : ℕ} → 0 < n → a .refusal ≡ n → a .row ≡ row + r → Agrees a x row at out out′ (refused n r)
+  accepts :
+      {c : Carry} {w : List ℕ} → a .refusal ≡ 0 → placeOf (a .converter) ≡ x → carryOf (a .converter) ≡ c
+      → a .converter .«label_len» ≤ labelMost → Wrote at out w (a .at) out′ → Agrees a x row at out out′ (done c w)
+
+-- a walk that went well, and one that was refused
+pub record Went (c : Converter) (at : ℕ) (a : Walked) : Type 0 where
+  pub gives : a .converter ≡ c
+  pub next : a .at ≡ at
+  pub well : a .refusal ≡ 0
+
+pub record Declined (n row : ℕ) (a : Walked) : Type 0 where
+  pub number : a .refusal ≡ n
+  pub at-row : a .row ≡ row
+
+-- what ends an environment: a refusal is handed on; else the held label is written and dropped where the environment takes it
+pub record Takes (a : Walked) (list : Bool) (m : LaTeXMode) (out : List ℕ) (r : Walked) (out′ : List ℕ) : Type 0 where
+  pub refused-on : (a .refusal ≡ 0 → ⊥) → (r ≡ a) × (out′ ≡ out)
+  pub accepted : a .refusal ≡ 0 → r .refusal ≡ 0
+  pub placed-so : a .refusal ≡ 0 → placeOf (r .converter) ≡ placeOf (a .converter)
+  pub carry : a .refusal ≡ 0 → carryOf (r .converter) ≡ dropped list m (carryOf (a .converter))
+  pub short : a .refusal ≡ 0 → r .converter .«label_len» ≤ labelMost
+  pub written : a .refusal ≡ 0 → Wrote (a .at) out (taken list m (carryOf (a .converter) .label)) (r .at) out′

@@ -1,0 +1,55 @@
+-- Worked conversions: images.
+use mathlib.Core.Path.{_≡_, refl}
+use mathlib.Core.Bool.{true}
+use mathlib.Core.List.{List, [], _∷_, _++_}
+use Rattle.text.specs.Ascii.{ascii}
+use Rattle.mitex_syntax.specs.Syntax.{TokenError, TokenWord}
+use Rattle.mitex_syntax.specs.Tree.Tree.{token}
+use Rattle.mitex_meaning.specs.Examples.{Case, case, hold, usual, writes, tok, word, space, curly, arg, braced, bracketed, cmd}
+use Rattle.mitex_meaning.specs.declared.LaTeXMode.the-variants.{Text, Math}
+
+abbrev pub cases : List Case
+cases =
+    -- image: two = give an empty value
+    case usual Text
+    (cmd "\\includegraphics" (bracketed (word "width=1=2" ∷ []) ∷ braced (word "p" ∷ []) ∷ []) ∷ [])
+    (writes "#image(width: , \"p\")")
+    -- image: no = gives an empty value
+    ∷ case usual Text
+    (cmd "\\includegraphics" (bracketed (word "width" ∷ []) ∷ braced (word "p" ∷ []) ∷ []) ∷ [])
+    (writes "#image(width: , \"p\")")
+    -- image: endings removed as often as they repeat, one kind only
+    ∷ case usual Text
+    (cmd "\\includegraphics" (bracketed (word "width=2\\textheight\\textwidth\\textwidth,height=\\textheight" ∷ []) ∷ braced (word "p" ∷ []) ∷ []) ∷ [])
+    (writes "#image(width: 2\\textheight * 100%, height:  * 100%, \"p\")")
+    -- image: the space before the ending stays
+    ∷ case usual Text
+    (cmd "\\includegraphics" (bracketed (word " width = 0.5 \\textwidth ,angle=4,Width=3" ∷ []) ∷ braced (word "p" ∷ []) ∷ []) ∷ [])
+    (writes "#image(width: 0.5  * 100%, \"p\")")
+    -- image: Unicode white space trimmed
+    ∷ case usual Text
+    (cmd "\\includegraphics" (bracketed (token TokenWord ((227 ∷ 128 ∷ 128 ∷ []) ++ (ascii "width" ++ ((194 ∷ 160 ∷ []) ++ (ascii "=" ++ ((226 ∷ 128 ∷ 131 ∷ []) ++ (ascii "3cm" ++ ((226 ∷ 128 ∷ 168 ∷ []) ++ (ascii "," ++ ((194 ∷ 133 ∷ []) ++ (ascii "height=1")))))))))) ∷ []) ∷ braced (word "p" ∷ []) ∷ []) ∷ [])
+    (writes "#image(width: 3cm, height: 1, \"p\")")
+    -- image: the argument's text, ends cut whatever they are
+    ∷ case usual Text
+    (cmd "\\includegraphics" (arg (space ∷ curly (word "p" ∷ []) ∷ space ∷ []) ∷ []) ∷ [])
+    (writes "#image(\"{p}\")")
+    -- image: the first bracket and the first curly argument
+    ∷ case usual Text
+    (cmd "\\includegraphics" (braced (word "p" ∷ []) ∷ bracketed (word "width=1" ∷ []) ∷ bracketed (word "width=2" ∷ []) ∷ braced (word "q" ∷ []) ∷ []) ∷ [])
+    (writes "#image(width: 1, \"p\")")
+    -- image: no semicolon, also in Math
+    ∷ case usual Math
+    (cmd "\\includegraphics" (bracketed (word "height=2" ∷ []) ∷ braced (word "p" ∷ []) ∷ []) ∷ [])
+    (writes "#image(height: 2, \"p\")")
+    -- image: its arguments are not walked
+    ∷ case usual Text (cmd "\\includegraphics" (braced (tok TokenError "a?b" ∷ []) ∷ []) ∷ []) (writes "#image(\"a?b\")")
+    -- 5: only the first curly argument needs good ends
+    ∷ case usual Text
+    (cmd "\\includegraphics" (braced (word "p" ∷ []) ∷ arg (token TokenWord (195 ∷ 169 ∷ []) ∷ curly [] ∷ []) ∷ []) ∷ [])
+    (writes "#image(\"p\")")
+    ∷ []
+
+pub cases-hold : hold cases ≡ true
+unfolding hold
+cases-hold = refl

@@ -1,0 +1,71 @@
+-- The converter's state as context and carry, and how the state moves.
+use mathlib.Core.Path.{_≡_}
+use mathlib.Core.Bool.{Bool, true, false}
+use Prim.Native.Nat.{ℕ, _+_, _-_, _≤_}
+use mathlib.Core.List.{List}
+use lib.ListN.{take, replicate}
+use Rattle.mitex_spec.specs.Rules.{Rule}
+use Rattle.mitex_meaning.specs.Outcome.{Context, Label, Carry, labelMost, stepOf}
+use Rattle.mitex_meaning.specs.Outcome.Label.{unheld, held}
+use Rattle.mitex_meaning.specs.declared.LaTeXMode.{LaTeXMode}
+use Rattle.mitex_meaning.specs.declared.LaTeXEnv.{LaTeXEnv}
+use Rattle.mitex_meaning.specs.declared.LaTeXEnv.the-variants.{None}
+use Rattle.mitex_meaning.specs.declared.Converter.{Converter}
+
+-- the first bytes of the array, while a label is held
+abbrev pub labelOf : Bool → ℕ → List ℕ → Label
+labelOf true n l = held (take n l)
+labelOf false n l = unheld
+
+abbrev pub contextOf : List Rule → Converter → Context
+contextOf rules c = record { rules = rules; mode = c .mode; env = c .env; indent = c .indent }
+
+abbrev pub carryOf : Converter → Carry
+carryOf c = record { flag = c .«skip_next_space»; label = labelOf (c .«label_held») (c .«label_len») (c .label) }
+
+-- ---- as in the Rust
+
+-- `Converter::new`
+abbrev pub newOf : LaTeXMode → Converter
+newOf m =
+    record {
+      mode = m;
+      env = None;
+      indent = 0;
+      label = replicate labelMost 0;
+      «label_len» = 0;
+      «label_held» = false;
+      «skip_next_space» = true;
+    }
+
+-- the converter in another mode, environment and indent
+abbrev pub placed : LaTeXMode → LaTeXEnv → ℕ → Converter → Converter
+placed m e n c =
+    record {
+      mode = m;
+      env = e;
+      indent = n;
+      label = c .label;
+      «label_len» = c .«label_len»;
+      «label_held» = c .«label_held»;
+      «skip_next_space» = c .«skip_next_space»;
+    }
+
+abbrev pub withMode : LaTeXMode → Converter → Converter
+withMode m c = placed m (c .env) (c .indent) c
+
+abbrev pub enteredEnv : LaTeXEnv → Converter → Converter
+enteredEnv e c = placed (c .mode) e (c .indent + stepOf e) c
+
+abbrev pub exitedEnv : LaTeXEnv → Converter → Converter
+exitedEnv p c = placed (c .mode) p (c .indent - stepOf (c .env)) c
+
+-- ---- what moves
+
+-- another carry, and mode, environment and indent as they were
+pub record Carried (c : Converter) (e : Carry) (r : Converter) : Type 0 where
+  pub mode : r .mode ≡ c .mode
+  pub env : r .env ≡ c .env
+  pub indent : r .indent ≡ c .indent
+  pub carry : carryOf r ≡ e
+  pub short : c .«label_len» ≤ labelMost → r .«label_len» ≤ labelMost

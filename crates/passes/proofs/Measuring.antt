@@ -1,0 +1,247 @@
+-- A measuring pass, one block a turn. `walkFrom` is the walk over the blocks that are left; behind some blocks, who finishes it from there
+-- has finished it from the start (`BlocksPassed`). A turn ends the pass by a refusal (`passed-refused`) or at the kept carry (`passed-met`), or
+-- the pass goes on (`passed-next`) until no block is left (`passed-end`).
+use mathlib.Core.Path.{_≡_, refl, sym, ap, subst, _∙_}
+use mathlib.Core.Bool.{Bool, true, false, cond, _&&_}
+use mathlib.Core.List.{List, [], _∷_}
+use Prim.Native.Nat.{ℕ, suc, _+_, _-_, _≤_, _<_, min}
+use native.Mathlib.Omega.{arith}
+use borrow.Author.Tests.{lt-ltb}
+use lib.ListN.{length, drop, length-append, length-drop}
+use lib.Dec.{ltb}
+use Rattle.text.specs.Writing.{cap}
+use Rattle.mitex_syntax.specs.Tree.{Tree, Forest, size, count}
+use Rattle.mitex_syntax.specs.Tree.Forest.{none, more}
+use Rattle.mitex_syntax.proofs.Trees.{length-rowss}
+use Rattle.mitex_meaning.specs.Outcome.{Carry, Outcome, labelMost}
+use Rattle.mitex_meaning.specs.Outcome.Outcome.{refused, done}
+use Rattle.mitex_meaning.specs.State.{carryOf}
+use Rattle.mitex_meaning.specs.Contract.{Place, Agrees}
+use Rattle.mitex_meaning.specs.Contract.Agrees.{declines, accepts}
+use Rattle.ledger.specs.Ledger.{decodeRows, rowAt, sameCarry, Piece, written}
+use Rattle.edit_meaning.specs.Walk.{Walk, onto, next, nextUntil, walk, walkUntil}
+use Rattle.edit_meaning.specs.Walk.Walk.{stopped, pieces}
+use Rattle.edit_meaning.specs.Walk.{BlockConverter}
+use Rattle.edit_meaning.specs.Edit.{rowCarries}
+use Rattle.edit_meaning.proofs.Bytes.{rowCarries-at}
+use Rattle.manuscript.specs.Manuscript.{listed, block, blocksIn}
+use Rattle.passes.specs.Passes.{BlocksUpTo, rowNo, converterOf, Stepped, Steps, meets, walkBy, Came}
+use Rattle.passes.specs.Passes.Came.{stops, comes}
+use Rattle.passes.specs.declared.Standing.{Standing}
+use Rattle.passes.proofs.Stepping.{fine, same-mode, onward}
+use Rattle.passes.proofs.Reaching.{count-sizes}
+
+-- ---- what is stated
+
+-- the walk over the blocks that a pass has before it
+abbrev pub walkFrom : {rules index rows text : List ℕ} {s : Standing} {n : ℕ} → BlocksUpTo rules index rows text s n → Bool → List ℕ → Walk
+walkFrom {s = s} {n} w edits kept =
+    walkBy (converterOf (w .given)) edits (carryOf (s .walked .converter)) (rowNo s) (listed (w .given .blocks))
+    (rowCarries (drop (s .block) (decodeRows n kept)))
+
+-- some blocks were passed: who finishes from here has finished from the start
+module _ {rules index rows text : List ℕ} {from : Standing} {n : ℕ} (w : BlocksUpTo rules index rows text from n) where
+  pub record BlocksPassed (edits : Bool) (kept : List ℕ) (s : Standing) : Type 0 where
+    pub whole : BlocksUpTo rules index rows text s n
+    pub later : from .block ≤ s .block
+    pub finish : (r : Standing) → Came s r (walkFrom whole edits kept) → Came from r (walkFrom w edits kept)
+
+-- ---- one block of a walk
+
+-- an outcome, and then what follows from its carry, but nothing at the kept carry of an edit
+abbrev turn : Bool → Outcome → ℕ → Carry → (Carry → Walk) → Walk
+turn edits (refused n i) r d k = stopped n (r + i)
+turn edits (done c t) r d k = onto (record { text = t; after = c }) (cond (edits && sameCarry c d) (pieces []) (k c))
+
+next-turn : (o : Outcome) (r : ℕ) (d : Carry) (k : Carry → Walk) → next o r k ≡ turn false o r d k
+next-turn (refused n i) r d k = refl
+next-turn (done c t) r d k = refl
+
+until-turn : (o : Outcome) (r : ℕ) (d : Carry) (k : Carry → Walk) → nextUntil o r d k ≡ turn true o r d k
+until-turn (refused n i) r d k = refl
+until-turn (done c t) r d k = refl
+
+module _ (𝓒 : BlockConverter) where
+  open BlockConverter 𝓒 using (Block, convert as convertBlock, rows as rowsOf)
+
+  walkBy-turn :
+      (edits : Bool) (c : Carry) (r : ℕ) (b : Block) (bs : List Block) (d : Carry) (ds : List Carry)
+      → walkBy 𝓒 edits c r (b ∷ bs) (d ∷ ds) ≡ turn edits (convertBlock c b) r d (λ c′. walkBy 𝓒 edits c′ (r + rowsOf b) bs ds)
+  unfolding walk walkUntil
+  walkBy-turn false c r b bs d ds = next-turn (convertBlock c b) r d (λ c′. walk 𝓒 c′ (r + rowsOf b) bs)
+  walkBy-turn true c r b bs d ds = until-turn (convertBlock c b) r d (λ c′. walkUntil 𝓒 c′ (r + rowsOf b) bs ds)
+
+  walkBy-end : (edits : Bool) (c : Carry) (r : ℕ) (ds : List Carry) → walkBy 𝓒 edits c r [] ds ≡ pieces []
+  unfolding walk walkUntil
+  walkBy-end false c r ds = refl
+  walkBy-end true c r ds = refl
+
+-- the pass from s to r made a piece, and the pass from r to q went on
+module _ {s r q : Standing} (p : Piece) (counted : r .block ≡ s .block + 1)
+    (place : r .walked .at ≡ min cap (s .walked .at + length (p .text))) where
+  came-onto : {v : Walk} → Came r q v → Came s q (onto p v)
+  came-onto (stops h e f) = stops h e f
+  came-onto (comes {ps} e f g) = comes {ps = p ∷ ps} e (omega arith) (omega (arith, length-append (p .text) (written ps)))
+
+-- by what is known of a block's answer
+module _ {s r : Standing} {x : Place} {row : ℕ} {out out′ : List ℕ} (edits : Bool) (d : Carry) (k : Carry → Walk) where
+  came-refused :
+      {o : Outcome} → Agrees (r .walked) x row (s .walked .at) out out′ o → (r .walked .refusal ≡ 0 → ⊥) → Came s r (turn edits o row d k)
+  came-refused (declines h e f) z = stops h e f
+  came-refused (accepts u ex ec l w) z = absurd (z u)
+
+  came-behind :
+      {o : Outcome} {q : Standing} → Agrees (r .walked) x row (s .walked .at) out out′ o → r .walked .refusal ≡ 0
+      → r .block ≡ s .block + 1
+      → Came r q (cond (edits && sameCarry (carryOf (r .walked .converter)) d) (pieces []) (k (carryOf (r .walked .converter))))
+      → Came s q (turn edits o row d k)
+  came-behind (declines h e f) z counted m = absurd (omega arith)
+  came-behind {q = q} (accepts {c} {w = t} u ex ec l w) z counted m =
+      came-onto (record { text = t; after = c }) counted (w .next)
+      (subst (λ (y : Carry). Came r q (cond (edits && sameCarry y d) (pieces []) (k y))) ec m)
+
+-- nothing more was measured
+came-here : {r : Standing} → r .walked .refusal ≡ 0 → r .walked .at ≤ cap → Came r r (pieces [])
+came-here z low = comes {ps = []} z (omega arith) (omega arith)
+
+-- ---- the block at which a pass stands
+
+count-more : (t : Tree) (f : Forest) → count (more t f) ≡ 1 + count f
+unfolding count
+count-more t f = refl
+
+count-some : (f : Forest) → 0 < count f → (t : Tree) × ((g : Forest) × (f ≡ more t g))
+unfolding count
+count-some none h = absurd (omega arith)
+count-some (more t g) h = (t, (g, refl))
+
+count-none : (f : Forest) → count f ≡ 0 → f ≡ none
+unfolding count
+count-none none h = refl
+count-none (more t g) h = absurd (omega arith)
+
+module _ {rules index rows text : List ℕ} {s : Standing} {n : ℕ} (w : BlocksUpTo rules index rows text s n) where
+  pub rows-left : s .block < n → s .i < length rows
+  rows-left h =
+      let f = w .given .blocks in
+      omega (arith, w .many, ap length (w .given .spells .rows-are), length-drop (s .i) rows, length-rowss f, count-sizes f)
+
+  came-last : (edits : Bool) (kept : List ℕ) → n ≤ s .block → Came s s (walkFrom w edits kept)
+  came-last edits kept h =
+      let c = carryOf (s .walked .converter) in
+      let ds = rowCarries (drop (s .block) (decodeRows n kept)) in
+      let 𝓒 = converterOf (w .given) in
+      let e : walkFrom w edits kept ≡ pieces []
+      = ap (λ f. walkBy 𝓒 edits c (rowNo s) (listed f) ds) (count-none (w .given .blocks) (omega (arith, w .many, h)))
+      ∙ walkBy-end 𝓒 edits c (rowNo s) ds in
+      subst (Came s s) (sym e) (came-here (w .given .well) (w .given .place))
+
+  module _ (h : s .block < n) {out out′ : List ℕ} {r : Standing} (passes : Steps rules index rows text s out r out′) where
+    here : (t : Tree) × ((g : Forest) × (w .given .blocks ≡ more t g))
+    here = count-some (w .given .blocks) (omega (arith, w .many))
+
+    abbrev tree : Tree
+    tree = here .0
+
+    abbrev others : Forest
+    others = here .1 .0
+
+    abbrev stepped : Stepped rules index rows text s (w .given .rs) tree others out r out′
+    stepped = passes (w .given) tree others (here .1 .1)
+
+    pub one-more : r .block ≡ s .block + 1
+    one-more = stepped .counted
+
+    -- behind the block
+    module _ (z : r .walked .refusal ≡ 0) where
+      pub label-short : r .walked .converter .«label_len» ≤ labelMost
+      label-short = fine (w .given) tree others (here .1 .1) stepped z .short
+
+      abbrev behind : BlocksUpTo rules index rows text r n
+      behind =
+          record {
+            given = onward (w .given) tree others (here .1 .1) stepped z;
+            many = omega (arith, w .many, one-more, ap count (here .1 .1), count-more tree others);
+            few = w .few;
+          }
+
+    module _ (edits : Bool) (kept : List ℕ) where
+      -- the kept carry of the block, those of the others, and the walk over the others
+      abbrev carry : Carry
+      carry = (rowAt (s .block) kept) .carry
+
+      abbrev carries : List Carry
+      carries = rowCarries (drop (suc (s .block)) (decodeRows n kept))
+
+      abbrev rest : Carry → Walk
+      rest c = walkBy (converterOf (w .given)) edits c (rowNo s + size tree) (listed others) carries
+
+      walk-turn :
+          walkFrom w edits kept
+          ≡ turn edits (block (s .walked .converter .mode) (w .given .rs) (carryOf (s .walked .converter)) tree) (rowNo s) carry rest
+      walk-turn =
+          let c = carryOf (s .walked .converter) in
+          let 𝓒 = converterOf (w .given) in
+          ap (λ f. walkBy 𝓒 edits c (rowNo s) (listed f) (rowCarries (drop (s .block) (decodeRows n kept)))) (here .1 .1)
+          ∙ ap (walkBy 𝓒 edits c (rowNo s) (tree ∷ listed others)) (rowCarries-at n (s .block) kept h)
+          ∙ walkBy-turn 𝓒 edits c (rowNo s) tree (listed others) carry carries
+
+      came-declined : (r .walked .refusal ≡ 0 → ⊥) → Came s r (walkFrom w edits kept)
+      came-declined z = subst (Came s r) (sym walk-turn) (came-refused edits carry rest (stepped .agrees) z)
+
+      module _ (z : r .walked .refusal ≡ 0) where
+        rest-behind : rest (carryOf (r .walked .converter)) ≡ walkFrom (behind z) edits kept
+        rest-behind =
+            let mode = sym (same-mode (w .given) tree others (here .1 .1) stepped z) in
+            let row = sym (stepped .row) in
+            let k : suc (s .block) ≡ r .block = omega (arith, one-more) in
+            λ i. walkBy (blocksIn (mode i) (w .given .rs)) edits (carryOf (r .walked .converter)) (row i) (listed others)
+            (rowCarries (drop (k i) (decodeRows n kept)))
+
+        -- b is the answer of the test behind the block
+        came-turn :
+            {b : Bool} {q : Standing} → b ≡ edits && sameCarry (carryOf (r .walked .converter)) carry
+            → Came r q (cond b (pieces []) (walkFrom (behind z) edits kept)) → Came s q (walkFrom w edits kept)
+        came-turn {q = q} is m =
+            subst (Came s q) (sym walk-turn)
+            (came-behind edits carry rest (stepped .agrees) z one-more
+            (subst (Came r q) (λ i. cond (is i) (pieces []) (sym rest-behind i)) m))
+
+-- ---- the loop
+
+pub passed-start :
+    {rules index rows text : List ℕ} {from : Standing} {n : ℕ} {edits : Bool} {kept : List ℕ} (w : BlocksUpTo rules index rows text from n)
+    → BlocksPassed w edits kept from
+passed-start w = record { whole = w; later = omega arith; finish = λ r m. m }
+
+module _ {rules index rows text : List ℕ} {from s : Standing} {n : ℕ} {w : BlocksUpTo rules index rows text from n} {edits : Bool}
+    {kept : List ℕ} (p : BlocksPassed w edits kept s) where
+  pub passed-end : n ≤ s .block → Came from s (walkFrom w edits kept)
+  passed-end h = p .finish s (came-last (p .whole) edits kept h)
+
+  module _ (h : s .block < n) {out out′ : List ℕ} {r : Standing} (passes : Steps rules index rows text s out r out′) where
+    pub passed-refused : (r .walked .refusal ≡ 0 → ⊥) → Came from r (walkFrom w edits kept)
+    passed-refused z = p .finish r (came-declined (p .whole) h passes edits kept z)
+
+    module _ (z : r .walked .refusal ≡ 0) (b : Bool) (is : b ≡ meets edits (from .block) r kept) where
+      abbrev next-whole : BlocksUpTo rules index rows text r n
+      next-whole = behind (p .whole) h passes z
+
+      -- the block passed is one behind the start, and its kept row the one before
+      is-met : b ≡ edits && sameCarry (carryOf (r .walked .converter)) ((rowAt (s .block) kept) .carry)
+      is-met =
+          let one = one-more (p .whole) h passes in
+          let past : ltb (from .block) (r .block) ≡ true = lt-ltb (from .block) (r .block) (omega (arith, p .later)) in
+          let row : r .block - 1 ≡ s .block = omega arith in
+          is ∙ (λ i. edits && (past i && sameCarry (carryOf (r .walked .converter)) ((rowAt (row i) kept) .carry)))
+
+      pub passed-met : b ≡ true → Came from r (walkFrom w edits kept)
+      passed-met e = p .finish r (came-turn (p .whole) h passes edits kept z (sym e ∙ is-met) (came-here z (next-whole .given .place)))
+
+      pub passed-next : b ≡ false → BlocksPassed w edits kept r
+      passed-next e =
+          record {
+            whole = next-whole;
+            later = omega (arith, p .later, one-more (p .whole) h passes);
+            finish = λ q m. p .finish q (came-turn (p .whole) h passes edits kept z (sym e ∙ is-met) m);
+          }

@@ -1,0 +1,93 @@
+-- `measure`: who finishes from the standing s has finished from the start, for whatever the pass was given (`BlocksPassed`); the measure is
+-- the blocks left.
+use mathlib.Core.Path.{refl}
+use mathlib.Core.Bool.{true}
+use Prim.Native.Nat.{_-_}
+use native.Mathlib.Omega.{arith}
+use Rattle.passes.specs.Passes.{BlocksUpTo}
+use Rattle.passes.proofs.Measuring.{BlocksPassed, passed-start, passed-end, passed-refused, passed-met, passed-next}
+use Rattle.passes.proofs.Measuring.{rows-left, one-more, label-short}
+use Rattle.passes.proofs.measure.Statement.{statement}
+use Rattle.passes.proofs.measure.Tie as tie
+
+abbrev Inv-loop : tie.InvT-loop
+Inv-loop rows text rules index kept from blocks s₀ s = (w : BlocksUpTo rules index rows text from blocks) → BlocksPassed w true kept s
+
+abbrev μ-loop : tie.MeasureT-loop
+μ-loop rows text rules index kept from blocks s₀ s = blocks - s .block
+
+abbrev start : tie.At-loop Inv-loop μ-loop → tie.Start Inv-loop μ-loop
+start c = let d = c .before .before .before in d .before .before .before
+
+-- behind the block of a turn, and where the turn began
+abbrev behind : tie.After-struct-known2 Inv-loop μ-loop → tie.After-step Inv-loop μ-loop
+behind c = c .before .before .before
+
+abbrev standing : tie.After-step Inv-loop μ-loop → tie.At-loop Inv-loop μ-loop
+standing c = c .before .before .before .before
+
+loop-holds : tie.Need-loop-holds Inv-loop μ-loop
+loop-holds c = λ w. passed-start w
+
+slice-aggregate-step : tie.Need-slice-aggregate-step Inv-loop μ-loop
+slice-aggregate-step c = refl
+
+step-requires : tie.Need-step-requires Inv-loop μ-loop
+step-requires c κs =
+    let l = c .before .before .before in
+    let w = l .loop .inv (start l .pre .0) .whole in
+    let h = c .before .if1 .taken in
+    (w .given, (rows-left w h, omega (arith, w .few), omega arith))
+
+returns : tie.Need-returns Inv-loop μ-loop
+returns c =
+    let d = behind (c .before) in
+    λ w. passed-refused (standing d .loop .inv w) (d .before .before .if1 .taken) (d .step .ensures) (c .if2 .taken)
+
+met-requires : tie.Need-met-requires Inv-loop μ-loop
+met-requires c κs =
+    let d = behind (c .before) in
+    let l = standing d in
+    let h = d .before .before .if1 .taken in
+    let w = l .loop .inv (start l .pre .0) .whole in
+    (λ k. start l .pre .1 _ (omega (arith, h, one-more w h (d .step .ensures))), label-short w h (d .step .ensures) (c .if2 .left))
+
+returns-2 : tie.Need-returns-2 Inv-loop μ-loop
+returns-2 c =
+    let m = c .before in
+    let d = behind (m .before .before) in
+    λ w. passed-met (standing d .loop .inv w) (d .before .before .if1 .taken) (d .step .ensures) (m .before .if2 .left) _ (m .met .ensures)
+    (c .if3 .taken)
+
+loop-less : tie.Need-loop-less Inv-loop μ-loop
+loop-less c =
+    let d = behind (c .before .before .before) in
+    let l = standing d in
+    let h = d .before .before .if1 .taken in
+    omega (arith, h, one-more (l .loop .inv (start l .pre .0) .whole) h (d .step .ensures))
+
+loop-again : tie.Need-loop-again Inv-loop μ-loop
+loop-again c =
+    let m = c .before in
+    let d = behind (m .before .before) in
+    λ w. passed-next (standing d .loop .inv w) (d .before .before .if1 .taken) (d .step .ensures) (m .before .if2 .left) _ (m .met .ensures)
+    (c .if3 .left)
+
+returns-3 : tie.Need-returns-3 Inv-loop μ-loop
+returns-3 c = λ w. passed-end (c .before .before .loop .inv w) (c .if1 .left)
+
+pub measure-spec : {M : Type 1} → statement M
+measure-spec =
+    tie.close
+    (tie.spec
+    Inv-loop
+    μ-loop
+    loop-holds
+    slice-aggregate-step
+    step-requires
+    returns
+    met-requires
+    returns-2
+    loop-less
+    loop-again
+    returns-3)

@@ -1,0 +1,62 @@
+-- `stand_at`: i and j have reached block k of whatever forest the rows spell (`Reaches`); the measure is the blocks left.
+use mathlib.Core.Path.{refl}
+use Prim.Native.Nat.{_+_, _-_, _≤_}
+use native.Mathlib.Omega.{arith}
+use Rattle.passes.proofs.Reaching.{Reaches, reaches-start, reaches-low, reaches-begun, reaches-spans, reaches-next, reaches-stands}
+use Rattle.passes.proofs.stand_at.Statement.{statement}
+use Rattle.passes.proofs.stand_at.Tie as tie
+
+abbrev Inv-loop : tie.InvT-loop
+Inv-loop rows block at converter i₀ j₀ k₀ i j k = (k ≤ block) × Reaches rows block k i j
+
+abbrev μ-loop : tie.MeasureT-loop
+μ-loop rows block at converter i₀ j₀ k₀ i j k = block - k
+
+abbrev start : tie.In-loop Inv-loop μ-loop → tie.Start Inv-loop μ-loop
+start c = c .before .before .before
+
+-- a turn passes one more block
+abbrev next :
+    (c : tie.After-span-at Inv-loop μ-loop)
+    → Reaches (start (c .before) .args .rows .now) (start (c .before) .args .block) (c .before .before .loop .k + 1)
+    (c .before .before .loop .i + c .span-at .result .rows) (c .before .before .loop .j + c .span-at .result .text)
+next c =
+    let l = c .before in
+    reaches-next (start l .pre) (l .before .loop .inv .1) (l .loop-test .taken) (c .span-at .ensures .0) (c .span-at .ensures .1)
+
+loop-holds : tie.Need-loop-holds Inv-loop μ-loop
+loop-holds c = (omega arith, reaches-start)
+
+span-at-requires : tie.Need-span-at-requires Inv-loop μ-loop
+span-at-requires c κs = reaches-spans (start c .pre) (c .before .loop .inv .1) (c .loop-test .taken)
+
+add-i : tie.Need-add-i Inv-loop μ-loop
+add-i c = omega (arith, reaches-low (start (c .before .before) .pre) (next (c .before)))
+
+add-j : tie.Need-add-j Inv-loop μ-loop
+add-j c = let s = c .before .before in omega (arith, reaches-begun (start (s .before) .pre) (next s))
+
+loop-again : tie.Need-loop-again Inv-loop μ-loop
+loop-again c = (omega arith, next (c .before .before))
+
+went-requires : tie.Need-went-requires Inv-loop μ-loop
+went-requires c κs = tt
+
+returns : tie.Need-returns Inv-loop μ-loop
+returns c = reaches-stands (c .before .before .loop .inv .1) (omega arith) refl (c .went .ensures)
+
+pub stand-at-spec : {M : Type 1} → statement M
+stand-at-spec =
+    tie.close
+    (tie.spec
+    Inv-loop
+    μ-loop
+    loop-holds
+    span-at-requires
+    add-i
+    add-j
+    (λ c. omega arith)
+    (λ c. omega arith)
+    loop-again
+    went-requires
+    returns)

@@ -1,0 +1,199 @@
+// Passes over the blocks of a document, one block a turn. Convert's goes over all blocks, measures and writes. Edit has two: one that
+// measures up to the first block whose carry is that of its kept row, and one that writes what was measured.
+use ledger::same_carry;
+use ledger::write_row;
+use mitex_meaning::Converter;
+use mitex_meaning::Walked;
+use mitex_meaning::went;
+use mitex_syntax::span_at;
+ghost use mathlib.Core.Path.{_≡_};
+ghost use mathlib.Core.Bool.{true, false};
+ghost use mathlib.Core.List.{[]};
+ghost use Prim.Native.Nat.{ℕ, _*_, _-_, _≤_, _<_};
+ghost use lib.ListN.{length};
+ghost use lib.Seq.{sets};
+ghost use Rattle.text.specs.Writing.{cap};
+ghost use Rattle.mitex_meaning.specs.Outcome.{labelMost};
+ghost use Rattle.mitex_meaning.specs.State.{carryOf};
+ghost use Rattle.ledger.specs.Ledger.{rowSize, encodeRow, HasRow, RowFits};
+ghost use Rattle.passes.specs.Passes.{BlocksGiven, BlocksUpTo, Pieced, SomeBlocks, Steps, StandsBefore, meets, Measures, Writes};
+
+// The end of a text that a row cannot say any more.
+const CAP: usize = 4294967296;
+
+// Where a pass stands: the next block, the bytes of rows and of text before it, and what the walk over the block before answered.
+pub struct Standing {
+    pub block: usize,
+    pub i: usize,
+    pub j: usize,
+    pub walked: Walked,
+}
+
+// Behind the blocks before a named one, by their rows alone.
+pub fn stand_at(rows: &[u8], block: usize, at: usize, converter: Converter) -> Standing
+    requires { ⌜ SomeBlocks (now rows) block ⌝ }
+    ensures { λ r. ⌜ StandsBefore (now (rows .entry)) block at converter r ⌝ }
+{
+    let mut i = 0;
+    let mut j = 0;
+    let mut k = 0;
+    while k < block {
+        let n = span_at(rows, i);
+        i += n.rows;
+        j += n.text;
+        k += 1;
+    }
+    let walked = went(converter, at);
+    Standing {
+        block,
+        i,
+        j,
+        walked,
+    }
+}
+
+// The next block, converted. The root is row 0, so the first block stands at row 1.
+pub fn step<'a>(
+    out: &mut [u8],
+    rows: &[u8],
+    text: &'a [u8],
+    rules: &'a [u8],
+    index: &[u32],
+    s: Standing,
+) -> Standing
+    requires { ⌜ BlocksGiven (now rules) (now index) (now rows) (now text) s ⌝ }
+    requires { ⌜ (s .i < length (now rows)) × (s .block < cap) × (length (now out) ≤ cap) ⌝ }
+    ensures { λ r. ⌜ Steps (now (rules .entry)) (now (index .entry)) (now (rows .entry)) (now (text .entry)) s (now (out .entry)) r (now (out .exit)) ⌝ }
+{
+    let i = s.i;
+    let j = s.j;
+    let n = span_at(rows, i);
+    let e = i + n.rows;
+    let u = j + n.text;
+    let before = s.walked;
+    let walked = mitex::convert(
+        out,
+        before.at,
+        &rows[i..e],
+        &text[j..u],
+        1 + i / 8,
+        rules,
+        index,
+        before.converter,
+    );
+    Standing {
+        block: s.block + 1,
+        i: e,
+        j: u,
+        walked,
+    }
+}
+
+// Whether an edit that began at block `first` stops at a standing: behind that block, where the carry is that of the kept row before.
+fn met(kept: &[u8], first: usize, s: Standing) -> bool
+    requires { ⌜ (first < s .block → RowFits (s .block - 1) (now kept)) × (s .walked .converter .«label_len» ≤ labelMost) ⌝ }
+    ensures { λ r. ⌜ r ≡ meets true first s (now (kept .entry)) ⌝ }
+{
+    let k = s.block;
+    if k <= first {
+        return false;
+    }
+    let walked = s.walked;
+    same_carry(kept, k - 1, walked.converter)
+}
+
+// Blocks measured from a standing on, up to the first whose carry is that of its kept row, or up to the last.
+pub fn measure<'a>(
+    rows: &[u8],
+    text: &'a [u8],
+    rules: &'a [u8],
+    index: &[u32],
+    kept: &[u8],
+    from: Standing,
+    blocks: usize,
+) -> Standing
+    requires { ⌜ BlocksUpTo (now rules) (now index) (now rows) (now text) from blocks ⌝ }
+    requires { ⌜ ((i : ℕ) → i < blocks → RowFits i (now kept)) ⌝ }
+    ensures { λ r. ⌜ Measures (now (rules .entry)) (now (index .entry)) (now (rows .entry)) (now (text .entry)) from blocks true (now (kept .entry)) r ⌝ }
+{
+    let mut s = from;
+    while s.block < blocks {
+        let mut none = [0u8; 0];
+        let next = step(&mut none, rows, text, rules, index, s);
+        let walked = next.walked;
+        if walked.refusal != 0 {
+            return next;
+        }
+        if met(kept, from.block, next) {
+            return next;
+        }
+        s = next;
+    }
+    s
+}
+
+// The row of block `k`, where a row can say the text's end.
+fn draft_row(ledger: &mut [u8], k: usize, walked: Walked)
+    requires { ⌜ HasRow k (now ledger) × (walked .converter .«label_len» ≤ labelMost) ⌝ }
+    ensures { λ _. ⌜ (walked .at < cap → now (ledger .exit) ≡ sets (now (ledger .entry)) (rowSize * k) (encodeRow (record { end = walked .at; carry = carryOf (walked .converter) }))) ⌝ }
+{
+    if CAP <= walked.at {
+        return;
+    }
+    write_row(ledger, k, walked.at, walked.converter);
+}
+
+// All blocks from a standing on, measured and written with their rows in one pass: what falls outside the buffer is not written but counted.
+pub fn draft_blocks<'a>(
+    out: &mut [u8],
+    ledger: &mut [u8],
+    rows: &[u8],
+    text: &'a [u8],
+    rules: &'a [u8],
+    index: &[u32],
+    from: Standing,
+    blocks: usize,
+) -> Standing
+    requires { ⌜ BlocksUpTo (now rules) (now index) (now rows) (now text) from blocks ⌝ }
+    requires { ⌜ (length (now out) ≤ cap) × (rowSize * blocks ≤ length (now ledger)) ⌝ }
+    ensures measured { λ r. ⌜ Measures (now (rules .entry)) (now (index .entry)) (now (rows .entry)) (now (text .entry)) from blocks false [] r ⌝ }
+    ensures written { λ _. ⌜ Writes (now (rules .entry)) (now (index .entry)) (now (rows .entry)) (now (text .entry)) from blocks (now (out .entry)) (now (ledger .entry)) (now (out .exit)) (now (ledger .exit)) ⌝ }
+{
+    let mut s = from;
+    while s.block < blocks {
+        let k = s.block;
+        let next = step(out, rows, text, rules, index, s);
+        let walked = next.walked;
+        if walked.refusal != 0 {
+            return next;
+        }
+        draft_row(ledger, k, walked);
+        s = next;
+    }
+    s
+}
+
+// Blocks written from a standing up to one that was measured, with their rows.
+pub fn write_blocks<'a>(
+    out: &mut [u8],
+    ledger: &mut [u8],
+    rows: &[u8],
+    text: &'a [u8],
+    rules: &'a [u8],
+    index: &[u32],
+    from: Standing,
+    to: usize,
+)
+    requires { ⌜ Pieced (now rules) (now index) (now rows) (now text) from to (now ledger) ⌝ }
+    requires { ⌜ length (now out) ≤ cap ⌝ }
+    ensures { λ _. ⌜ Writes (now (rules .entry)) (now (index .entry)) (now (rows .entry)) (now (text .entry)) from to (now (out .entry)) (now (ledger .entry)) (now (out .exit)) (now (ledger .exit)) ⌝ }
+{
+    let mut s = from;
+    while s.block < to {
+        let k = s.block;
+        let next = step(out, rows, text, rules, index, s);
+        let walked = next.walked;
+        write_row(ledger, k, walked.at, walked.converter);
+        s = next;
+    }
+}

@@ -1,0 +1,234 @@
+-- Near passes: programs that do nearly what is asked. For each of them two calls, of real files, at which no program that meets the
+-- contract of Convert and Edit answers so. The calls are those of the tables of `Starred`, and some of the same files in other buffers.
+use mathlib.Core.Path.{_≡_, refl, sym, ap, subst, subst₂, _∙_}
+use mathlib.Core.List.{List, [], _∷_, _++_, map, flatten}
+use Prim.Native.Nat.{ℕ, _-_}
+use native.Mathlib.Omega.{arith}
+use lib.IntN.{pos, negsuc}
+use lib.ListN.{take, drop, getD, replicate}
+use Rattle.text.specs.Ascii.{ascii}
+use Rattle.edit_meaning.specs.Edit.{Answer, Result, put}
+use Rattle.edit_meaning.specs.Edit.Answer.{refused, converted, edited}
+use Rattle.edit_meaning.specs.Calls.{Gives, Converts, Edits}
+use Rattle.manuscript.specs.Manuscript.{manuscript}
+use Rattle.promises.specs.Starred.{Call, Case, case, result, hand, starred, small, small-hold}
+use Rattle.promises.specs.Starred.Call.{converts, edits}
+
+-- ---- programs
+
+-- what is answered and left at each call
+abbrev pub Program : Type 0
+Program = Call → Result
+
+-- what the contracts of `convert` and `edit` say of a call
+abbrev pub Right : Call → Result → Type 0
+Right (converts mode rules tree text ledger) r =
+    Converts (manuscript mode rules) tree text ledger (r .answer) (r .text) (r .ledger)
+Right (edits mode rules tree block kept text ledger) r =
+    Edits (manuscript mode rules) tree block kept text ledger (r .answer) (r .text) (r .ledger)
+
+abbrev pub Meets : Program → Type 0
+Meets p = (c : Call) → Right c (p c)
+
+-- the definitions themselves meet it, and whatever meets it is the definitions at each call
+pub result-meets : Meets result
+unfolding result
+result-meets (converts mode rules tree text ledger) = record { gives = record { answer = refl; bytes = refl; rows = refl } }
+result-meets (edits mode rules tree block kept text ledger) = record { gives = record { answer = refl; bytes = refl; rows = refl } }
+
+right-gives : (c : Call) (r : Result) → Right c r → Gives (result c) (r .answer) (r .text) (r .ledger)
+unfolding result
+right-gives (converts mode rules tree text ledger) r h = h .gives
+right-gives (edits mode rules tree block kept text ledger) r h = h .gives
+
+meets-is : (p : Program) → Meets p → (c : Call) → p c ≡ result c
+meets-is p m c =
+    let g = right-gives c (p c) (m c) in
+    λ i. record { answer = g .answer i; text = g .bytes i; ledger = g .rows i }
+
+-- ---- calls
+
+-- the text buffer as it is lent
+abbrev textLent : Call → List ℕ
+textLent (converts mode rules tree text ledger) = text
+textLent (edits mode rules tree block kept text ledger) = text
+
+abbrev ledgerLent : Call → List ℕ
+ledgerLent (converts mode rules tree text ledger) = ledger
+ledgerLent (edits mode rules tree block kept text ledger) = ledger
+
+-- an edit's document converted from its start, in the same buffers
+abbrev afresh : Call → Call
+afresh (converts mode rules tree text ledger) = converts mode rules tree text ledger
+afresh (edits mode rules tree block kept text ledger) = converts mode rules tree text ledger
+
+-- the same files in other buffers; an edit's block and kept length go with these
+abbrev within : ℕ → ℕ → List ℕ → List ℕ → Call → Call
+within block kept text ledger (converts mode rules tree t l) = converts mode rules tree text ledger
+within block kept text ledger (edits mode rules tree b k t l) = edits mode rules tree block kept text ledger
+
+abbrev zeros : ℕ → List ℕ
+zeros n = replicate n 0
+
+abbrev noResult : Result
+noResult = record { answer = refused 0 0; text = []; ledger = [] }
+
+abbrev noCase : Case
+noCase = record { call = converts 0 [] [] [] []; gives = noResult }
+
+abbrev callAt : ℕ → List Case → Call
+callAt k cases = (getD cases k noCase) .call
+
+abbrev givesAt : ℕ → List Case → Result
+givesAt k cases = (getD cases k noCase) .gives
+
+-- Math `ab`; `$x$`; `\item` as row 1, in a text buffer of two bytes
+abbrev letters : Call
+letters = callAt 1 hand
+
+abbrev formula : Call
+formula = callAt 8 hand
+
+abbrev item : Call
+item = callAt 9 hand
+
+-- line feed, space, space, of which two bytes are written, in a text buffer of two
+abbrev tight : Call
+tight = within 0 0 (replicate 2 7) (replicate 384 7) (callAt 2 hand)
+
+-- the label's block 0 edited to `a`, and a table behind it that wrote the label
+abbrev unlabelled : Call
+unlabelled = callAt 12 hand
+
+-- The same file where the table is the block named: the row before it holds a label that this document never had, and the text
+-- before it is another's.
+abbrev borrowed : Call
+borrowed = within 1 160 (textLent unlabelled) (ledgerLent unlabelled) unlabelled
+
+-- `two` edited to `x` between `one` and `six`; the same in a text from nowhere
+abbrev words : Call
+words = callAt 0 small
+
+abbrev shouted : Call
+shouted = callAt 3 small
+
+-- `a` edited to a line feed, behind which the second block, a space, writes nothing any more
+abbrev folded : Call
+folded = within 0 2 (ascii "a ") ((1 ∷ zeros 127) ++ (2 ∷ zeros 127)) (callAt 4 small)
+
+-- what is right for those that the tables do not have
+abbrev further : List Case
+further =
+    case tight (converted 2 3) (ascii "\n ") (take 384 ((givesAt 2 hand) .ledger))
+    ∷ case borrowed (edited 160 (pos 0) 1) (textLent borrowed) (ledgerLent borrowed)
+    ∷ case (afresh borrowed)
+    (converted 125 2) (put (take 125 ((givesAt 12 hand) .text)) (textLent borrowed)) ((givesAt 12 hand) .ledger)
+    ∷ case (afresh shouted) (converted 7 3) (ascii "onexsixIX") ((givesAt 3 small) .ledger)
+    ∷ case folded (edited 1 (negsuc 0) 2) (ascii "\n" ++ zeros 1) ((givesAt 4 small) .ledger)
+    ∷ []
+
+further-hold : map (λ c. result (c .call)) further ≡ map (λ c. c .gives) further
+unfolding result flatten
+further-hold = refl
+
+-- ---- the near passes
+
+abbrev lengthOf : Answer → ℕ
+lengthOf (refused number row) = 0
+lengthOf (converted length blocks) = length
+lengthOf (edited length growth count) = length
+
+abbrev numberOf : Answer → ℕ
+numberOf (refused number row) = number
+numberOf (converted length blocks) = 0
+numberOf (edited length growth count) = 0
+
+abbrev countOf : Answer → ℕ
+countOf (refused number row) = 0
+countOf (converted length blocks) = blocks
+countOf (edited length growth count) = count
+
+-- the text that an edit left is the one that Convert gives
+abbrev TextOfConvert : Result → Result → Type 0
+TextOfConvert r whole = take (lengthOf (whole .answer)) (r .text) ≡ take (lengthOf (whole .answer)) (whole .text)
+
+-- behind the named block, whose text ended at `old` and ends at `new`, stands what was kept there
+abbrev Copied : ℕ → ℕ → ℕ → Call → Result → Type 0
+Copied kept old new c r = take (kept - old) (drop new (r .text)) ≡ take (kept - old) (drop old (textLent c))
+
+abbrev byteAt : ℕ → List ℕ → ℕ
+byteAt i l = getD l i 0
+
+-- p is any program that meets the contract
+module _ (p : Program) (meets : Meets p) where
+  -- at a call of a table it gives what the table says
+  at-call :
+      (cases : List Case) → map (λ c. result (c .call)) cases ≡ map (λ c. c .gives) cases → (k : ℕ)
+      → getD (map (λ c. p (c .call)) cases) k noResult ≡ getD (map (λ c. c .gives) cases) k noResult
+  at-call cases h k =
+      let same : map (λ c. p (c .call)) cases ≡ map (λ c. result (c .call)) cases = λ i. map (λ c. meets-is p meets (c .call) i) cases in
+      ap (λ (l : List Result). getD l k noResult) (same ∙ h)
+
+  letters-is : p letters ≡ givesAt 1 hand
+  letters-is = at-call hand starred 1
+
+  formula-is : p formula ≡ givesAt 8 hand
+  formula-is = at-call hand starred 8
+
+  -- one that writes nothing: the text buffer is as it was lent
+  pub nothing-written : ((p letters) .text ≡ textLent letters → ⊥) × ((p formula) .text ≡ textLent formula → ⊥)
+  nothing-written = (
+    λ h. let z : _≡_ {A = ℕ} 7 97 = ap (byteAt 0) (sym h ∙ ap (λ r. r .text) letters-is) in omega arith,
+    λ h. let z : _≡_ {A = ℕ} 7 35 = ap (byteAt 0) (sym h ∙ ap (λ r. r .text) formula-is) in omega arith,
+  )
+
+  -- one fixed text: whatever it is, it is not the text of both
+  pub fixed-text : (s : List ℕ) → (p letters) .text ≡ put s (textLent letters) → (p formula) .text ≡ put s (textLent formula) → ⊥
+  fixed-text [] h k = nothing-written .0 h
+  fixed-text (x ∷ s) h k =
+      let a : x ≡ 97 = ap (byteAt 0) (sym h ∙ ap (λ r. r .text) letters-is) in
+      let b : x ≡ 35 = ap (byteAt 0) (sym k ∙ ap (λ r. r .text) formula-is) in
+      omega arith
+
+  -- one that refuses all, with whatever number
+  pub refuses-all : (n i : ℕ) → ((p letters) .answer ≡ refused n i → ⊥) × ((p formula) .answer ≡ refused n i → ⊥)
+  refuses-all n i = (
+    λ h. let z : _≡_ {A = ℕ} 0 4 = ap lengthOf (sym h ∙ ap (λ r. r .answer) letters-is) in omega arith,
+    λ h. let z : _≡_ {A = ℕ} 0 35 = ap lengthOf (sym h ∙ ap (λ r. r .answer) formula-is) in omega arith,
+  )
+
+  -- 15 before measuring: the file has more text than the buffer has room for, but what is written fits; or 11 is met first
+  pub early-fifteen : ((p tight) .answer ≡ refused 15 0 → ⊥) × ((p item) .answer ≡ refused 15 0 → ⊥)
+  early-fifteen = (
+    λ h. let z : _≡_ {A = ℕ} 15 0 = ap numberOf (sym h ∙ ap (λ r. r .answer) (at-call further further-hold 0)) in omega arith,
+    λ h. let z : _≡_ {A = ℕ} 15 11 = ap numberOf (sym h ∙ ap (λ r. r .answer) (at-call hand starred 9)) in omega arith,
+  )
+
+  -- an edit that converts the whole document and works out the count afterwards
+  pub whole-again : (TextOfConvert (p borrowed) (p (afresh borrowed)) → ⊥) × (TextOfConvert (p shouted) (p (afresh shouted)) → ⊥)
+  whole-again = (
+    λ h.
+        let z : _≡_ {A = ℕ} 35 97
+        = ap (byteAt 0) (subst₂ TextOfConvert (at-call further further-hold 1) (at-call further further-hold 2) h) in
+        omega arith,
+    λ h.
+        let z : _≡_ {A = ℕ} 79 111
+        = ap (byteAt 0) (subst₂ TextOfConvert (at-call small small-hold 3) (at-call further further-hold 3) h) in
+        omega arith,
+  )
+
+  -- an edit that converts the named block and copies later ones
+  pub later-copied : (Copied 160 33 1 unlabelled (p unlabelled) → ⊥) × (Copied 2 1 1 folded (p folded) → ⊥)
+  later-copied = (
+    λ h.
+        let z : _≡_ {A = ℕ} 0 60 = ap (byteAt 124) (subst (Copied 160 33 1 unlabelled) (at-call hand starred 12) h) in
+        omega arith,
+    λ h. let z : _≡_ {A = ℕ} 0 32 = ap (byteAt 0) (subst (Copied 2 1 1 folded) (at-call further further-hold 4) h) in omega arith,
+  )
+
+  -- a count that is always the block total
+  pub always-total : (countOf ((p words) .answer) ≡ 3 → ⊥) × (countOf ((p shouted) .answer) ≡ 3 → ⊥)
+  always-total = (
+    λ h. let z : _≡_ {A = ℕ} 3 1 = sym h ∙ ap (λ r. countOf (r .answer)) (at-call small small-hold 0) in omega arith,
+    λ h. let z : _≡_ {A = ℕ} 3 1 = sym h ∙ ap (λ r. countOf (r .answer)) (at-call small small-hold 3) in omega arith,
+  )
