@@ -1,22 +1,10 @@
 // Convert and Edit, for any caller with any bytes: the files are checked, the blocks measured, and only then any lent byte is written.
 use ledger::ROW_SIZE;
-use ledger::ledger_fits;
-use ledger::move_rows;
-use ledger::row_carry;
-use ledger::row_end;
 use mitex_meaning::Converter;
 use mitex_meaning::LaTeXMode;
 use mitex_spec::INDEX_SIZE;
-use mitex_spec::check_rules;
 use passes::Standing;
-use passes::draft_blocks;
-use passes::measure;
-use passes::stand_at;
-use passes::write_blocks;
-use text::move_bytes;
-use text::put;
 use tree_file::Checked;
-use tree_file::check_tree;
 ghost use mathlib.Core.Path.{_≡_};
 ghost use mathlib.Core.Bool.{true, _&&_};
 ghost use Prim.Native.Nat.{_+_, _*_, _-_, _≤_, _<_, min};
@@ -107,7 +95,7 @@ pub enum Opened {
 fn open_tree(mode: LaTeXMode, tree: &[u8]) -> Opened
     ensures { λ r. ⌜ r ≡ openTree mode (checkedAnswer (checkTree (now (tree .entry)))) ⌝ }
 {
-    match check_tree(tree) {
+    match tree_file::check_tree(tree) {
         Checked::Refused { number, row } => Opened::Shut { number, row },
         Checked::Whole {
             start,
@@ -130,7 +118,7 @@ fn open(mode: u8, rules: &[u8], tree: &[u8], index: &mut [u32]) -> Opened
     if 1 < mode {
         return Opened::Shut { number: 1, row: 0 };
     }
-    if !check_rules(rules, index) {
+    if !mitex_spec::check_rules(rules, index) {
         return Opened::Shut { number: 2, row: 0 };
     }
     if mode == 0 {
@@ -191,12 +179,12 @@ fn deliver<'a>(
 {
     let at = out.len();
     if draft.len() < at {
-        write_blocks(out, ledger, rows, text, rules, index, from, blocks);
+        passes::write_blocks(out, ledger, rows, text, rules, index, from, blocks);
         return;
     }
     let end = ROW_SIZE * blocks;
-    put(out, 0, &draft[..at]);
-    put(&mut ledger[..end], 0, &draft_rows[..end]);
+    text::put(out, 0, &draft[..at]);
+    text::put(&mut ledger[..end], 0, &draft_rows[..end]);
 }
 
 // The blocks of a document, drafted and then delivered: the text, and a row for each.
@@ -216,8 +204,8 @@ fn convert_by_draft<'a>(
     requires { ⌜ (length (now draft) ≤ cap) × (rowSize * blocks ≤ length (now «draft_rows»)) ⌝ }
     ensures { λ r. ⌜ ConvertsBlocks (now (rules .entry)) (now (index .entry)) (now (rows .entry)) (now (text .entry)) mode blocks (now (out .entry)) (now (ledger .entry)) r (now (out .exit)) (now (ledger .exit)) ⌝ }
 {
-    let from = stand_at(rows, 0, 0, opening(mode));
-    let m = draft_blocks(draft, draft_rows, rows, text, rules, index, from, blocks);
+    let from = passes::stand_at(rows, 0, 0, opening(mode));
+    let m = passes::draft_blocks(draft, draft_rows, rows, text, rules, index, from, blocks);
     let whole = m.walked;
     let number = whole.refusal;
     let row = whole.row;
@@ -401,7 +389,7 @@ fn end_before(ledger: &[u8], k: usize) -> usize
     if k == 0 {
         return 0;
     }
-    row_end(ledger, k - 1)
+    ledger::row_end(ledger, k - 1)
 }
 
 // The converter with which block `k` begins, by the row before it.
@@ -412,7 +400,7 @@ fn carry_before(ledger: &[u8], k: usize, mode: LaTeXMode) -> Converter
     if k == 0 {
         return opening(mode);
     }
-    row_carry(ledger, k - 1, opening(mode))
+    ledger::row_carry(ledger, k - 1, opening(mode))
 }
 
 // Refusal 6: whether the block exists, the kept text is in the buffer, and the ledger fits.
@@ -425,7 +413,7 @@ fn edit_fits(blocks: usize, block: usize, kept: usize, text: &[u8], ledger: &[u8
     if text.len() < kept {
         return false;
     }
-    ledger_fits(ledger, blocks, kept)
+    ledger::ledger_fits(ledger, blocks, kept)
 }
 
 // Zeros from `from` up to `to`, where that is behind it.
@@ -462,10 +450,10 @@ fn overwrite<'a>(
     let at = walked.at;
     let tail = kept - old;
     let to = m.block;
-    move_bytes(out, old, at, tail);
-    write_blocks(&mut out[..at], ledger, rows, text, rules, index, from, to);
+    text::move_bytes(out, old, at, tail);
+    passes::write_blocks(&mut out[..at], ledger, rows, text, rules, index, from, to);
     clear_between(out, at + tail, kept);
-    move_rows(ledger, to, blocks, old, at);
+    ledger::move_rows(ledger, to, blocks, old, at);
 }
 
 // The blocks that were measured, in the place of the kept ones, where there is room for the new text.
@@ -532,8 +520,8 @@ fn edit_blocks<'a>(
         return Edited::Refused { number: 6, row: 0 };
     }
     let at = end_before(ledger, block);
-    let from = stand_at(rows, block, at, carry_before(ledger, block, mode));
-    let m = measure(rows, text, rules, index, ledger, from, blocks);
+    let from = passes::stand_at(rows, block, at, carry_before(ledger, block, mode));
+    let m = passes::measure(rows, text, rules, index, ledger, from, blocks);
     let walked = m.walked;
     if walked.refusal != 0 {
         return Edited::Refused {

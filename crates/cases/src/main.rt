@@ -10,9 +10,6 @@ use calls::Converted;
 use calls::Edited;
 use libc::STDIN_FILENO;
 use libc::STDOUT_FILENO;
-use text::put;
-use text::read_u32;
-use text::same;
 
 // ---- the tags
 
@@ -109,7 +106,7 @@ fn fill(out: &mut [u8]) {
 
 // The front of a buffer overwritten.
 fn begin_with(out: &mut [u8; BUFFER], s: &[u8]) {
-    put(out, 0, s);
+    text::put(out, 0, s);
 }
 
 // The first `n` bytes of a buffer taken over by another.
@@ -177,8 +174,8 @@ fn same_answer(a: Answer, b: Answer) -> bool {
 fn growth_at(input: &[u8], at: usize) -> i64
     requires { ⌜ at + 8 ≤ length (now input) ⌝ }
 {
-    let grown = read_u32(input, at);
-    let shrunk = read_u32(input, at + 4);
+    let grown = text::read_u32(input, at);
+    let shrunk = text::read_u32(input, at + 4);
     grown as i64 - shrunk as i64
 }
 
@@ -187,10 +184,10 @@ fn due(input: &[u8], at: usize) -> Answer
     requires { ⌜ at + 40 ≤ length (now input) ⌝ }
 {
     Answer {
-        number: read_u32(input, at + 16),
-        first: read_u32(input, at + 20),
+        number: text::read_u32(input, at + 16),
+        first: text::read_u32(input, at + 20),
         growth: growth_at(input, at + 24),
-        count: read_u32(input, at + 32),
+        count: text::read_u32(input, at + 32),
     }
 }
 
@@ -210,7 +207,7 @@ fn ask(input: &[u8], at: usize, c: Case, text: &mut [u8], ledger: &mut [u8]) -> 
     let rules = &input[r_from..r_to];
     let tree = &input[t_from..t_to];
     let mode = input[at + 4];
-    if read_u32(input, at) == 0 {
+    if text::read_u32(input, at) == 0 {
         return converted(calls::convert(
             mode,
             rules,
@@ -219,8 +216,8 @@ fn ask(input: &[u8], at: usize, c: Case, text: &mut [u8], ledger: &mut [u8]) -> 
             &mut ledger[..ledger_size],
         ));
     }
-    let block = read_u32(input, at + 8);
-    let kept = read_u32(input, at + 12);
+    let block = text::read_u32(input, at + 8);
+    let kept = text::read_u32(input, at + 12);
     edited(calls::edit(
         mode,
         rules,
@@ -245,14 +242,14 @@ fn passes(
     requires { ⌜ (at + 40 ≤ length (now input)) × Held (length (now input)) c ⌝ }
 {
     let a = ask(input, at, c, text, ledger);
-    take_over(ledger, ledger_due, read_u32(input, at + 36));
+    take_over(ledger, ledger_due, text::read_u32(input, at + 36));
     if !same_answer(a, due(input, at)) {
         return false;
     }
-    if !same(text, text_due) {
+    if !text::same(text, text_due) {
         return false;
     }
-    same(ledger, ledger_due)
+    text::same(ledger, ledger_due)
 }
 
 // ---- the parts
@@ -288,8 +285,8 @@ fn sized(input: &[u8], part: Part, c: Case) -> Case
     if part.to - from < 8 {
         return fails(input, c);
     }
-    let text_size = read_u32(input, from);
-    let ledger_size = read_u32(input, from + 4);
+    let text_size = text::read_u32(input, from);
+    let ledger_size = text::read_u32(input, from + 4);
     if BUFFER < text_size {
         return fails(input, c);
     }
@@ -412,7 +409,7 @@ fn replay(input: &[u8]) -> Case {
             return fails(input, c);
         }
         let from = i + 5;
-        let n = read_u32(input, i + 1);
+        let n = text::read_u32(input, i + 1);
         if input.len() - from < n {
             return fails(input, c);
         }
@@ -443,7 +440,7 @@ fn read_case(buffer: &mut [u8]) -> usize
     if io::read_full(STDIN_FILENO, &mut size) < 4 {
         return 0;
     }
-    let n = read_u32(&size, 0);
+    let n = text::read_u32(&size, 0);
     if buffer.len() < n {
         return 0;
     }

@@ -9,11 +9,6 @@ ghost use Rattle.text.specs.Writing.{cap, Wrote};
 ghost use Rattle.console.specs.Mode.{modeBy, modeIn};
 ghost use Rattle.console.specs.Request.{goesOn, withDigit, numberSpelt, before, behind, both, lineRequest, requestIn};
 ghost use Rattle.console.specs.Answers.{difference, refusalLine, editedLine};
-use text::index_of;
-use text::put;
-use text::put_byte;
-use text::put_decimal;
-use text::wide;
 
 // What is no mode: it is refused as 1.
 const NO_MODE: u8 = 2;
@@ -96,7 +91,7 @@ fn with_digit(n: usize, x: u8) -> usize
     requires { ⌜ goesOn n x ≡ true ⌝ }
     ensures { λ r. ⌜ r ≡ withDigit n x ⌝ }
 {
-    n * 10 + wide(x - b'0')
+    n * 10 + text::wide(x - b'0')
 }
 
 // The number that digits spell: at least one, and no more than 64 bits hold.
@@ -140,7 +135,7 @@ fn both(mode: u8, block: Spelt, kept: Spelt) -> Request
 fn numbers(mode: u8, rest: &[u8]) -> Request
     ensures { λ r. ⌜ r ≡ both mode (numberSpelt (before 32 (now (rest .entry)))) (numberSpelt (behind 32 (now (rest .entry)))) ⌝ }
 {
-    let space = index_of(rest, b' ');
+    let space = text::index_of(rest, b' ');
     if rest.len() <= space {
         return Request::Nothing;
     }
@@ -168,7 +163,7 @@ pub const LINE_MOST: usize = 64;
 pub fn request_in(input: &[u8]) -> Request
     ensures { λ r. ⌜ r ≡ requestIn (now (input .entry)) ⌝ }
 {
-    let end = index_of(input, b'\n');
+    let end = text::index_of(input, b'\n');
     if LINE_MOST <= end {
         return Request::Nothing;
     }
@@ -189,10 +184,10 @@ fn put_difference(out: &mut [u8], at: usize, a: usize, b: usize) -> usize
     ensures { λ r. ⌜ Wrote at (now (out .entry)) (difference a b) r (now (out .exit)) ⌝ }
 {
     if b <= a {
-        put_decimal(out, at, a - b)
+        text::put_decimal(out, at, a - b)
     } else {
-        let p = put_byte(out, at, b'-');
-        put_decimal(out, p, b - a)
+        let p = text::put_byte(out, at, b'-');
+        text::put_decimal(out, p, b - a)
     }
 }
 
@@ -201,13 +196,13 @@ pub fn put_edited(out: &mut [u8; ANSWER_MOST], length: usize, kept: usize, count
     ensures { λ r. ⌜ Wrote 0 (now (out .entry)) (editedLine length kept count) r (now (out .exit)) ⌝ }
     ensures { λ r. ⌜ Counts r (now (out .exit)) ⌝ }
 {
-    let a = put(out, 0, b"ok ");
-    let b = put_decimal(out, a, length);
-    let c = put_byte(out, b, b' ');
+    let a = text::put(out, 0, b"ok ");
+    let b = text::put_decimal(out, a, length);
+    let c = text::put_byte(out, b, b' ');
     let d = put_difference(out, c, length, kept);
-    let e = put_byte(out, d, b' ');
-    let f = put_decimal(out, e, count);
-    put_byte(out, f, b'\n')
+    let e = text::put_byte(out, d, b' ');
+    let f = text::put_decimal(out, e, count);
+    text::put_byte(out, f, b'\n')
 }
 
 // `refused 11 at 1` and a line feed.
@@ -215,9 +210,9 @@ pub fn put_refusal(out: &mut [u8; ANSWER_MOST], number: u8, row: usize) -> usize
     ensures { λ r. ⌜ Wrote 0 (now (out .entry)) (refusalLine number row) r (now (out .exit)) ⌝ }
     ensures { λ r. ⌜ Counts r (now (out .exit)) ⌝ }
 {
-    let a = put(out, 0, b"refused ");
-    let b = put_decimal(out, a, wide(number));
-    let c = put(out, b, b" at ");
-    let d = put_decimal(out, c, row);
-    put_byte(out, d, b'\n')
+    let a = text::put(out, 0, b"refused ");
+    let b = text::put_decimal(out, a, text::wide(number));
+    let c = text::put(out, b, b" at ");
+    let d = text::put_decimal(out, c, row);
+    text::put_byte(out, d, b'\n')
 }

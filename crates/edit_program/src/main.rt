@@ -5,10 +5,6 @@ use calls::Edited;
 use console::ANSWER_MOST;
 use console::LINE_MOST;
 use console::Request;
-use console::put_edited;
-use console::put_refusal;
-use console::read_file;
-use console::request_in;
 use libc::STDIN_FILENO;
 use libc::STDOUT_FILENO;
 
@@ -22,29 +18,29 @@ const BUFFER_MOST: usize = 65536;
 fn read_request() -> Request {
     let mut line = [0u8; LINE_MOST];
     let n = io::read_full(STDIN_FILENO, &mut line);
-    request_in(&line[..n])
+    console::request_in(&line[..n])
 }
 
 // Writes the line of a refusal.
 fn print_refusal(number: u8, row: usize) {
     let mut line = [0u8; ANSWER_MOST];
-    let n = put_refusal(&mut line, number, row);
+    let n = console::put_refusal(&mut line, number, row);
     io::write_all(STDOUT_FILENO, &line[..n]);
 }
 
 // Writes the line of an edit.
 fn print_edited(length: usize, kept: usize, count: usize) {
     let mut line = [0u8; ANSWER_MOST];
-    let n = put_edited(&mut line, length, kept, count);
+    let n = console::put_edited(&mut line, length, kept, count);
     io::write_all(STDOUT_FILENO, &line[..n]);
 }
 
 // Edits, and says what came of it. The growth is the new length less the kept one.
 fn edit_block(mode: u8, block: usize, kept: usize, text: &mut [u8], ledger: &mut [u8]) {
     let mut rules = [0u8; FILE_READ];
-    let rules_size = read_file(b"rules.bin", &mut rules);
+    let rules_size = console::read_file(b"rules.bin", &mut rules);
     let mut tree = [0u8; FILE_READ];
-    let tree_size = read_file(b"tree.bin", &mut tree);
+    let tree_size = console::read_file(b"tree.bin", &mut tree);
     match calls::edit(
         mode,
         &rules[..rules_size],
@@ -88,9 +84,9 @@ fn print_too_long(name: &[u8]) {
 
 fn main() {
     let mut text = [0u8; FILE_READ];
-    let text_size = read_file(b"text.bin", &mut text);
+    let text_size = console::read_file(b"text.bin", &mut text);
     let mut ledger = [0u8; FILE_READ];
-    let ledger_size = read_file(b"ledger.bin", &mut ledger);
+    let ledger_size = console::read_file(b"ledger.bin", &mut ledger);
     if BUFFER_MOST < text_size {
         return print_too_long(b"text.bin");
     }

@@ -1,12 +1,6 @@
 // The ledger: a row of 128 bytes for each block, read and written. specs/Ledger.antt has the layout.
 use mitex_meaning::Converter;
 use mitex_meaning::LABEL_MOST;
-use text::clear;
-use text::put;
-use text::read_u32;
-use text::same;
-use text::wide;
-use text::write_u32;
 ghost use mathlib.Core.Path.{_≡_};
 ghost use mathlib.Core.Bool.{true, cond};
 ghost use mathlib.Core.List.{[], _∷_, _++_};
@@ -29,7 +23,7 @@ pub fn row_end(ledger: &[u8], i: usize) -> usize
     requires { ⌜ HasRow i (now ledger) ⌝ }
     ensures { λ r. ⌜ (r ≡ (rowAt i (now (ledger .entry))) .end) × (r < 4294967296) ⌝ }
 {
-    read_u32(ledger, ROW_SIZE * i)
+    text::read_u32(ledger, ROW_SIZE * i)
 }
 
 // The space flag behind block `i`.
@@ -57,7 +51,7 @@ fn row_label(ledger: &[u8], i: usize) -> &[u8]
 {
     let at = ROW_SIZE * i;
     let from = at + 8;
-    let to = from + wide(ledger[at + 6]);
+    let to = from + text::wide(ledger[at + 6]);
     &ledger[from..to]
 }
 
@@ -81,7 +75,7 @@ fn label_is(converter: Converter, s: &[u8]) -> bool
 {
     let label = converter.label;
     let len = converter.label_len;
-    same(&label[..len], s)
+    text::same(&label[..len], s)
 }
 
 // Whether the label that the converter holds is that of row `i`.
@@ -145,10 +139,10 @@ fn row_fits(ledger: &[u8], i: usize) -> bool
     ensures { λ r. ⌜ r ≡ rowFits (drop (rowSize * i) (now (ledger .entry))) ⌝ }
 {
     let at = ROW_SIZE * i;
-    let flag = wide(ledger[at + 4]);
-    let held = wide(ledger[at + 5]);
-    let len = wide(ledger[at + 6]);
-    let blank = wide(ledger[at + 7]);
+    let flag = text::wide(ledger[at + 4]);
+    let held = text::wide(ledger[at + 5]);
+    let len = text::wide(ledger[at + 6]);
+    let blank = text::wide(ledger[at + 7]);
     if !marks_fit(flag, held, len, blank) {
         return false;
     }
@@ -208,8 +202,8 @@ fn fill_label(out: &mut [u8], converter: Converter, len: usize)
     ensures { λ _. ⌜ now (out .exit) ≡ take len (converter .label) ++ replicate (labelMost - len) 0 ⌝ }
 {
     let label = converter.label;
-    put(out, 0, &label[..len]);
-    clear(&mut out[len..]);
+    text::put(out, 0, &label[..len]);
+    text::clear(&mut out[len..]);
 }
 
 // Bytes 4 to 7: the two marks, the label's length, zero.
@@ -229,7 +223,7 @@ fn fill_row(row: &mut [u8], end: usize, converter: Converter)
     ensures { λ _. ⌜ now (row .exit) ≡ encodeRow (record { end = end; carry = carryOf converter }) ⌝ }
 {
     let len = held_len(converter.label_held, converter.label_len);
-    write_u32(row, 0, end);
+    text::write_u32(row, 0, end);
     write_marks(row, converter.skip_next_space, converter.label_held, len);
     fill_label(&mut row[8..], converter, len);
 }
@@ -250,7 +244,7 @@ pub fn move_row(ledger: &mut [u8], i: usize, old: usize, new: usize)
     ensures { λ _. ⌜ now (ledger .exit) ≡ sets (now (ledger .entry)) (rowSize * i) (moveRow old new (drop (rowSize * i) (now (ledger .entry)))) ⌝ }
 {
     let end = row_end(ledger, i);
-    write_u32(ledger, ROW_SIZE * i, new + (end - old));
+    text::write_u32(ledger, ROW_SIZE * i, new + (end - old));
 }
 
 // The lengths of the rows from `from` on up to `to`, their text moved from the place `old` to `new`.

@@ -1,11 +1,7 @@
 // Passes over the blocks of a document, one block a turn. Convert's goes over all blocks, measures and writes. Edit has two: one that
 // measures up to the first block whose carry is that of its kept row, and one that writes what was measured.
-use ledger::same_carry;
-use ledger::write_row;
 use mitex_meaning::Converter;
 use mitex_meaning::Walked;
-use mitex_meaning::went;
-use mitex_syntax::span_at;
 ghost use mathlib.Core.Path.{_≡_};
 ghost use mathlib.Core.Bool.{true, false};
 ghost use mathlib.Core.List.{[]};
@@ -38,12 +34,12 @@ pub fn stand_at(rows: &[u8], block: usize, at: usize, converter: Converter) -> S
     let mut j = 0;
     let mut k = 0;
     while k < block {
-        let n = span_at(rows, i);
+        let n = mitex_syntax::span_at(rows, i);
         i += n.rows;
         j += n.text;
         k += 1;
     }
-    let walked = went(converter, at);
+    let walked = mitex_meaning::went(converter, at);
     Standing {
         block,
         i,
@@ -67,7 +63,7 @@ pub fn step<'a>(
 {
     let i = s.i;
     let j = s.j;
-    let n = span_at(rows, i);
+    let n = mitex_syntax::span_at(rows, i);
     let e = i + n.rows;
     let u = j + n.text;
     let before = s.walked;
@@ -99,7 +95,7 @@ fn met(kept: &[u8], first: usize, s: Standing) -> bool
         return false;
     }
     let walked = s.walked;
-    same_carry(kept, k - 1, walked.converter)
+    ledger::same_carry(kept, k - 1, walked.converter)
 }
 
 // Blocks measured from a standing on, up to the first whose carry is that of its kept row, or up to the last.
@@ -140,7 +136,7 @@ fn draft_row(ledger: &mut [u8], k: usize, walked: Walked)
     if CAP <= walked.at {
         return;
     }
-    write_row(ledger, k, walked.at, walked.converter);
+    ledger::write_row(ledger, k, walked.at, walked.converter);
 }
 
 // All blocks from a standing on, measured and written with their rows in one pass: what falls outside the buffer is not written but counted.
@@ -193,7 +189,7 @@ pub fn write_blocks<'a>(
         let k = s.block;
         let next = step(out, rows, text, rules, index, s);
         let walked = next.walked;
-        write_row(ledger, k, walked.at, walked.converter);
+        ledger::write_row(ledger, k, walked.at, walked.converter);
         s = next;
     }
 }

@@ -2,9 +2,6 @@
 // `m`), and writes the text alone; or the number and the row of a refusal.
 use calls::Converted;
 use console::ANSWER_MOST;
-use console::mode_in;
-use console::put_refusal;
-use console::read_file;
 use libc::STDIN_FILENO;
 use libc::STDOUT_FILENO;
 
@@ -15,13 +12,13 @@ const FILE_READ: usize = 65537;
 fn read_mode() -> u8 {
     let mut first = [0u8; 1];
     let n = io::read_full(STDIN_FILENO, &mut first);
-    mode_in(&first[..n])
+    console::mode_in(&first[..n])
 }
 
 // Writes the line of a refusal.
 fn print_refusal(number: u8, row: usize) {
     let mut line = [0u8; ANSWER_MOST];
-    let n = put_refusal(&mut line, number, row);
+    let n = console::put_refusal(&mut line, number, row);
     io::write_all(STDOUT_FILENO, &line[..n]);
 }
 
@@ -40,8 +37,8 @@ fn convert<'a>(mode: u8, rules: &'a [u8], tree: &'a [u8]) {
 fn main() {
     let mode = read_mode();
     let mut rules = [0u8; FILE_READ];
-    let rules_size = read_file(b"rules.bin", &mut rules);
+    let rules_size = console::read_file(b"rules.bin", &mut rules);
     let mut tree = [0u8; FILE_READ];
-    let tree_size = read_file(b"tree.bin", &mut tree);
+    let tree_size = console::read_file(b"tree.bin", &mut tree);
     convert(mode, &rules[..rules_size], &tree[..tree_size]);
 }

@@ -1,9 +1,7 @@
 // Replays tree files and compares what the check answers. Standard input holds the cases, one after the other: the number of the
 // refusal (0: accepted), its row and the file's length, each in four bytes, and the file.
 ghost use Prim.Native.Nat.{_+_, _≤_, _<_};
-use text::read_u32;
 use tree_file::Checked;
-use tree_file::check_tree;
 
 // How many cases there were, and how many of them failed.
 pub struct Tally {
@@ -58,15 +56,18 @@ fn replay(cases: &[u8]) -> Tally {
         if cases.len() - i < 12 {
             return t;
         }
-        let number = read_u32(cases, i);
-        let row = read_u32(cases, i + 4);
+        let number = text::read_u32(cases, i);
+        let row = text::read_u32(cases, i + 4);
         let from = i + 12;
-        let n = read_u32(cases, i + 8);
+        let n = text::read_u32(cases, i + 8);
         if cases.len() - from < n {
             return t;
         }
         let to = from + n;
-        t = count(t, agrees(check_tree(&cases[from..to]), number, row));
+        t = count(
+            t,
+            agrees(tree_file::check_tree(&cases[from..to]), number, row),
+        );
         i = to;
     }
     t

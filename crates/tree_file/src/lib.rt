@@ -29,20 +29,6 @@ use mitex_syntax::ITEM_ENV;
 use mitex_syntax::Place;
 use mitex_syntax::SCOPE_ROOT;
 use mitex_syntax::TOKEN_COMMAND_SYM;
-use mitex_syntax::argument_with;
-use mitex_syntax::extent;
-use mitex_syntax::find_kind;
-use mitex_syntax::first_token;
-use mitex_syntax::is_node;
-use mitex_syntax::is_token;
-use mitex_syntax::name_tok;
-use mitex_syntax::span_at;
-use mitex_syntax::text_at;
-use mitex_syntax::token_len;
-use text::read_u32;
-use text::same;
-use utf8::one_byte_each;
-use utf8::valid;
 
 // The refusals of a tree file, in checking order.
 const BAD_LAYOUT: u8 = 3;
@@ -120,12 +106,12 @@ fn token_fits(k: u8, s: &[u8], plain: bool) -> bool
     requires { ⌜ (plain ≡ true → oneByteEach (now s) ≡ true) ⌝ }
     ensures { λ r. ⌜ r ≡ tokenFits k (now (s .entry)) ⌝ }
 {
-    if is_token(k) {
+    if mitex_syntax::is_token(k) {
         if 1 <= s.len() {
             if plain {
                 return true;
             }
-            return valid(s);
+            return utf8::valid(s);
         }
     }
     false
@@ -136,7 +122,7 @@ fn token_row(rows: &[u8], text: &[u8], plain: bool) -> Row
     requires { ⌜ (8 ≤ length (now rows)) × (plain ≡ true → oneByteEach (now text) ≡ true) ⌝ }
     ensures { λ r. ⌜ r ≡ tokenRow (now (rows .entry)) (now (text .entry)) ⌝ }
 {
-    let n = read_u32(rows, 4);
+    let n = text::read_u32(rows, 4);
     if n <= text.len() {
         if token_fits(rows[0], &text[..n], plain) {
             return Row::Token(n);
@@ -151,8 +137,8 @@ fn node_row(rows: &[u8]) -> Row
     ensures { λ r. ⌜ r ≡ nodeRow (now (rows .entry)) ⌝ }
 {
     if rows[1] == 0 {
-        if is_node(rows[0]) {
-            return Row::Node(read_u32(rows, 4));
+        if mitex_syntax::is_node(rows[0]) {
+            return Row::Node(text::read_u32(rows, 4));
         }
     }
     Row::Bad
@@ -200,7 +186,7 @@ fn taken(r: Row) -> usize
 fn lines_fit(rows: &[u8], text: &[u8]) -> bool
     ensures { λ r. ⌜ ((n : ℕ) → length (now (rows .entry)) ≡ 8 * n → r ≡ isSome (lines n (now (rows .entry)) (now (text .entry)))) ⌝ }
 {
-    let plain = one_byte_each(text);
+    let plain = utf8::one_byte_each(text);
     let mut l = rows;
     let mut t = text;
     while 8 <= l.len() {
@@ -223,7 +209,7 @@ fn under(rows: &[u8]) -> usize
     if rows[1] == 1 {
         return 0;
     }
-    read_u32(rows, 4)
+    text::read_u32(rows, 4)
 }
 
 // Whether the rows nest, no deeper than `left`: a child's rows end no later than its parent's.
@@ -299,7 +285,7 @@ fn count_trees(rows: &[u8]) -> usize
     let mut rest = rows;
     let mut m = 0;
     while 8 <= rest.len() {
-        let end = extent(rest, 0);
+        let end = mitex_syntax::extent(rest, 0);
         rest = &rest[end..];
         m += 1;
     }
@@ -320,7 +306,7 @@ fn root_blocks(rows: &[u8]) -> Blocks
     if rows[1] == 1 {
         return Blocks::Amiss;
     }
-    let end = extent(rows, 0);
+    let end = mitex_syntax::extent(rows, 0);
     if rows.len() != end {
         return Blocks::Amiss;
     }
@@ -407,7 +393,7 @@ fn label_fits(rows: &[u8], text: &[u8]) -> bool
     requires { ⌜ SomeForest (now rows) (now text) 0 0 ⌝ }
     ensures { λ r. ⌜ ((f : Forest) → Begins f (now (rows .entry)) (now (text .entry)) → r ≡ labelFits f) ⌝ }
 {
-    good_ends(text_at(text, find_kind(rows, text, CLAUSE_ARGUMENT)))
+    good_ends(mitex_syntax::text_at(text, mitex_syntax::find_kind(rows, text, CLAUSE_ARGUMENT)))
 }
 
 // Whether `\includegraphics` has an argument with an ItemCurly, and the first has good ends.
@@ -415,7 +401,7 @@ fn curly_fits(rows: &[u8], text: &[u8]) -> bool
     requires { ⌜ SomeForest (now rows) (now text) 0 0 ⌝ }
     ensures { λ r. ⌜ ((f : Forest) → Begins f (now (rows .entry)) (now (text .entry)) → r ≡ goodEnds (textIn (argumentWith ItemCurly f))) ⌝ }
 {
-    good_ends(text_at(text, argument_with(rows, text, ITEM_CURLY)))
+    good_ends(mitex_syntax::text_at(text, mitex_syntax::argument_with(rows, text, ITEM_CURLY)))
 }
 
 // Whether its first argument with an ItemBracket, if there is one, has them.
@@ -423,9 +409,9 @@ fn bracket_fits(rows: &[u8], text: &[u8]) -> bool
     requires { ⌜ SomeForest (now rows) (now text) 0 0 ⌝ }
     ensures { λ r. ⌜ ((f : Forest) → Begins f (now (rows .entry)) (now (text .entry)) → r ≡ endsIn (argumentWith ItemBracket f)) ⌝ }
 {
-    let place = argument_with(rows, text, ITEM_BRACKET);
+    let place = mitex_syntax::argument_with(rows, text, ITEM_BRACKET);
     if is_there(place) {
-        return good_ends(text_at(text, place));
+        return good_ends(mitex_syntax::text_at(text, place));
     }
     true
 }
@@ -435,7 +421,7 @@ fn image_fits(rows: &[u8], text: &[u8]) -> bool
     requires { ⌜ SomeForest (now rows) (now text) 0 0 ⌝ }
     ensures { λ r. ⌜ ((f : Forest) → Begins f (now (rows .entry)) (now (text .entry)) → r ≡ imageFits f) ⌝ }
 {
-    if is_there(argument_with(rows, text, NO_KIND)) {
+    if is_there(mitex_syntax::argument_with(rows, text, NO_KIND)) {
         return false;
     }
     if curly_fits(rows, text) {
@@ -449,7 +435,7 @@ fn color_fits(rows: &[u8], text: &[u8]) -> bool
     requires { ⌜ SomeForest (now rows) (now text) 0 0 ⌝ }
     ensures { λ r. ⌜ ((f : Forest) → Begins f (now (rows .entry)) (now (text .entry)) → r ≡ colorFits f) ⌝ }
 {
-    is_there(find_kind(rows, text, CLAUSE_ARGUMENT))
+    is_there(mitex_syntax::find_kind(rows, text, CLAUSE_ARGUMENT))
 }
 
 // Whether a command of this name may be over these rows.
@@ -457,13 +443,13 @@ fn arguments_fit(name: &[u8], rows: &[u8], text: &[u8]) -> bool
     requires { ⌜ SomeForest (now rows) (now text) 0 0 ⌝ }
     ensures { λ r. ⌜ ((f : Forest) → Begins f (now (rows .entry)) (now (text .entry)) → r ≡ argumentsFit (now (name .entry)) f) ⌝ }
 {
-    if same(name, b"\\label") {
+    if text::same(name, b"\\label") {
         return label_fits(rows, text);
     }
-    if same(name, b"\\includegraphics") {
+    if text::same(name, b"\\includegraphics") {
         return image_fits(rows, text);
     }
-    if same(name, b"\\color") {
+    if text::same(name, b"\\color") {
         return color_fits(rows, text);
     }
     true
@@ -474,7 +460,7 @@ fn cmd_fits(rows: &[u8], text: &[u8]) -> bool
     requires { ⌜ SomeForest (now rows) (now text) 0 0 ⌝ }
     ensures { λ r. ⌜ ((f : Forest) → Begins f (now (rows .entry)) (now (text .entry)) → r ≡ cmdFits f) ⌝ }
 {
-    let name = name_tok(rows, text);
+    let name = mitex_syntax::name_tok(rows, text);
     if begins_slashed(name) {
         return arguments_fit(name, rows, text);
     }
@@ -486,9 +472,12 @@ fn env_fits(rows: &[u8], text: &[u8]) -> bool
     requires { ⌜ SomeForest (now rows) (now text) 0 0 ⌝ }
     ensures { λ r. ⌜ ((f : Forest) → Begins f (now (rows .entry)) (now (text .entry)) → r ≡ envFits f) ⌝ }
 {
-    match find_kind(rows, text, ITEM_BEGIN) {
+    match mitex_syntax::find_kind(rows, text, ITEM_BEGIN) {
         Place::Nowhere => false,
-        Place::At { row, end, from, to } => first_token(&rows[row + 8..end], &text[from..to]).kind
+        Place::At { row, end, from, to } => mitex_syntax::first_token(
+            &rows[row + 8..end],
+            &text[from..to],
+        ).kind
             == TOKEN_COMMAND_SYM,
     }
 }
@@ -536,7 +525,7 @@ fn check_shape(rows: &[u8], text: &[u8], up: u8, row: usize) -> Shape
     let mut j = 0;
     let mut at = row + 1;
     while i < rows.len() {
-        let s = span_at(rows, i);
+        let s = mitex_syntax::span_at(rows, i);
         let e = s.rows;
         let n = s.text;
         match check_shape(&rows[i..i + e], &text[j..j + n], k, at) {
@@ -585,7 +574,7 @@ fn first_fits(rows: &[u8], text: &[u8]) -> bool
     if k == TOKEN_COMMAND_SYM {
         return begins_slashed(text);
     }
-    let end = extent(rows, 0);
+    let end = mitex_syntax::extent(rows, 0);
     node_fits(k, &rows[8..end], text)
 }
 
@@ -594,7 +583,7 @@ fn pass_whole(rows: &[u8], text: &[u8], row: usize) -> Pass
     requires { ⌜ Scannable (now rows) (now text) × (row ≤ fileMost) ⌝ }
     ensures { λ r. ⌜ PassSays (now (rows .entry)) (now (text .entry)) row r ⌝ }
 {
-    let s = span_at(rows, 0);
+    let s = mitex_syntax::span_at(rows, 0);
     let e = s.rows;
     let n = s.text;
     match check_shape(&rows[..e], &text[..n], 0, row) {
@@ -616,7 +605,7 @@ fn pass_row(rows: &[u8], text: &[u8], row: usize) -> Pass
     }
     Pass::Past {
         rows: 8,
-        text: token_len(rows, 0),
+        text: mitex_syntax::token_len(rows, 0),
     }
 }
 
@@ -729,8 +718,8 @@ pub fn check_tree(file: &[u8]) -> Checked
         };
     }
     let end = len - 8;
-    let start = read_u32(file, end);
-    let count = read_u32(file, end + 4);
+    let start = text::read_u32(file, end);
+    let count = text::read_u32(file, end + 4);
     if start + 8 * count + 8 != len {
         return Checked::Refused {
             number: BAD_LAYOUT,

@@ -2,8 +2,6 @@
 // The answer is a refusal's number, 0 where there is none, and numbers written through the lent places.
 use calls::Converted;
 use calls::Edited;
-use calls::convert;
-use calls::edit;
 ghost use Rattle.edit_meaning.specs.Edit.{convertDocument, edit as editDocument};
 ghost use Rattle.manuscript.specs.Manuscript.{manuscript};
 ghost use Rattle.zaldrume.specs.Answers.{Tells};
@@ -23,7 +21,7 @@ pub extern "C" fn zaldrume_convert<'a>(
     ensures { λ r. ⌜ Tells (convertDocument (manuscript mode (now (rules .entry))) (now (tree .entry)) (now (text .entry)) (now (ledger .entry))) r (now (place .exit)) (now (growth .exit)) (now (count .exit)) (now (text .exit)) (now (ledger .exit)) ⌝ }
 {
     *growth = 0;
-    match convert(mode, rules, tree, text, ledger) {
+    match calls::convert(mode, rules, tree, text, ledger) {
         Converted::Refused { number, row } => {
             *place = row;
             *count = 0;
@@ -54,7 +52,7 @@ pub extern "C" fn zaldrume_edit<'a>(
 ) -> u8
     ensures { λ r. ⌜ Tells (editDocument (manuscript mode (now (rules .entry))) (now (tree .entry)) block kept (now (text .entry)) (now (ledger .entry))) r (now (place .exit)) (now (growth .exit)) (now (count .exit)) (now (text .exit)) (now (ledger .exit)) ⌝ }
 {
-    match edit(mode, rules, tree, block, kept, text, ledger) {
+    match calls::edit(mode, rules, tree, block, kept, text, ledger) {
         Edited::Refused { number, row } => {
             *place = row;
             *growth = 0;

@@ -13,13 +13,10 @@ returns-2 : tie.Need-returns-2
 unfolding editFits
 returns-2 c = rw (lt-ltb _ _ (c .before .if1 .left), lt-leb _ _ (c .if2 .taken))
 
-ledger-fits-requires : tie.Need-ledger-fits-requires
-ledger-fits-requires c κs = search needs
-
 returns-3 : tie.Need-returns-3
 unfolding editFits
 returns-3 c =
     rw (lt-ltb _ _ (c .before .before .if1 .left), le-leb _ _ (c .before .if2 .left)) (c .ledger-fits .ensures)
 
 pub edit-fits-spec : {M : Type 1} → statement M
-edit-fits-spec = tie.close (tie.spec returns returns-2 ledger-fits-requires returns-3)
+edit-fits-spec = tie.close (tie.spec returns returns-2 (λ c κs. search needs) returns-3)

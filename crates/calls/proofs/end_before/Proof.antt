@@ -8,9 +8,6 @@ use Rattle.calls.proofs.end_before.Tie as tie
 returns : tie.Need-returns
 returns c = (ends-first _ _ (c .if1 .taken), omega arith)
 
-sub-row-end : tie.Need-sub-row-end
-sub-row-end c = search needs
-
 row-end-requires : tie.Need-row-end-requires
 row-end-requires c κs = c .before .before .pre (omega arith)
 
@@ -18,4 +15,4 @@ returns-2 : tie.Need-returns-2
 returns-2 c = let e = c .row-end .ensures in (ends-before _ _ (omega arith) (e .0), e .1)
 
 pub end-before-spec : {M : Type 1} → statement M
-end-before-spec = tie.close (tie.spec returns sub-row-end row-end-requires returns-2)
+end-before-spec = tie.close (tie.spec returns (λ c. search needs) row-end-requires returns-2)

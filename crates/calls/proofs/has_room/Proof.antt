@@ -9,9 +9,6 @@ use Rattle.edit_meaning.specs.Edit.{textMost, roomForText}
 use Rattle.calls.proofs.has_room.Statement.{statement}
 use Rattle.calls.proofs.has_room.Tie as tie
 
-text-room-requires : tie.Need-text-room-requires
-text-room-requires c κs = search needs
-
 returns : tie.Need-returns
 unfolding roomForText
 returns c =
@@ -40,4 +37,4 @@ returns-3 c =
     )
 
 pub has-room-spec : {M : Type 1} → statement M
-has-room-spec = tie.close (tie.spec text-room-requires returns returns-2 returns-3)
+has-room-spec = tie.close (tie.spec (λ c κs. search needs) returns returns-2 returns-3)

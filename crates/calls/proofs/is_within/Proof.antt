@@ -7,8 +7,5 @@ use Rattle.calls.proofs.is_within.Tie as tie
 returns : tie.Need-returns
 returns c = λ e. absurd (false≢true e)
 
-returns-2 : tie.Need-returns-2
-returns-2 c = search needs
-
 pub is-within-spec : {M : Type 1} → statement M
-is-within-spec = tie.close (tie.spec returns returns-2)
+is-within-spec = tie.close (tie.spec returns (λ c. search needs))

@@ -5,15 +5,6 @@ use Rattle.calls.specs.Calls.{openTree}
 use Rattle.calls.proofs.open_tree.Statement.{statement}
 use Rattle.calls.proofs.open_tree.Tie as tie
 
-check-tree-requires : tie.Need-check-tree-requires
-check-tree-requires c κs = search needs
-
-enum-known-number : tie.Need-enum-known-number
-enum-known-number c = search needs
-
-enum-known-start : tie.Need-enum-known-start
-enum-known-start c = search needs
-
 returns : tie.Need-returns
 returns c =
     let d = c .before .before .before in
@@ -26,4 +17,4 @@ returns-2 c =
 
 pub open-tree-spec : {M : Type 1} → statement M
 open-tree-spec =
-    tie.close (tie.spec check-tree-requires enum-known-number enum-known-start returns returns-2)
+    tie.close (tie.spec (λ c κs. search needs) (λ c. search needs) (λ c. search needs) returns returns-2)

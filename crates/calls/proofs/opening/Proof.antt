@@ -7,15 +7,9 @@ use Rattle.mitex_meaning.specs.State.{carryOf, Carried}
 use Rattle.calls.proofs.opening.Statement.{statement}
 use Rattle.calls.proofs.opening.Tie as tie
 
-new-requires : tie.Need-new-requires
-new-requires c κs = search needs
-
-with-flag-requires : tie.Need-with-flag-requires
-with-flag-requires c κs = search needs
-
 returns : tie.Need-returns
 returns c =
     subst (λ x. Carried x (flagged false (carryOf x)) (c .with-flag .result)) (c .before .new .ensures) (c .with-flag .ensures)
 
 pub opening-spec : {M : Type 1} → statement M
-opening-spec = tie.close (tie.spec new-requires with-flag-requires returns)
+opening-spec = tie.close (tie.spec (λ c κs. search needs) (λ c κs. search needs) returns)

@@ -8,15 +8,6 @@ use Rattle.cases.proofs.take_over.Tie as tie
 slice-aggregate-begin-with : tie.Need-slice-aggregate-begin-with
 slice-aggregate-begin-with c = sym (length-take-le _ _ (c .before .before .if1 .taken))
 
-begin-with-requires : tie.Need-begin-with-requires
-begin-with-requires c κs = search needs
-
-returns : tie.Need-returns
-returns c = search needs
-
-returns-2 : tie.Need-returns-2
-returns-2 c = search needs
-
 pub take-over-spec : {M : Type 1} → statement M
 take-over-spec =
-    tie.close (tie.spec slice-aggregate-begin-with begin-with-requires returns returns-2)
+    tie.close (tie.spec slice-aggregate-begin-with (λ c κs. search needs) (λ c. search needs) (λ c. search needs))

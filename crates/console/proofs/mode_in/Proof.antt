@@ -7,14 +7,8 @@ use Rattle.console.proofs.mode_in.Tie as tie
 returns : tie.Need-returns
 returns c = mode-empty (c .before .before .args .input .now) (c .if1 .taken)
 
-shared-slice-read-mode-by : tie.Need-shared-slice-read-mode-by
-shared-slice-read-mode-by c = search needs
-
-mode-by-requires : tie.Need-mode-by-requires
-mode-by-requires c κs = search needs
-
 returns-2 : tie.Need-returns-2
 returns-2 c = let d = c .before .before in mode-first (d .before .before .args .input .now) (d .if1 .left) (c .mode-by .ensures)
 
 pub mode-in-spec : {M : Type 1} → statement M
-mode-in-spec = tie.close (tie.spec returns shared-slice-read-mode-by mode-by-requires returns-2)
+mode-in-spec = tie.close (tie.spec returns (λ c. search needs) (λ c κs. search needs) returns-2)

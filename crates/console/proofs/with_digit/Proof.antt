@@ -11,14 +11,8 @@ mul-result c = let d = goes-digit (c .args .n) (c .args .x) (c .pre) in omega ar
 sub-wide : tie.Need-sub-wide
 sub-wide c = let d = goes-digit (c .args .n) (c .args .x) (c .pre) in omega arith
 
-wide-requires : tie.Need-wide-requires
-wide-requires c κs = search needs
-
 add-result : tie.Need-add-result
 add-result c = let d = goes-digit (c .before .args .n) (c .before .args .x) (c .before .pre) in omega (arith, c .wide .ensures)
 
-returns : tie.Need-returns
-returns c = search needs
-
 pub with-digit-spec : {M : Type 1} → statement M
-with-digit-spec = tie.close (tie.spec mul-result sub-wide wide-requires add-result returns)
+with-digit-spec = tie.close (tie.spec mul-result sub-wide (λ c κs. search needs) add-result (λ c. search needs))

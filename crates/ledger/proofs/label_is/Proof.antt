@@ -18,12 +18,6 @@ array-share-prefix-label c = omega (arith, label-long (c .before .before))
 slice-aggregate-same : tie.Need-slice-aggregate-same
 slice-aggregate-same c = sym (length-take-le _ _ (omega (arith, label-long (c .before .before .before))))
 
-same-requires : tie.Need-same-requires
-same-requires c κs = search needs
-
-returns : tie.Need-returns
-returns c = search needs
-
 pub label-is-spec : {M : Type 1} → statement M
 label-is-spec =
-    tie.close (tie.spec array-share-prefix-label slice-aggregate-same same-requires returns)
+    tie.close (tie.spec array-share-prefix-label slice-aggregate-same (λ c κs. search needs) (λ c. search needs))

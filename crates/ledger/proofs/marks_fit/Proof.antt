@@ -10,9 +10,6 @@ returns c = marksFit-flag _ _ _ _ (c .if1 .taken)
 returns-2 : tie.Need-returns-2
 returns-2 c = marksFit-mark _ _ _ _ (c .before .if1 .left) (c .if2 .taken)
 
-mul-if3 : tie.Need-mul-if3
-mul-if3 c = search needs
-
 returns-3 : tie.Need-returns-3
 returns-3 c = marksFit-label _ _ _ _ (c .before .before .if1 .left) (c .before .if2 .left) (c .if3 .taken)
 
@@ -20,4 +17,4 @@ returns-4 : tie.Need-returns-4
 returns-4 c = marksFit-blank _ _ _ _ (c .before .before .if1 .left) (c .before .if2 .left) (c .if3 .left)
 
 pub marks-fit-spec : {M : Type 1} → statement M
-marks-fit-spec = tie.close (tie.spec returns returns-2 mul-if3 returns-3 returns-4)
+marks-fit-spec = tie.close (tie.spec returns returns-2 (λ c. search needs) returns-3 returns-4)

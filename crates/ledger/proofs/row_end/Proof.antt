@@ -5,14 +5,8 @@ use borrow.Author.Needs.{needs}
 use Rattle.ledger.proofs.row_end.Statement.{statement}
 use Rattle.ledger.proofs.row_end.Tie as tie
 
-mul-read-u32 : tie.Need-mul-read-u32
-mul-read-u32 c = search needs
-
-read-u32-requires : tie.Need-read-u32-requires
-read-u32-requires c κs = search needs
-
 returns : tie.Need-returns
 returns c = (c .read-u32 .ensures .0 ∙ sym (rowAt-end (c .before .before .args .i) (c .before .before .args .ledger .now)), c .read-u32 .ensures .1)
 
 pub row-end-spec : {M : Type 1} → statement M
-row-end-spec = tie.close (tie.spec mul-read-u32 read-u32-requires returns)
+row-end-spec = tie.close (tie.spec (λ c. search needs) (λ c κs. search needs) returns)

@@ -5,17 +5,8 @@ use borrow.Author.Needs.{needs}
 use Rattle.ledger.proofs.row_flag.Statement.{statement}
 use Rattle.ledger.proofs.row_flag.Tie as tie
 
-mul-at : tie.Need-mul-at
-mul-at c = search needs
-
-add-result : tie.Need-add-result
-add-result c = search needs
-
-shared-slice-read-result : tie.Need-shared-slice-read-result
-shared-slice-read-result c = search needs
-
 returns : tie.Need-returns
 returns c = sym (rowAt-flag (c .before .args .i) (c .before .args .ledger .now))
 
 pub row-flag-spec : {M : Type 1} → statement M
-row-flag-spec = tie.close (tie.spec mul-at add-result shared-slice-read-result returns)
+row-flag-spec = tie.close (tie.spec (λ c. search needs) (λ c. search needs) (λ c. search needs) returns)

@@ -4,12 +4,6 @@ use Rattle.ledger.specs.Ledger.{sameCarry}
 use Rattle.ledger.proofs.same_carry.Statement.{statement}
 use Rattle.ledger.proofs.same_carry.Tie as tie
 
-row-flag-requires : tie.Need-row-flag-requires
-row-flag-requires c κs = search needs
-
-same-label-requires : tie.Need-same-label-requires
-same-label-requires c κs = search needs
-
 returns : tie.Need-returns
 unfolding sameCarry
 returns c = rw (← c .before .before .before .row-flag .ensures, c .if1 .taken) (c .before .same-label .ensures)
@@ -19,4 +13,4 @@ unfolding sameCarry
 returns-2 c = rw (← c .before .before .before .row-flag .ensures, c .if1 .left)
 
 pub same-carry-spec : {M : Type 1} → statement M
-same-carry-spec = tie.close (tie.spec row-flag-requires same-label-requires returns returns-2)
+same-carry-spec = tie.close (tie.spec (λ c κs. search needs) (λ c κs. search needs) returns returns-2)

@@ -6,20 +6,11 @@ use borrow.Author.Needs.{needs}
 use Rattle.ledger.proofs.same_label.Statement.{statement}
 use Rattle.ledger.proofs.same_label.Tie as tie
 
-row-held-requires : tie.Need-row-held-requires
-row-held-requires c κs = search needs
-
 returns : tie.Need-returns
 returns c = sameLabel-differ _ _ _ _ (c .before .before .row-held .ensures) (c .if1 .taken)
 
 returns-2 : tie.Need-returns-2
 returns-2 c = sameLabel-neither _ _ _ _ (c .before .before .before .before .row-held .ensures) (c .before .before .if1 .left) (c .if2 .taken)
-
-row-label-requires : tie.Need-row-label-requires
-row-label-requires c κs = search needs
-
-label-is-requires : tie.Need-label-is-requires
-label-is-requires c κs = search needs
 
 returns-3 : tie.Need-returns-3
 returns-3 c =
@@ -32,4 +23,4 @@ returns-3 c =
 pub same-label-spec : {M : Type 1} → statement M
 same-label-spec =
     tie.close
-    (tie.spec row-held-requires returns returns-2 row-label-requires label-is-requires returns-3)
+    (tie.spec (λ c κs. search needs) returns returns-2 (λ c κs. search needs) (λ c κs. search needs) returns-3)

@@ -15,9 +15,6 @@ returns-2 c =
     let c₂ = c₁ .before .before .before in
     rw (ne-eqb (c₂ .args .class) 0 (c₁ .if1 .left), eq-eqb (c₂ .args .class) 1 (c .if2 .taken))
 
-other-arguments-requires : tie.Need-other-arguments-requires
-other-arguments-requires c κs = search needs
-
 returns-3 : tie.Need-returns-3
 returns-3 c =
     let c₁ = c .before in
@@ -27,4 +24,4 @@ returns-3 c =
     (c .other-arguments .ensures ∙ arguments-written (c₃ .args .mode) (c₃ .args .name .now) (c₃ .args .written .now))
 
 pub arguments-of-spec : {M : Type 1} → statement M
-arguments-of-spec = tie.close (tie.spec returns returns-2 other-arguments-requires returns-3)
+arguments-of-spec = tie.close (tie.spec returns returns-2 (λ c κs. search needs) returns-3)

@@ -9,12 +9,6 @@ use borrow.Author.Needs.{needs}
 use Rattle.mitex_commands.proofs.hold_label.Statement.{statement}
 use Rattle.mitex_commands.proofs.hold_label.Tie as tie
 
-with-label-requires : tie.Need-with-label-requires
-with-label-requires c κs = search needs
-
-went-requires : tie.Need-went-requires
-went-requires c κs = search needs
-
 returns : tie.Need-returns
 returns c =
     let c₁ = c .before in
@@ -24,12 +18,9 @@ returns c =
     rw (le-leb (length (c₃ .args .s .now)) 120 (c₂ .if1 .taken))
     (agrees-carried (c₁ .with-label .result) (c .went .ensures) (c₁ .with-label .ensures) refl (c₃ .pre .1) (wrote-nil _ out (c₃ .pre .0)))
 
-refuse-requires : tie.Need-refuse-requires
-refuse-requires c κs = search needs
-
 returns-2 : tie.Need-returns-2
 returns-2 c = λ out. rw (lt-leb (length (c .before .before .before .args .s .now)) 120 (c .before .if1 .left)) (agrees-here (omega arith) (c .refuse .ensures))
 
 pub hold-label-spec : {M : Type 1} → statement M
 hold-label-spec =
-    tie.close (tie.spec with-label-requires went-requires returns refuse-requires returns-2)
+    tie.close (tie.spec (λ c κs. search needs) (λ c κs. search needs) returns (λ c κs. search needs) returns-2)

@@ -8,14 +8,8 @@ use borrow.Author.Needs.{needs}
 use Rattle.mitex_commands.proofs.label_text.Statement.{statement}
 use Rattle.mitex_commands.proofs.label_text.Tie as tie
 
-argument-text-requires : tie.Need-argument-text-requires
-argument-text-requires c κs = search needs
-
-trimmed-inner-requires : tie.Need-trimmed-inner-requires
-trimmed-inner-requires c κs = search needs
-
 returns : tie.Need-returns
 returns c = λ f sp. c .trimmed-inner .ensures ∙ ap (λ (s : List ℕ). trim (inner s)) (c .before .argument-text .ensures f sp)
 
 pub label-text-spec : {M : Type 1} → statement M
-label-text-spec = tie.close (tie.spec argument-text-requires trimmed-inner-requires returns)
+label-text-spec = tie.close (tie.spec (λ c κs. search needs) (λ c κs. search needs) returns)

@@ -7,15 +7,6 @@ use borrow.Author.Needs.{needs}
 use Rattle.mitex_environments.proofs.begin_part.Statement.{statement}
 use Rattle.mitex_environments.proofs.begin_part.Tie as tie
 
-begin-requires : tie.Need-begin-requires
-begin-requires c κs = search needs
-
-enum-told : tie.Need-enum-told
-enum-told c = search needs
-
-enum-known-row : tie.Need-enum-known-row
-enum-known-row c = search needs
-
 add-t9 : tie.Need-add-t9
 add-t9 c =
     let c₁ = c .before in
@@ -34,4 +25,4 @@ returns-2 c = λ f sp. begin-found (stands (c .before .before .before .begin .en
 
 pub begin-part-spec : {M : Type 1} → statement M
 begin-part-spec =
-    tie.close (tie.spec begin-requires enum-told enum-known-row add-t9 returns returns-2)
+    tie.close (tie.spec (λ c κs. search needs) (λ c. search needs) (λ c. search needs) add-t9 returns returns-2)

@@ -4,18 +4,6 @@ use borrow.Author.Needs.{needs}
 use Rattle.mitex_environments.proofs.drop_label.Statement.{statement}
 use Rattle.mitex_environments.proofs.drop_label.Tie as tie
 
-put-held-requires : tie.Need-put-held-requires
-put-held-requires c κs = search needs
-
-without-label-requires : tie.Need-without-label-requires
-without-label-requires c κs = search needs
-
-went-requires : tie.Need-went-requires
-went-requires c κs = search needs
-
-same-length : tie.Need-same-length
-same-length c = search needs
-
 returns : tie.Need-returns
 returns c =
     let c₁ = c .before in
@@ -25,4 +13,4 @@ returns c =
 
 pub drop-label-spec : {M : Type 1} → statement M
 drop-label-spec =
-    tie.close (tie.spec put-held-requires without-label-requires went-requires same-length returns)
+    tie.close (tie.spec (λ c κs. search needs) (λ c κs. search needs) (λ c κs. search needs) (λ c. search needs) returns)

@@ -8,15 +8,9 @@ use Rattle.mitex_images.proofs.Splitting.{inner-text}
 use Rattle.mitex_images.proofs.argument_text.Statement.{statement}
 use Rattle.mitex_images.proofs.argument_text.Tie as tie
 
-argument-with-requires : tie.Need-argument-with-requires
-argument-with-requires c κs = search needs
-
 text-at-requires : tie.Need-text-at-requires
 text-at-requires c κs =
     let pre = c .before .before .before .pre in place-inside (c .argument-with .ensures (pre .forest) (pre .begins))
-
-trimmed-inner-requires : tie.Need-trimmed-inner-requires
-trimmed-inner-requires c κs = search needs
 
 returns : tie.Need-returns
 returns c =
@@ -31,4 +25,4 @@ returns c =
 pub argument-text-spec : {M : Type 1} → statement M
 argument-text-spec =
     tie.close
-    (tie.spec argument-with-requires text-at-requires trimmed-inner-requires returns)
+    (tie.spec (λ c κs. search needs) text-at-requires (λ c κs. search needs) returns)

@@ -4,14 +4,8 @@ use borrow.Author.Needs.{needs}
 use Rattle.mitex_spec.proofs.follows.Statement.{statement}
 use Rattle.mitex_spec.proofs.follows.Tie as tie
 
-returns : tie.Need-returns
-returns c = search needs
-
-precedes-requires : tie.Need-precedes-requires
-precedes-requires c κs = search needs
-
 returns-2 : tie.Need-returns-2
 returns-2 c = or-later _ _ _ (c .precedes .ensures) (c .before .if1 .left)
 
 pub follows-spec : {M : Type 1} → statement M
-follows-spec = tie.close (tie.spec returns precedes-requires returns-2)
+follows-spec = tie.close (tie.spec (λ c. search needs) (λ c κs. search needs) returns-2)

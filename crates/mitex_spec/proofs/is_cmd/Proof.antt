@@ -5,18 +5,6 @@ use borrow.Author.Needs.{needs}
 use Rattle.mitex_spec.proofs.is_cmd.Statement.{statement}
 use Rattle.mitex_spec.proofs.is_cmd.Tie as tie
 
-enum-told : tie.Need-enum-told
-enum-told c = search needs
-
-enum-known-found : tie.Need-enum-known-found
-enum-known-found c = search needs
-
-enum-known-found-2 : tie.Need-enum-known-found-2
-enum-known-found-2 c = search needs
-
-returns : tie.Need-returns
-returns c = search needs
-
 returns-2 : tie.Need-returns-2
 returns-2 c = sym (ap isCmd (c .before .found .given .1))
 
@@ -25,4 +13,4 @@ returns-3 c = sym (ap isCmd (c .before .found2 .given .1))
 
 pub is-cmd-spec : {M : Type 1} → statement M
 is-cmd-spec =
-    tie.close (tie.spec enum-told enum-known-found enum-known-found-2 returns returns-2 returns-3)
+    tie.close (tie.spec (λ c. search needs) (λ c. search needs) (λ c. search needs) (λ c. search needs) returns-2 returns-3)

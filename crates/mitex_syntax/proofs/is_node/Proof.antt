@@ -12,9 +12,6 @@ returns c = ap isNode (sym (c .if1 .taken))
 returns-2 : tie.Need-returns-2
 returns-2 c = ap isNode (sym (c .if2 .taken))
 
-is-token-requires : tie.Need-is-token-requires
-is-token-requires c κs = search needs
-
 returns-3 : tie.Need-returns-3
 returns-3 c = token-not-node (c .before .before .before .before .args .k) (c .before .before .before .if1 .left) _ (c .before .is-token .ensures) (c .if3 .taken)
 
@@ -26,4 +23,4 @@ returns-4 c =
     other-node (c₁ .before .args .k) (c₁ .if1 .left) _ (b .is-token .ensures) (c .if3 .left) (c₂ .if2 .left)
 
 pub is-node-spec : {M : Type 1} → statement M
-is-node-spec = tie.close (tie.spec returns returns-2 is-token-requires returns-3 returns-4)
+is-node-spec = tie.close (tie.spec returns returns-2 (λ c κs. search needs) returns-3 returns-4)

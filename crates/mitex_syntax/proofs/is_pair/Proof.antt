@@ -5,12 +5,6 @@ use borrow.Author.Needs.{needs}
 use Rattle.mitex_syntax.proofs.is_pair.Statement.{statement}
 use Rattle.mitex_syntax.proofs.is_pair.Tie as tie
 
-is-token-of-requires : tie.Need-is-token-of-requires
-is-token-of-requires c κs = search needs
-
-is-token-of-requires-2 : tie.Need-is-token-of-requires-2
-is-token-of-requires-2 c κs = search needs
-
 returns : tie.Need-returns
 returns c =
     let then = c .before in
@@ -24,4 +18,4 @@ returns-2 c =
     λ f first last. and-not _ (isTokenOf (args .m) (args .e .now) (lastTokens f)) (test .is-token-of .ensures (firstTokens f) first) (c .if1 .left)
 
 pub is-pair-spec : {M : Type 1} → statement M
-is-pair-spec = tie.close (tie.spec is-token-of-requires is-token-of-requires-2 returns returns-2)
+is-pair-spec = tie.close (tie.spec (λ c κs. search needs) (λ c κs. search needs) returns returns-2)

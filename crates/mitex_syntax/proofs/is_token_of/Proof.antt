@@ -8,12 +8,6 @@ use borrow.Author.Needs.{needs}
 use Rattle.mitex_syntax.proofs.is_token_of.Statement.{statement}
 use Rattle.mitex_syntax.proofs.is_token_of.Tie as tie
 
-token-text-requires : tie.Need-token-text-requires
-token-text-requires c κs = search needs
-
-same-requires : tie.Need-same-requires
-same-requires c κs = search needs
-
 returns : tie.Need-returns
 returns c =
     let then = c .before .before in
@@ -25,4 +19,4 @@ returns-2 : tie.Need-returns-2
 returns-2 c = let args = c .before .before .before .before .args in λ o m. token-of-other m (args .kind) (args .s .now) (c .if1 .left)
 
 pub is-token-of-spec : {M : Type 1} → statement M
-is-token-of-spec = tie.close (tie.spec token-text-requires same-requires returns returns-2)
+is-token-of-spec = tie.close (tie.spec (λ c κs. search needs) (λ c κs. search needs) returns returns-2)

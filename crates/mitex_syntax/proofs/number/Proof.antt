@@ -5,12 +5,6 @@ use Rattle.mitex_syntax.proofs.Reading.{numOf-at}
 use Rattle.mitex_syntax.proofs.number.Statement.{statement}
 use Rattle.mitex_syntax.proofs.number.Tie as tie
 
-add-read-u32 : tie.Need-add-read-u32
-add-read-u32 c = search needs
-
-read-u32-requires : tie.Need-read-u32-requires
-read-u32-requires c κs = search needs
-
 returns : tie.Need-returns
 returns c =
     let read = c .read-u32 .ensures in
@@ -18,4 +12,4 @@ returns c =
     (read .0 ∙ numOf-at (args .rows .now) (args .i), read .1)
 
 pub number-spec : {M : Type 1} → statement M
-number-spec = tie.close (tie.spec add-read-u32 read-u32-requires returns)
+number-spec = tie.close (tie.spec (λ c. search needs) (λ c κs. search needs) returns)

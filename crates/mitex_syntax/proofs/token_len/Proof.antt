@@ -4,15 +4,6 @@ use borrow.Author.Needs.{needs}
 use Rattle.mitex_syntax.proofs.token_len.Statement.{statement}
 use Rattle.mitex_syntax.proofs.token_len.Tie as tie
 
-number-requires : tie.Need-number-requires
-number-requires c κs = search needs
-
-add-if1 : tie.Need-add-if1
-add-if1 c = search needs
-
-shared-slice-read-if1 : tie.Need-shared-slice-read-if1
-shared-slice-read-if1 c = search needs
-
 returns : tie.Need-returns
 returns c = token-len (c .before .before .before .before .args .rows .now) (c .before .before .before .before .args .i) _ (c .if1 .taken) (c .before .before .number .ensures .0)
 
@@ -21,4 +12,4 @@ returns-2 c = node-len (c .before .before .before .before .args .rows .now) (c .
 
 pub token-len-spec : {M : Type 1} → statement M
 token-len-spec =
-    tie.close (tie.spec number-requires add-if1 shared-slice-read-if1 returns returns-2)
+    tie.close (tie.spec (λ c κs. search needs) (λ c. search needs) (λ c. search needs) returns returns-2)

@@ -5,14 +5,8 @@ use borrow.Author.Needs.{needs}
 use Rattle.mitex_syntax.proofs.trimmed_inner.Statement.{statement}
 use Rattle.mitex_syntax.proofs.trimmed_inner.Tie as tie
 
-inner-requires : tie.Need-inner-requires
-inner-requires c κs = search needs
-
-trim-requires : tie.Need-trim-requires
-trim-requires c κs = search needs
-
 returns : tie.Need-returns
 returns c = c .trim .ensures ∙ ap trim (c .before .inner .ensures)
 
 pub trimmed-inner-spec : {M : Type 1} → statement M
-trimmed-inner-spec = tie.close (tie.spec inner-requires trim-requires returns)
+trimmed-inner-spec = tie.close (tie.spec (λ c κs. search needs) (λ c κs. search needs) returns)

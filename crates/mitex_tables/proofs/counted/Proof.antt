@@ -6,12 +6,6 @@ use borrow.Author.Needs.{needs}
 use Rattle.mitex_tables.proofs.counted.Statement.{statement}
 use Rattle.mitex_tables.proofs.counted.Tie as tie
 
-is-column-requires : tie.Need-is-column-requires
-is-column-requires c κs = search needs
-
-add-result : tie.Need-add-result
-add-result c = search needs
-
 returns : tie.Need-returns
 returns c =
     let at = c .before in
@@ -25,4 +19,4 @@ returns-2 c =
     ap (λ t. cond t (n + 1) n) (sym (c .if1 .left) ∙ at .is-column .ensures)
 
 pub counted-spec : {M : Type 1} → statement M
-counted-spec = tie.close (tie.spec is-column-requires add-result returns returns-2)
+counted-spec = tie.close (tie.spec (λ c κs. search needs) (λ c. search needs) returns returns-2)

@@ -6,9 +6,6 @@ use Rattle.mitex_meaning.specs.Tables.{isLine}
 use Rattle.mitex_tables.proofs.is_letter.Statement.{statement}
 use Rattle.mitex_tables.proofs.is_letter.Tie as tie
 
-is-column-requires : tie.Need-is-column-requires
-is-column-requires c κs = search needs
-
 returns : tie.Need-returns
 returns c = let at = c .before in ap (λ t. t || isLine (at .before .args .b)) (sym (c .if1 .taken) ∙ at .is-column .ensures)
 
@@ -16,4 +13,4 @@ returns-2 : tie.Need-returns-2
 returns-2 c = let at = c .before in ap (λ t. t || isLine (at .before .args .b)) (sym (c .if1 .left) ∙ at .is-column .ensures)
 
 pub is-letter-spec : {M : Type 1} → statement M
-is-letter-spec = tie.close (tie.spec is-column-requires returns returns-2)
+is-letter-spec = tie.close (tie.spec (λ c κs. search needs) returns returns-2)

@@ -7,9 +7,6 @@ use Rattle.passes.proofs.met.Tie as tie
 returns : tie.Need-returns
 returns c = rw (le-ltb _ _ (c .if1 .taken))
 
-sub-same-carry : tie.Need-sub-same-carry
-sub-same-carry c = search needs
-
 same-carry-requires : tie.Need-same-carry-requires
 same-carry-requires c κs =
     let i = c .before in
@@ -20,4 +17,4 @@ returns-2 : tie.Need-returns-2
 returns-2 c = rw (lt-ltb _ _ (c .before .before .if1 .left)) (c .same-carry .ensures)
 
 pub met-spec : {M : Type 1} → statement M
-met-spec = tie.close (tie.spec returns sub-same-carry same-carry-requires returns-2)
+met-spec = tie.close (tie.spec returns (λ c. search needs) same-carry-requires returns-2)

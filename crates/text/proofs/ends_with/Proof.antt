@@ -12,21 +12,6 @@ use Rattle.text.proofs.ends_with.Tie as tie
 returns : tie.Need-returns
 returns c = sym (ends-short (c .before .before .before .args .s .now) (c .before .before .before .args .p .now) (c .if1 .taken))
 
-sub-start : tie.Need-sub-start
-sub-start c = search needs
-
-sub-same : tie.Need-sub-same
-sub-same c = search needs
-
-part-same-start : tie.Need-part-same-start
-part-same-start c = search needs
-
-part-same-end : tie.Need-part-same-end
-part-same-end c = search needs
-
-same-requires : tie.Need-same-requires
-same-requires c κs = search needs
-
 returns-2 : tie.Need-returns-2
 returns-2 c =
     let c₁ = c .before .before in
@@ -39,4 +24,4 @@ returns-2 c =
 pub ends-with-spec : {M : Type 1} → statement M
 ends-with-spec =
     tie.close
-    (tie.spec returns sub-start sub-same part-same-start part-same-end same-requires returns-2)
+    (tie.spec returns (λ c. search needs) (λ c. search needs) (λ c. search needs) (λ c. search needs) (λ c κs. search needs) returns-2)

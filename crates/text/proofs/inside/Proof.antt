@@ -8,17 +8,11 @@ use Rattle.text.proofs.inside.Tie as tie
 returns : tie.Need-returns
 returns c = (omega arith, omega arith, inr (omega arith))
 
-sub-if2 : tie.Need-sub-if2
-sub-if2 c = search needs
-
 returns-2 : tie.Need-returns-2
 returns-2 c = (omega arith, omega arith, inl (omega arith))
-
-sub-result : tie.Need-sub-result
-sub-result c = search needs
 
 returns-3 : tie.Need-returns-3
 returns-3 c = (omega arith, omega arith, inr (omega arith))
 
 pub inside-spec : {M : Type 1} → statement M
-inside-spec = tie.close (tie.spec returns sub-if2 returns-2 sub-result returns-3)
+inside-spec = tie.close (tie.spec returns (λ c. search needs) returns-2 (λ c. search needs) returns-3)

@@ -6,25 +6,10 @@ use borrow.Author.Needs.{needs}
 use Rattle.text.proofs.put_byte.Statement.{statement}
 use Rattle.text.proofs.put_byte.Tie as tie
 
-slice-write-out : tie.Need-slice-write-out
-slice-write-out c = search needs
-
-forth-requires : tie.Need-forth-requires
-forth-requires c κs = search needs
-
-forth-requires-2 : tie.Need-forth-requires-2
-forth-requires-2 c κs = search needs
-
-same-length : tie.Need-same-length
-same-length c = search needs
-
-returns : tie.Need-returns
-returns c = search needs
-
 returns-2 : tie.Need-returns-2
 returns-2 c = wrote-byte _ _ _ _ _ (c .forth2 .ensures) (sym (set-out _ _ _ (c .before .if1 .left)))
 
 pub put-byte-spec : {M : Type 1} → statement M
 put-byte-spec =
     tie.close
-    (tie.spec slice-write-out forth-requires forth-requires-2 same-length returns returns-2)
+    (tie.spec (λ c. search needs) (λ c κs. search needs) (λ c κs. search needs) (λ c. search needs) (λ c. search needs) returns-2)

@@ -12,9 +12,6 @@ returns c = sym (starts-short (c .before .before .before .args .s .now) (c .befo
 slice-aggregate-same : tie.Need-slice-aggregate-same
 slice-aggregate-same c = sym (length-take-le _ _ (c .before .if1 .left))
 
-same-requires : tie.Need-same-requires
-same-requires c κs = search needs
-
 returns-2 : tie.Need-returns-2
 returns-2 c =
     let c₁ = c .before .before in
@@ -22,4 +19,4 @@ returns-2 c =
     c .same .ensures ∙ sym (starts-same (c₂ .args .s .now) (c₂ .args .p .now) (c₁ .if1 .left))
 
 pub starts-with-spec : {M : Type 1} → statement M
-starts-with-spec = tie.close (tie.spec returns slice-aggregate-same same-requires returns-2)
+starts-with-spec = tie.close (tie.spec returns slice-aggregate-same (λ c κs. search needs) returns-2)

@@ -7,11 +7,5 @@ use Rattle.tree_file.proofs.begins_slashed.Tie as tie
 returns : tie.Need-returns
 returns c = slashed-none (c .before .args .s .now) (c .if1 .taken)
 
-shared-slice-read-result : tie.Need-shared-slice-read-result
-shared-slice-read-result c = search needs
-
-returns-2 : tie.Need-returns-2
-returns-2 c = search needs
-
 pub begins-slashed-spec : {M : Type 1} → statement M
-begins-slashed-spec = tie.close (tie.spec returns shared-slice-read-result returns-2)
+begins-slashed-spec = tie.close (tie.spec returns (λ c. search needs) (λ c. search needs))

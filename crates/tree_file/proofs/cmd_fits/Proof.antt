@@ -4,15 +4,6 @@ use borrow.Author.Needs.{needs}
 use Rattle.tree_file.proofs.cmd_fits.Statement.{statement}
 use Rattle.tree_file.proofs.cmd_fits.Tie as tie
 
-name-tok-requires : tie.Need-name-tok-requires
-name-tok-requires c κs = search needs
-
-begins-slashed-requires : tie.Need-begins-slashed-requires
-begins-slashed-requires c κs = search needs
-
-arguments-fit-requires : tie.Need-arguments-fit-requires
-arguments-fit-requires c κs = search needs
-
 returns : tie.Need-returns
 returns c =
     let slash = c .before .before in
@@ -28,4 +19,4 @@ returns-2 c =
 pub cmd-fits-spec : {M : Type 1} → statement M
 cmd-fits-spec =
     tie.close
-    (tie.spec name-tok-requires begins-slashed-requires arguments-fit-requires returns returns-2)
+    (tie.spec (λ c κs. search needs) (λ c κs. search needs) (λ c κs. search needs) returns returns-2)

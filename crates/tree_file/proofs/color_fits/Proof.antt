@@ -5,14 +5,8 @@ use borrow.Author.Needs.{needs}
 use Rattle.tree_file.proofs.color_fits.Statement.{statement}
 use Rattle.tree_file.proofs.color_fits.Tie as tie
 
-find-kind-requires : tie.Need-find-kind-requires
-find-kind-requires c κs = search needs
-
-is-there-requires : tie.Need-is-there-requires
-is-there-requires c κs = search needs
-
 returns : tie.Need-returns
 returns c = λ f sp. c .is-there .ensures ∙ place-there (c .before .find-kind .ensures f sp)
 
 pub color-fits-spec : {M : Type 1} → statement M
-color-fits-spec = tie.close (tie.spec find-kind-requires is-there-requires returns)
+color-fits-spec = tie.close (tie.spec (λ c κs. search needs) (λ c κs. search needs) returns)

@@ -6,18 +6,12 @@ use borrow.Author.Needs.{needs}
 use Rattle.tree_file.proofs.curly_fits.Statement.{statement}
 use Rattle.tree_file.proofs.curly_fits.Tie as tie
 
-argument-with-requires : tie.Need-argument-with-requires
-argument-with-requires c κs = search needs
-
 text-at-requires : tie.Need-text-at-requires
 text-at-requires c κs = place-inside (c .argument-with .ensures (c .before .before .before .pre .forest) (c .before .before .before .pre .begins))
-
-good-ends-requires : tie.Need-good-ends-requires
-good-ends-requires c κs = search needs
 
 returns : tie.Need-returns
 returns c = λ f sp. c .good-ends .ensures ∙ ap goodEnds (c .before .text-at .ensures ∙ place-text (c .before .before .argument-with .ensures f sp))
 
 pub curly-fits-spec : {M : Type 1} → statement M
 curly-fits-spec =
-    tie.close (tie.spec argument-with-requires text-at-requires good-ends-requires returns)
+    tie.close (tie.spec (λ c κs. search needs) text-at-requires (λ c κs. search needs) returns)

@@ -6,18 +6,12 @@ use borrow.Author.Needs.{needs}
 use Rattle.tree_file.proofs.label_fits.Statement.{statement}
 use Rattle.tree_file.proofs.label_fits.Tie as tie
 
-find-kind-requires : tie.Need-find-kind-requires
-find-kind-requires c κs = search needs
-
 text-at-requires : tie.Need-text-at-requires
 text-at-requires c κs = place-inside (c .find-kind .ensures (c .before .before .before .pre .forest) (c .before .before .before .pre .begins))
-
-good-ends-requires : tie.Need-good-ends-requires
-good-ends-requires c κs = search needs
 
 returns : tie.Need-returns
 returns c = λ f sp. c .good-ends .ensures ∙ ap goodEnds (c .before .text-at .ensures ∙ place-text (c .before .before .find-kind .ensures f sp))
 
 pub label-fits-spec : {M : Type 1} → statement M
 label-fits-spec =
-    tie.close (tie.spec find-kind-requires text-at-requires good-ends-requires returns)
+    tie.close (tie.spec (λ c κs. search needs) text-at-requires (λ c κs. search needs) returns)

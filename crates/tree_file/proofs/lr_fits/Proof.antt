@@ -8,12 +8,6 @@ use Rattle.tree_file.proofs.lr_fits.Tie as tie
 returns : tie.Need-returns
 returns c = λ f sp. lr-none f _ _ sp (c .if1 .taken)
 
-shared-slice-read-if2 : tie.Need-shared-slice-read-if2
-shared-slice-read-if2 c = search needs
-
-begins-slashed-requires : tie.Need-begins-slashed-requires
-begins-slashed-requires c κs = search needs
-
 returns-2 : tie.Need-returns-2
 returns-2 c = λ f sp. c .begins-slashed .ensures ∙ lr-token f _ _ sp (c .before .before .before .if1 .left) (c .before .if2 .taken)
 
@@ -22,4 +16,4 @@ returns-3 c = λ f sp. lr-node f _ _ sp (c .if2 .left)
 
 pub lr-fits-spec : {M : Type 1} → statement M
 lr-fits-spec =
-    tie.close (tie.spec returns shared-slice-read-if2 begins-slashed-requires returns-2 returns-3)
+    tie.close (tie.spec returns (λ c. search needs) (λ c κs. search needs) returns-2 returns-3)

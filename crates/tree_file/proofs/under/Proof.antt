@@ -6,17 +6,11 @@ use borrow.Author.Needs.{needs}
 use Rattle.tree_file.proofs.under.Statement.{statement}
 use Rattle.tree_file.proofs.under.Tie as tie
 
-shared-slice-read-if1 : tie.Need-shared-slice-read-if1
-shared-slice-read-if1 c = search needs
-
 returns : tie.Need-returns
 returns c = (simp (eq-eqb _ _ (c .if1 .taken)), omega arith)
-
-read-u32-requires : tie.Need-read-u32-requires
-read-u32-requires c κs = search needs
 
 returns-2 : tie.Need-returns-2
 returns-2 c = (c .read-u32 .ensures .0 ∙ simp (ne-eqb _ _ (c .before .if1 .left)), c .read-u32 .ensures .1)
 
 pub under-spec : {M : Type 1} → statement M
-under-spec = tie.close (tie.spec shared-slice-read-if1 returns read-u32-requires returns-2)
+under-spec = tie.close (tie.spec (λ c. search needs) returns (λ c κs. search needs) returns-2)

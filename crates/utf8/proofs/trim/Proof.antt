@@ -5,15 +5,9 @@ use Rattle.utf8.specs.Trim.{trimEnd, trim}
 use Rattle.utf8.proofs.trim.Statement.{statement}
 use Rattle.utf8.proofs.trim.Tie as tie
 
-trim-start-requires : tie.Need-trim-start-requires
-trim-start-requires c κs = search needs
-
-trim-end-requires : tie.Need-trim-end-requires
-trim-end-requires c κs = search needs
-
 returns : tie.Need-returns
 unfolding trim
 returns c = c .trim-end .ensures ∙ ap trimEnd (c .before .trim-start .ensures)
 
 pub trim-spec : {M : Type 1} → statement M
-trim-spec = tie.close (tie.spec trim-start-requires trim-end-requires returns)
+trim-spec = tie.close (tie.spec (λ c κs. search needs) (λ c κs. search needs) returns)

@@ -6,16 +6,10 @@ use Rattle.mitex_meaning.specs.State.{placed}
 use Rattle.mitex_meaning.proofs.Converter.entered_env.Statement.{statement}
 use Rattle.mitex_meaning.proofs.Converter.entered_env.Tie as tie
 
-step-of-requires : tie.Need-step-of-requires
-step-of-requires c κs = search needs
-
-add-t4 : tie.Need-add-t4
-add-t4 c = search needs
-
 returns : tie.Need-returns
 returns c =
     let a = c .before .before .before .args in
     ap (λ (n : ℕ). placed (a .self .mode) (a .context) (a .self .indent + n) (a .self)) (c .before .before .step-of .ensures)
 
 pub entered-env-spec : {M : Type 1} → statement M
-entered-env-spec = tie.close (tie.spec step-of-requires add-t4 returns)
+entered-env-spec = tie.close (tie.spec (λ c κs. search needs) (λ c. search needs) returns)

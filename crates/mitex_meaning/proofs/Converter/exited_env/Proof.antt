@@ -6,16 +6,10 @@ use Rattle.mitex_meaning.specs.State.{placed}
 use Rattle.mitex_meaning.proofs.Converter.exited_env.Statement.{statement}
 use Rattle.mitex_meaning.proofs.Converter.exited_env.Tie as tie
 
-step-of-requires : tie.Need-step-of-requires
-step-of-requires c κs = search needs
-
-sub-t5 : tie.Need-sub-t5
-sub-t5 c = search needs
-
 returns : tie.Need-returns
 returns c =
     let a = c .before .before .before .args in
     ap (λ (n : ℕ). placed (a .self .mode) (a .prev) (a .self .indent - n) (a .self)) (c .before .before .step-of .ensures)
 
 pub exited-env-spec : {M : Type 1} → statement M
-exited-env-spec = tie.close (tie.spec step-of-requires sub-t5 returns)
+exited-env-spec = tie.close (tie.spec (λ c κs. search needs) (λ c. search needs) returns)
