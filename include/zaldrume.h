@@ -37,7 +37,7 @@ extern "C" {
 
 /*
  * Converts a tree file from its start. Accepted: *place is the text's length, *count the count of
- * blocks, *growth 0; bytes behind the text and behind the last row are as they were.
+ * blocks, *growth 0; bytes after the text and after the last row are as they were.
  */
 uint8_t zaldrume_convert(uint8_t mode,
                          const uint8_t *rules, size_t rules_size,
@@ -47,10 +47,10 @@ uint8_t zaldrume_convert(uint8_t mode,
                          size_t *place, int64_t *growth, size_t *count);
 
 /*
- * Converts one block again, and those behind it until the carry is the kept one. tree is the new
+ * Converts one block again, and those after it until the carry is the kept one. tree is the new
  * document, block is counted from 0, kept is the text's length before; text and ledger are those that
  * were kept. Accepted: *place is the new length, *growth the new length less the old, *count how many
- * blocks were converted again; where the text shrank, its old bytes behind the new length are 0.
+ * blocks were converted again; where the text shrank, its old bytes after the new length are 0.
  */
 uint8_t zaldrume_edit(uint8_t mode,
                       const uint8_t *rules, size_t rules_size,

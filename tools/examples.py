@@ -15,7 +15,7 @@ import struct
 import sys
 from pathlib import Path
 
-SPECS = Path(__file__).resolve().parent.parent / "crates" / "mitex_state" / "specs"
+SPECS = Path(__file__).resolve().parent.parent / "crates" / "mitex_meaning" / "specs"
 
 KINDS = """TokenError ItemLR ClauseArgument ScopeRoot ItemText ItemBracket ItemParen ItemFormula ItemCurly ClauseLR
 ItemAttachComponent ClauseCommandName ItemBegin ItemEnd TokenWord TokenLBrace TokenRBrace TokenDollar TokenBeginMath

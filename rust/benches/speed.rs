@@ -218,7 +218,7 @@ impl Buffers {
         answer
     }
 
-    /// A block that does not exist is refused right behind the checks.
+    /// A block that does not exist is refused right after the checks.
     fn check(&mut self, rules: &[u8], tree: &[u8]) {
         let Buffers { text, ledger } = self;
         let answer = raw::edit(0, rules, tree, usize::MAX, 0, text, ledger);
@@ -305,7 +305,7 @@ fn conversions() {
     }
 }
 
-/// A document of 512 blocks; `label` holds a label from a block on, which an environment takes 39 blocks behind.
+/// A document of 512 blocks; `label` holds a label from a block on, which an environment takes 39 blocks later.
 fn many_blocks(word_in: usize, long: bool, label: Option<usize>) -> Vec<u8> {
     const AT: usize = 200;
     let mut random = Random::new(9);

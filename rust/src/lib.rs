@@ -104,7 +104,7 @@ pub struct Edited {
 
 /// Converts a tree file from its start into the caller's buffers.
 ///
-/// Bytes behind the text and behind the last row stay as they were.
+/// Bytes after the text and after the last row stay as they were.
 ///
 /// ```
 /// use zaldrume::file::{Kind, RuleFile, TreeFile};
@@ -140,7 +140,7 @@ pub fn convert(
     })
 }
 
-/// Converts one block of a document again, and those behind it until nothing more can change.
+/// Converts one block of a document again, and those after it until nothing more can change.
 ///
 /// `tree` is the whole new document, which differs from the kept one in `block` alone (counted
 /// from 0); `kept` is the text's length as the last accepted call gave it; text and ledger are as

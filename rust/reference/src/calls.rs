@@ -74,7 +74,7 @@ pub fn convert(
     })
 }
 
-/// One block of a kept text replaced, and those behind it as far as the carry differs.
+/// One block of a kept text replaced, and those after it as far as the carry differs.
 pub fn edit(
     mode: u8,
     rules: &[u8],

@@ -31,7 +31,7 @@ impl Env {
     }
 }
 
-/// Text that is kept as far as there is room; behind that only its length is counted.
+/// Text that is kept as far as there is room; past that only its length is counted.
 #[derive(Debug)]
 pub struct Output {
     pub bytes: Vec<u8>,
@@ -472,7 +472,7 @@ impl<'a> Converter<'a> {
         Ok(())
     }
 
-    /// `(a,b)`: a comma behind each element of a kind but the last.
+    /// `(a,b)`: a comma after each element of a kind but the last.
     fn call(&mut self, elements: Vec<&Element>, kind: Kind) -> Done {
         self.out.put("(");
         for (i, element) in elements.iter().enumerate() {
@@ -689,7 +689,7 @@ fn skip_trivia(elements: &mut &[Element]) {
     }
 }
 
-/// The kind of the first element, and those behind it.
+/// The kind of the first element, and those after it.
 fn first_kind<'e, 'a>(elements: &'e [Element<'a>]) -> Option<(Kind, &'e [Element<'a>])> {
     let (first, rest) = elements.split_first()?;
     Some((first.kind, rest))

@@ -229,7 +229,7 @@ impl<'a> Layout<'a> {
         Some(Layout { rows, area, depth })
     }
 
-    /// The element at a row, and the text behind it.
+    /// The element at a row, and the text after it.
     fn element(&self, at: usize, text: &'a str) -> (Element<'a>, &'a str) {
         let row = &self.rows[at];
         if row.token {
