@@ -3,7 +3,7 @@ use mathlib.Core.Path.{_≡_, refl}
 use mathlib.Core.Logic.{_≢_}
 use mathlib.Core.Bool.{Bool, true, false, cond}
 use mathlib.Core.List.{List, [], _∷_}
-use Prim.Native.Nat.{ℕ, zero, suc, _≤_, _<_}
+use Prim.Native.Nat.{ℕ, zero, suc, _<_}
 use native.Mathlib.Nat.{le-of-suc-le-suc}
 use native.Mathlib.Omega.{arith}
 use lib.ListN.{length, getD}
@@ -11,15 +11,7 @@ use Rattle.mitex_meaning.specs.Outcome.{Carry}
 use Rattle.mitex_meaning.specs.Conversion.{startCarry}
 use Rattle.ledger.specs.Ledger.{sameCarry}
 use Rattle.ledger.proofs.Carries.{sameCarry-true, sameCarry-false}
-use Rattle.edit_meaning.specs.Walk.{countTo}
-
--- n blocks: no more than there are (`within`), one at least (`one`), before the last of them the carries differ (`apart`), and
--- after it they are the same, unless it is the last of all (`meets`)
-pub record FirstSame (cs ds : List Carry) (n : ℕ) : Type 0 where
-  pub within : n ≤ length cs
-  pub one : 0 < length cs → 0 < n
-  pub apart : (j : ℕ) → suc j < n → getD cs j startCarry ≢ getD ds j startCarry
-  pub meets : (j : ℕ) → suc j ≡ n → n < length cs → getD cs j startCarry ≡ getD ds j startCarry
+use Rattle.edit_meaning.specs.Walk.{countTo, FirstSame}
 
 first-step :
     (c d : Carry) (cs ds : List Carry) (n : ℕ) → FirstSame cs ds n → (b : Bool) → sameCarry c d ≡ b

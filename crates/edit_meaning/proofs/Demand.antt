@@ -1,4 +1,4 @@
--- Demand 3, over every list of edits (`demand-3`). One edit leaves buffers that hold the next document, with the answer and the
+-- Demand 3, over every list of edits (`run-demanded`). One edit leaves buffers that hold the next document, with the answer and the
 -- moved tail that are demanded (`step`): by its tree's check, by whether the block exists, by the walk from that block on, and by
 -- the room that the new text has. The list follows by recursion.
 use mathlib.Core.Path.{_≡_, refl, sym, ap, ap₂, subst, _∙_}
@@ -304,8 +304,8 @@ module _ (𝓒 : BlockConverter) (keeps-short : KeepsShort 𝓒) where
         }
 
     -- from buffers that hold an accepted conversion, after every list of edits, refused ones included
-    pub demand-3 : (tree : List ℕ) (s : Kept) → Holds 𝓒 t l tree s → (es : List Edit) → Allowed 𝓒 t l tree es → Demand3 𝓒 t l tree s es
-    demand-3 tree s ho es al =
+    pub run-demanded : (tree : List ℕ) (s : Kept) → Holds 𝓒 t l tree s → (es : List Edit) → Allowed 𝓒 t l tree es → Demand3 𝓒 t l tree s es
+    run-demanded tree s ho es al =
         let f : Found 𝓒 keeps-short t l tree s = held-found 𝓒 keeps-short t l tree s ho in
         let n : Ran tree s (f .l₂) es
         = subst (λ x. Ran tree x (f .l₂) es) (sym (f .is)) (ran es tree (f .ps) (f .rest) (f .l₂) (f .stands) al) in

@@ -71,6 +71,13 @@ module _ (𝓒 : BlockConverter) (keeps-short : KeepsShort 𝓒) where
           = omega (arith, rows-length ps stands-encodable, st .ledgerSize, length-append (encodeRows (rowsFrom 0 ps)) l₂) in
           rw (le-leb (length (written ps)) (min (length t) textMost) n, le-leb (rowSize * length ps) (length l) k)
 
+      pub stands-accepted : (convertDocument 𝓒 tree t l) .answer ≡ converted (length (written ps)) (length ps)
+      unfolding convertDocument settle
+      stands-accepted =
+          let c : conversion 𝓒 tree ≡ pieces ps = stands-conversion in
+          let r : room (length t) (length l) ps ≡ true = stands-room in
+          rw (c, r)
+
       pub stands-holds : Holds 𝓒 t l tree (holding ps rest l₂)
       unfolding convertDocument settle
       stands-holds =
@@ -79,7 +86,7 @@ module _ (𝓒 : BlockConverter) (keeps-short : KeepsShort 𝓒) where
           let r : room (length t) (length l) ps ≡ true = stands-room in
           record {
             blocks = length ps;
-            accepted = rw (c, r);
+            accepted = stands-accepted;
             text = rw (c, r, take-append-seam (written ps) rest, take-append-seam (written ps) (drop (length (written ps)) t));
             rows =
                 rw (

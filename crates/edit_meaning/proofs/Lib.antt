@@ -9,3 +9,5 @@ pub mod Calls
 pub mod Bytes
 pub mod Begin
 pub mod Untouched
+pub mod Counted
+pub mod Counting

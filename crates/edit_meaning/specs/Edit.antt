@@ -47,6 +47,7 @@ room textSize ledgerSize ps = roomForText (length (written ps)) textSize && leb 
 abbrev pub put : List ℕ → List ℕ → List ℕ
 put new l = new ++ drop (length new) l
 
+-- what Convert makes of a walk: its refusal; or text and rows, where they have room; or 15
 unfoldable pub settle : Walk → List ℕ → List ℕ → Result
 settle (stopped n i) text ledger = unchanged n i text ledger
 settle (pieces ps) text ledger =
@@ -74,7 +75,8 @@ module _ (𝓒 : BlockConverter) where
 
 -- ---- Edit
 
--- refusal 6: the block exists, the kept length is within the text buffer, the ledger fits
+-- refusal 6: the block exists, the kept length is within the text buffer (that this counts as at most `textMost` bytes comes to the same:
+-- `editFits-counted`), the ledger fits
 unfoldable pub editFits : ℕ → ℕ → ℕ → List ℕ → List ℕ → Bool
 editFits n k kept text ledger = ltb k n && (leb kept (length text) && fits n kept ledger)
 

@@ -3,7 +3,7 @@
 use mathlib.Core.Path.{_≡_, refl}
 use mathlib.Core.Bool.{false, cond}
 use mathlib.Core.List.{List, [], _∷_}
-use Prim.Native.Nat.{ℕ}
+use Prim.Native.Nat.{ℕ, _+_, _*_}
 use lib.IntN.{pos, negsuc}
 use lib.ListN.{replicate}
 use lib.Dec.{eqb}
@@ -12,7 +12,7 @@ use Rattle.mitex_meaning.specs.Outcome.{Carry, Outcome, flagged, labelled}
 use Rattle.mitex_meaning.specs.Outcome.Label.{unheld, held}
 use Rattle.mitex_meaning.specs.Outcome.Outcome.{done, refused as declined}
 use Rattle.mitex_meaning.specs.Keeping.{labelBytes}
-use Rattle.ledger.specs.Ledger.{encodeCarry, encodeRow, decodeRow, allZero, marksFit, rowFits, fits, moveRow, sameCarry}
+use Rattle.ledger.specs.Ledger.{rowSize, encodeCarry, encodeRow, decodeRow, allZero, marksFit, rowFits, fits, moveRow, sameCarry}
 use Rattle.edit_meaning.specs.Walk.{CheckedFile, BlockConverter, walk, walkUntil}
 use Rattle.edit_meaning.specs.Walk.CheckedFile.{bad, good}
 use Rattle.edit_meaning.specs.Edit.{Answer, Result, roomForText, room, settle, conversion, convertDocument, editFits, textAfter, ledgerAfter, write, again, edit}
@@ -37,7 +37,7 @@ abbrev pub toy : BlockConverter
 toy = record { Block = ℕ; check = toyCheck; convert = toyBlock; rows = one-row }
 
 first : Result
-first = convertDocument toy (1 ∷ 5 ∷ 0 ∷ 6 ∷ []) (replicate 8 7) (replicate 513 7)
+first = convertDocument toy (1 ∷ 5 ∷ 0 ∷ 6 ∷ []) (replicate 8 7) (replicate (rowSize * 4 + 1) 7)
 
 start : Kept
 start = record { text = first .text; ledger = first .ledger; size = 3 }
@@ -63,6 +63,6 @@ unfolding first start answers run edit convertDocument conversion settle room ro
 answers-are = (refl, refl)
 
 -- and so they are demanded, whatever the buffers hold
-answers-demanded : answers ≡ (reference toy (replicate 8 0) (replicate 513 0) (1 ∷ 5 ∷ 0 ∷ 6 ∷ []) edits) .answers
+answers-demanded : answers ≡ (reference toy (replicate 8 0) (replicate (rowSize * 4 + 1) 0) (1 ∷ 5 ∷ 0 ∷ 6 ∷ []) edits) .answers
 unfolding first start answers run edit convertDocument conversion settle room roomForText textAfter ledgerAfter write again editFits walk walkUntil sameCarry same encodeRow encodeCarry decodeRow allZero marksFit rowFits fits moveRow reference demanded
 answers-demanded = refl

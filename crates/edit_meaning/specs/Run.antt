@@ -1,6 +1,6 @@
 -- A run of edits, and what demand 3 claims of it: over every list of edits, refused ones included, that starts from the text and
 -- ledger of an accepted conversion. `Allowed` and `Holds` are what it starts from, `Demand3` is the claim; the theorem is
--- `demand-3`, in proofs/Demand.antt.
+-- `run-demanded`, in proofs/Demand.antt.
 use mathlib.Core.Path.{_≡_}
 use mathlib.Core.Bool.{Bool, false, not, cond}
 use mathlib.Core.List.{List, [], _∷_}

@@ -1,11 +1,14 @@
 -- Blocks converted one after the other, all of them or from a named one on, over any check of a tree file and any converter of
 -- one block. A block's refusal has a row counted from the block's own first row; here the rows of the blocks before are added.
 use mathlib.Core.Path.{_≡_}
+use mathlib.Core.Logic.{_≢_}
 use mathlib.Core.Bool.{cond}
 use mathlib.Core.List.{List, [], _∷_}
-use Prim.Native.Nat.{ℕ, suc, _+_, _≤_}
+use Prim.Native.Nat.{ℕ, suc, _+_, _≤_, _<_}
+use lib.ListN.{length, getD}
 use Rattle.mitex_meaning.specs.Outcome.{Carry, Outcome}
 use Rattle.mitex_meaning.specs.Outcome.Outcome.{refused, done}
+use Rattle.mitex_meaning.specs.Conversion.{startCarry}
 use Rattle.mitex_meaning.specs.Keeping.{Short}
 use Rattle.ledger.specs.Ledger.{sameCarry, Piece}
 
@@ -83,3 +86,11 @@ abbrev pub countTo : List Carry → List Carry → ℕ
 countTo [] ds = 0
 countTo (c ∷ cs) [] = suc (countTo cs [])
 countTo (c ∷ cs) (d ∷ ds) = suc (cond (sameCarry c d) 0 (countTo cs ds))
+
+-- The same count in words (`countTo-first`), n blocks: no more than there are (`within`), one at least (`one`), before the last of them
+-- the carries differ (`apart`), and after it they are the same, unless it is the last of all (`meets`).
+pub record FirstSame (cs ds : List Carry) (n : ℕ) : Type 0 where
+  pub within : n ≤ length cs
+  pub one : 0 < length cs → 0 < n
+  pub apart : (j : ℕ) → suc j < n → getD cs j startCarry ≢ getD ds j startCarry
+  pub meets : (j : ℕ) → suc j ≡ n → n < length cs → getD cs j startCarry ≡ getD ds j startCarry

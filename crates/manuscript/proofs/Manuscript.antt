@@ -1,5 +1,5 @@
--- What the theorem over lists of edits asks of a converter of blocks holds of this one; and its blocks one after the other are the
--- document.
+-- What the theorem over lists of edits asks of a converter of blocks holds of this one (`keeps-short`, `numbered`); past the checks a
+-- call goes by the blocks (`opened-as`); and the blocks one after the other are the document (`walk-blocks`, `walk-root`).
 use mathlib.Core.Path.{_≡_, refl, sym, ap, subst, _∙_}
 use mathlib.Core.Bool.{Bool, true, false, _&&_, cond}
 use mathlib.Core.List.{List}
@@ -7,14 +7,15 @@ use mathlib.Core.Option.{Option}
 use mathlib.Core.Option.Option.{none as nothing, some}
 use Prim.Native.Nat.{ℕ, _+_, _≤_}
 use native.Mathlib.Omega.{arith}
+use lib.ListN.{length}
+use lib.Dec.{T, leb, leb→le}
 use Rattle.mitex_spec.specs.Rules.{Rule}
 use Rattle.mitex_spec.specs.RuleFile.{rulesOf}
-use Rattle.mitex_syntax.specs.Tree.{Tree, Forest, size}
+use Rattle.mitex_syntax.specs.Tree.{Tree, Forest, size, count}
 use Rattle.mitex_syntax.specs.Tree.Tree.{node}
 use Rattle.mitex_syntax.specs.Tree.Forest.{none, more}
 use Rattle.mitex_syntax.specs.Syntax.{ScopeRoot}
 use Rattle.tree_file.specs.Layout.{decode}
-use lib.Dec.{T, leb, leb→le}
 use Rattle.tree_file.specs.Depth.{depth, depthMost}
 use Rattle.tree_file.specs.Shape.{lowest}
 use Rattle.tree_file.specs.Check.{byShape, byDepth, checkTree, blocksOf}
@@ -31,6 +32,14 @@ use Rattle.edit_meaning.specs.Walk.{CheckedFile, BlockConverter, KeepsShort, Re
 use Rattle.edit_meaning.specs.Walk.CheckedFile.{bad, good}
 use Rattle.edit_meaning.specs.Walk.Walk.{stopped, pieces}
 use Rattle.manuscript.specs.Manuscript.{modeOf, listed, byTree, byRules, byMode, rulesLeft, modeLeft, block, manuscriptIn, manuscript, blocksIn, together}
+
+-- as many blocks in the list as in the document
+pub listed-count : (f : Forest) → length (listed f) ≡ count f
+unfolding count
+listed-count none = refl
+listed-count (more t f) = omega (arith, listed-count f)
+
+-- ---- numbers and labels
 
 -- the numbers of a check that refuses
 abbrev CheckNumber : ℕ → Type 0

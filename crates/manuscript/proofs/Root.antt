@@ -29,7 +29,7 @@ module _ (file : List ℕ) (bytes : Bytes file) (t : Tree) (is : checkTree file 
       accepted-blocks file t a (length (textOf t)) (length (textOf t) + 8 * size t) refl refl .root-is
 
   -- as many levels as rows
-  enough : size t ≤ levels
+  pub enough : size t ≤ levels
   enough =
       let a = accepted-says file bytes t is in
       let w = a .whole in

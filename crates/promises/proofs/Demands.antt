@@ -1,37 +1,42 @@
 -- The demands, proved: each is a theorem over any converter of blocks (crate `edit_meaning`) that holds of this product's, since it keeps
 -- labels short and its refusals have their numbers (crate `manuscript`). Demand 2 is `document-root`, read through `settle`.
 use mathlib.Core.Path.{_≡_, refl, sym, ap, subst, _∙_}
-use mathlib.Core.Bool.{Bool, true, false, cond}
+use mathlib.Core.Bool.{Bool, true, false}
 use mathlib.Core.List.{List}
 use mathlib.Core.Option.Option.{some}
-use Prim.Native.Nat.{ℕ}
-use lib.ListN.{length}
+use Prim.Native.Nat.{ℕ, _*_, _≤_}
+use native.Mathlib.Omega.{arith}
+use lib.ListN.{length, drop}
+use lib.Seq.{drop-append-seam}
 use Rattle.text.specs.Numbers.{Bytes}
 use Rattle.mitex_spec.specs.Rules.{Rule}
 use Rattle.mitex_spec.specs.RuleFile.{rulesOf}
-use Rattle.mitex_syntax.specs.Tree.{Tree, Forest, count}
-use Rattle.mitex_syntax.specs.Tree.Forest.{none, more}
+use Rattle.mitex_syntax.specs.Tree.{Tree, size, count}
 use Rattle.tree_file.specs.Check.{checkTree, blocksOf}
 use Rattle.tree_file.specs.Check.Verdict.{accepted}
-use Rattle.mitex_meaning.specs.Outcome.{Outcome}
-use Rattle.mitex_meaning.specs.Conversion.{startCarry}
+use Rattle.mitex_meaning.specs.Conversion.{levels, newCarry, startCarry}
 use Rattle.mitex_meaning.specs.declared.LaTeXMode.{LaTeXMode}
-use Rattle.ledger.specs.Ledger.{Piece, written}
+use Rattle.mitex_meaning.proofs.Levels.{convert-level}
+use Rattle.ledger.specs.Ledger.{rowSize, encodeRows, Piece, written, rowsFrom}
 use Rattle.edit_meaning.specs.Walk.{Walk, walk}
+use Rattle.edit_meaning.specs.Walk.CheckedFile.{bad}
 use Rattle.edit_meaning.specs.Walk.Walk.{stopped, pieces}
-use Rattle.edit_meaning.specs.Edit.{Answer, Result, room, settle, fromCheck, conversion, convertDocument, edit}
-use Rattle.edit_meaning.specs.Calls.{Gives, Converts, Edits, Untouched}
-use Rattle.edit_meaning.specs.Numbers.{Fifteen, OfConvert, OfEdit}
-use Rattle.edit_meaning.proofs.Walks.{walk-walked, walked-length}
+use Rattle.edit_meaning.specs.Edit.{Answer, Result, textMost, room, put, settle, fromCheck, conversion, convertDocument, edit}
+use Rattle.edit_meaning.specs.Edit.Answer.{refused}
+use Rattle.edit_meaning.specs.Calls.{Gives, Converts, Untouched}
+use Rattle.edit_meaning.specs.Numbers.{Fifteen, ConvertNumber, OfConvert, OfEdit}
+use Rattle.edit_meaning.proofs.Walks.{Walked, walk-walked, walked-length}
+use Rattle.edit_meaning.proofs.Holding.{room-says, rows-length, walked-encodable}
 use Rattle.edit_meaning.proofs.Untouched.{convert-untouched, edit-untouched}
-use Rattle.edit_meaning.proofs.Begin.{converts-holds}
+use Rattle.edit_meaning.proofs.Begin.{converts-holds, converts-starts}
 use Rattle.edit_meaning.proofs.Calls.{runs-demanded}
 use Rattle.edit_meaning.proofs.Six.{demanded-six}
+use Rattle.edit_meaning.proofs.Counting.{demanded-counts}
 use Rattle.manuscript.specs.Manuscript.{modeOf, listed, manuscript, blocksIn, together}
-use Rattle.manuscript.proofs.Manuscript.{keeps-short, numbered, opened-as}
-use Rattle.manuscript.proofs.Root.{document-root}
+use Rattle.manuscript.proofs.Manuscript.{listed-count, opened-as, numbered, keeps-short}
+use Rattle.manuscript.proofs.Root.{enough, document-root}
 use Rattle.manuscript.proofs.Answers.{convert-answers, edit-answers}
-use Rattle.promises.specs.Demands.{AnyCaller, rootOutcome, hasRoom, AsReference, FollowsReference, EveryList}
+use Rattle.promises.specs.Demands.{AnyCaller, rootOutcome, Delivered, AsReference, FollowsReference, EveryList}
 
 -- ---- demand 1
 
@@ -48,7 +53,7 @@ pub demand-1 : AnyCaller
 demand-1 =
     record {
       converts = λ mode rules tree text ledger a text′ ledger′ c.
-          given (OfConvert Fifteen) (convertDocument (manuscript mode rules) tree text ledger) a text ledger text′ ledger′ (c .gives)
+          given (OfConvert ConvertNumber) (convertDocument (manuscript mode rules) tree text ledger) a text ledger text′ ledger′ (c .gives)
           (convert-answers mode rules tree text ledger) (convert-untouched text ledger (manuscript mode rules) tree);
       edits = λ mode rules tree block kept text ledger a text′ ledger′ c.
           given (OfEdit Fifteen) (edit (manuscript mode rules) tree block kept text ledger) a text ledger text′ ledger′ (c .gives)
@@ -57,56 +62,107 @@ demand-1 =
 
 -- ---- demand 2
 
--- as many blocks as the list has
-listed-count : (f : Forest) → length (listed f) ≡ count f
-unfolding count
-listed-count none = refl
-listed-count (more t f) = ap suc (listed-count f)
-
 module _ (text ledger : List ℕ) (blocks : ℕ) where
   -- what `settle` makes of a walk, told by the outcome that its pieces come to together
+  settled-pieces :
+      (ps : List Piece) → (length (written ps) ≤ textMost → length (encodeRows (rowsFrom 0 ps)) ≡ rowSize * length ps) → (b : Bool)
+      → room (length text) (length ledger) ps ≡ b
+      → Delivered b (written ps) (length ps) text ledger ((settle (pieces ps) text ledger) .answer) ((settle (pieces ps) text ledger) .text)
+      ((settle (pieces ps) text ledger) .ledger)
+  unfolding settle
+  settled-pieces ps rows false r = (rw r, rw r, rw r)
+  settled-pieces ps rows true r =
+      let fit = room-says (length text) (length ledger) ps r in
+      let n = rows (omega arith) in
+      (rw r, rw r, rw r (kept-after (encodeRows (rowsFrom 0 ps)) ledger n))
+    where
+      kept-after : {k : ℕ} (new l : List ℕ) → length new ≡ k → drop k (put new l) ≡ drop k l
+      kept-after {k} new l e = ap (λ n. drop n (put new l)) (sym e) ∙ drop-append-seam new (drop (length new) l) ∙ ap (λ n. drop n l) e
+
   settled :
       (w : Walk) → ((ps : List Piece) → w ≡ pieces ps → length ps ≡ blocks)
+      → ((ps : List Piece) → w ≡ pieces ps → length (written ps) ≤ textMost → length (encodeRows (rowsFrom 0 ps)) ≡ rowSize * length ps)
       → AsReference (together startCarry w) blocks text ledger ((settle w text ledger) .answer) ((settle w text ledger) .text)
+      ((settle w text ledger) .ledger)
   unfolding settle room
-  settled (stopped n i) many = (refl, refl)
-  settled (pieces ps) many =
+  settled (stopped n i) many rows = (refl, refl, refl)
+  settled (pieces ps) many rows =
       subst
       (λ n. AsReference (together startCarry (pieces ps)) n text ledger ((settle (pieces ps) text ledger) .answer)
-      ((settle (pieces ps) text ledger) .text))
-      (many ps refl) (go (room (length text) (length ledger) ps))
-    where
-      go :
-          (b : Bool) {x y : Result} → ((cond b x y) .answer ≡ cond b (x .answer) (y .answer)) × ((cond b x y) .text ≡ cond b (x .text) (y .text))
-      go true = (refl, refl)
-      go false = (refl, refl)
+      ((settle (pieces ps) text ledger) .text) ((settle (pieces ps) text ledger) .ledger))
+      (many ps refl) (settled-pieces ps (rows ps refl) (room (length text) (length ledger) ps) refl)
+
+-- where a check refuses, so does Convert
+shut :
+    (mode : ℕ) (rules tree : List ℕ) (n row : ℕ) → (manuscript mode rules) .check tree ≡ bad n row → (text ledger : List ℕ)
+    → (convertDocument (manuscript mode rules) tree text ledger) .answer ≡ refused n row
+unfolding convertDocument conversion settle
+shut mode rules tree n row e text ledger = ap (λ x. (settle (fromCheck (manuscript mode rules) x) text ledger) .answer) e
+
+module _ (mode : ℕ) (rules tree : List ℕ) (bytes : Bytes tree) (m : LaTeXMode) (rs : List Rule) (t : Tree) (in-mode : modeOf mode ≡ some m)
+    (in-rules : rulesOf rules ≡ some rs) (is : checkTree tree ≡ accepted t) where
+  -- the blocks one after the other
+  abbrev blocks-walk : Walk
+  blocks-walk = walk (blocksIn m rs) startCarry 1 (listed (blocksOf t))
+
+  opened : (text ledger : List ℕ) → convertDocument (manuscript mode rules) tree text ledger ≡ settle blocks-walk text ledger
+  unfolding convertDocument conversion
+  opened text ledger = opened-as mode rules tree in-mode in-rules is (λ 𝓒 v. settle (fromCheck 𝓒 v) text ledger)
+
+  walked : (ps : List Piece) → blocks-walk ≡ pieces ps → Walked (blocksIn m rs) startCarry (listed (blocksOf t)) ps
+  walked ps e = walk-walked (blocksIn m rs) (listed (blocksOf t)) startCarry 1 ps e
+
+  follows :
+      (text ledger : List ℕ) (d : ℕ) → size t ≤ d
+      → AsReference (rootOutcome d m rs t) (count (blocksOf t)) text ledger ((settle blocks-walk text ledger) .answer)
+      ((settle blocks-walk text ledger) .text) ((settle blocks-walk text ledger) .ledger)
+  follows text ledger d h =
+      let n : ℕ = count (blocksOf t) in
+      let r : Result = settle blocks-walk text ledger in
+      let root : together startCarry blocks-walk ≡ rootOutcome d m rs t
+      = document-root tree bytes t is (some m) (some rs) ∙ convert-level levels d _ t newCarry (enough tree bytes t is) h in
+      subst (λ o. AsReference o n text ledger (r .answer) (r .text) (r .ledger)) root
+      (settled text ledger n blocks-walk
+      (λ ps e. sym (walked-length (blocksIn m rs) (walked ps e)) ∙ listed-count (blocksOf t))
+      (λ ps e small. rows-length ps (walked-encodable (blocksIn m rs) (keeps-short (some m) (some rs)) (walked ps e) small)))
+
+  -- told of a call
+  as-called :
+      (text ledger : List ℕ) (a : Answer) (text′ ledger′ : List ℕ) → Converts (manuscript mode rules) tree text ledger a text′ ledger′
+      → (d : ℕ) → size t ≤ d → AsReference (rootOutcome d m rs t) (count (blocksOf t)) text ledger a text′ ledger′
+  as-called text ledger a text′ ledger′ c d h =
+      let g : Gives (settle blocks-walk text ledger) a text′ ledger′ = subst (λ r. Gives r a text′ ledger′) (opened text ledger) (c .gives) in
+      let is-so : record { answer = a; text = text′; ledger = ledger′ } ≡ settle blocks-walk text ledger
+      = λ i. record { answer = g .answer i; text = g .bytes i; ledger = g .rows i } in
+      subst
+      (λ (r : Result). AsReference (rootOutcome d m rs t) (count (blocksOf t)) text ledger (r .answer) (r .text) (r .ledger))
+      (sym is-so) (follows text ledger d h)
 
 pub demand-2 : FollowsReference
-unfolding convertDocument conversion
-demand-2 mode rules tree bytes m rs t in-mode in-rules is text ledger a text′ ledger′ c =
-    let n : ℕ = count (blocksOf t) in
-    let w : Walk = walk (blocksIn m rs) startCarry 1 (listed (blocksOf t)) in
-    let opened : convertDocument (manuscript mode rules) tree text ledger ≡ settle w text ledger
-    = opened-as mode rules tree in-mode in-rules is (λ 𝓒 v. settle (fromCheck 𝓒 v) text ledger) in
-    let root : together startCarry w ≡ rootOutcome m rs t = document-root tree bytes t is (some m) (some rs) in
-    let many : (ps : List Piece) → w ≡ pieces ps → length ps ≡ n
-    = λ ps e. sym (walked-length (blocksIn m rs) (walk-walked (blocksIn m rs) (listed (blocksOf t)) startCarry 1 ps e))
-    ∙ listed-count (blocksOf t) in
-    let g : Gives (settle w text ledger) a text′ ledger′ = subst (λ r. Gives r a text′ ledger′) opened (c .gives) in
-    let there : AsReference (rootOutcome m rs t) n text ledger ((settle w text ledger) .answer) ((settle w text ledger) .text)
-    = subst (λ o. AsReference o n text ledger ((settle w text ledger) .answer) ((settle w text ledger) .text)) root
-    (settled text ledger n w many) in
-    subst (λ x. AsReference (rootOutcome m rs t) n text ledger a x) (sym (g .bytes))
-    (subst (λ x. AsReference (rootOutcome m rs t) n text ledger x ((settle w text ledger) .text)) (sym (g .answer)) there)
+demand-2 =
+    record {
+      before = λ mode rules tree n row e text ledger a text′ ledger′ c.
+          let h = numbered (modeOf mode) (rulesOf rules) .checked tree n row e in
+          (c .gives .answer ∙ shut mode rules tree n row e text ledger, h .0, h .1);
+      past = λ mode rules tree bytes m rs t in-mode in-rules is. as-called mode rules tree bytes m rs t in-mode in-rules is;
+    }
 
 -- ---- demand 3
 
 pub demand-3 : EveryList
 demand-3 =
     record {
-      starts = λ mode rules tree t l size blocks text ledger c.
-          converts-holds (manuscript mode rules) (keeps-short (modeOf mode) (rulesOf rules)) tree t l size blocks c;
+      list = λ mode rules tree text ledger kept blocks text′ ledger′ c es al said kept″ text″ ledger″ r.
+          let ks = keeps-short (modeOf mode) (rulesOf rules) in
+          let d = runs-demanded (manuscript mode rules) ks r text ledger tree
+          (converts-holds (manuscript mode rules) ks tree text ledger kept blocks c) al in
+          (d .0, d .1);
+      starts = λ mode rules tree text ledger kept blocks text′ ledger′ c text₁ ledger₁ same-text same-rows.
+          converts-starts (manuscript mode rules) (keeps-short (modeOf mode) (rulesOf rules)) tree text ledger kept blocks c text₁ ledger₁
+          same-text same-rows;
       runs = λ mode rules kept text ledger es said kept′ text′ ledger′ r.
           runs-demanded (manuscript mode rules) (keeps-short (modeOf mode) (rulesOf rules)) r;
       six = λ mode rules t l old e. demanded-six (manuscript mode rules) (numbered (modeOf mode) (rulesOf rules)) t l old e;
+      counts = λ mode rules t l old s ho e p.
+          demanded-counts (manuscript mode rules) (keeps-short (modeOf mode) (rulesOf rules)) t l old s ho e p;
     }

@@ -1,41 +1,46 @@
--- The three demands on the product, each as one statement. They speak of calls that meet their contracts (`Converts`, `Edits` and `Runs`,
--- crate `edit_meaning`), which `calls::convert` and `calls::edit` are proved to do, for the converter of blocks of this product
--- (`manuscript`). The proofs are `demand-1`, `demand-2` and `demand-3` in proofs/Demands.antt. That every call ends is part of what the
--- checker proves of each function.
+-- The three demands on the product, each as one type; proofs/Demands.antt has a term of each (`demand-1`, `demand-2`, `demand-3`). They
+-- speak of calls that meet their contracts. The contract of `calls::convert` is `Converts (manuscript mode rules) tree text ledger a text′
+-- ledger′`: a is its answer, text and ledger are the buffers as lent, text′ and ledger′ as left. That of `calls::edit` is `Edits`. Neither
+-- asks anything of its caller. `manuscript mode rules` is the product in one mode with one rule file: refusals 1 to 5, and the conversion
+-- of a block. That every call ends is proved by the checker, of each function.
 use mathlib.Core.Path.{_≡_}
 use mathlib.Core.Logic.{_↔_}
-use mathlib.Core.Bool.{Bool, true, _&&_, cond}
+use mathlib.Core.Bool.{Bool, true, false, _&&_}
 use mathlib.Core.List.{List}
 use mathlib.Core.Option.Option.{some}
-use Prim.Native.Nat.{ℕ, _*_}
-use lib.ListN.{length}
+use Prim.Native.Nat.{ℕ, _*_, _≤_}
+use lib.IntN.{ℤ}
+use lib.ListN.{length, take, drop}
 use lib.Dec.{leb}
 use Rattle.text.specs.Numbers.{Bytes}
 use Rattle.mitex_spec.specs.Rules.{Rule}
 use Rattle.mitex_spec.specs.RuleFile.{rulesOf}
-use Rattle.mitex_syntax.specs.Tree.{Tree, count}
+use Rattle.mitex_syntax.specs.Tree.{Tree, size, count}
 use Rattle.tree_file.specs.Check.{checkTree, blocksOf}
 use Rattle.tree_file.specs.Check.Verdict.{accepted}
 use Rattle.mitex_meaning.specs.Outcome.{Outcome}
 use Rattle.mitex_meaning.specs.Outcome.Outcome.{done, refused as declined}
-use Rattle.mitex_meaning.specs.Conversion.{convert, levels, startContext, newCarry}
+use Rattle.mitex_meaning.specs.Conversion.{convert, startContext, newCarry}
 use Rattle.mitex_meaning.specs.declared.LaTeXMode.{LaTeXMode}
 use Rattle.ledger.specs.Ledger.{rowSize}
+use Rattle.edit_meaning.specs.Walk.{FirstSame}
+use Rattle.edit_meaning.specs.Walk.CheckedFile.{bad}
 use Rattle.edit_meaning.specs.Edit.{Answer, roomForText, put}
-use Rattle.edit_meaning.specs.Edit.Answer.{refused, converted}
-use Rattle.edit_meaning.specs.Run.{Edit, lacks, demanded, Holds}
+use Rattle.edit_meaning.specs.Edit.Answer.{refused, converted, edited}
+use Rattle.edit_meaning.specs.Run.{Edit, Kept, lacks, carriesFrom, demanded, reference, Permitted, Allowed, Holds}
 use Rattle.edit_meaning.specs.Calls.{Converts, Edits, Runs, Untouched, Demanded}
-use Rattle.edit_meaning.specs.Numbers.{Fifteen, OfConvert, OfEdit}
+use Rattle.edit_meaning.specs.Numbers.{Fifteen, ConvertNumber, OfConvert, OfEdit}
 use Rattle.manuscript.specs.Manuscript.{modeOf, manuscript}
 
 -- ---- Demand 1
 
--- Any caller, any input: what a call answers is a result of its own kind or a refusal with one of the numbers 1 to 15, and a refusal
--- changes no lent byte.
+-- Any caller, any input: a call answers with a result of its own kind or with a refusal, whose number is from 1 to 15 and in Convert not
+-- 6, and a refusal changes no lent byte.
 pub record AnyCaller : Type 0 where
   pub converts :
       (mode : ℕ) (rules tree text ledger : List ℕ) (a : Answer) (text′ ledger′ : List ℕ)
-      → Converts (manuscript mode rules) tree text ledger a text′ ledger′ → OfConvert Fifteen a × Untouched a text ledger text′ ledger′
+      → Converts (manuscript mode rules) tree text ledger a text′ ledger′
+      → OfConvert ConvertNumber a × Untouched a text ledger text′ ledger′
   pub edits :
       (mode : ℕ) (rules tree : List ℕ) (block kept : ℕ) (text ledger : List ℕ) (a : Answer) (text′ ledger′ : List ℕ)
       → Edits (manuscript mode rules) tree block kept text ledger a text′ ledger′
@@ -43,47 +48,80 @@ pub record AnyCaller : Type 0 where
 
 -- ---- Demand 2
 
--- the reference: the root element converted by `Converter::convert` on `Converter::new(mode)`
-abbrev pub rootOutcome : LaTeXMode → List Rule → Tree → Outcome
-rootOutcome m rules t = convert levels (startContext rules m) t newCarry
+-- What stands for the reference, `Converter::convert` on `Converter::new(mode)`: the meaning of the root element (crate `mitex_meaning`),
+-- written after the Rust arm by arm, from the state of a new converter. It has numbers and rows where the Rust has errors and panics, and
+-- 14. That it is the Rust's is read and compared (docs/DIFFERENCES.md), not proved; that the product follows it is proved. d is any
+-- number of levels that is enough, one for each row.
+abbrev pub rootOutcome : (d : ℕ) → LaTeXMode → List Rule → Tree → Outcome
+rootOutcome d m rs t = convert d (startContext rs m) t newCarry
 
 -- whether both buffers have room for a text and the rows of so many blocks
 abbrev pub hasRoom : (w : List ℕ) (blocks : ℕ) (text ledger : List ℕ) → Bool
 hasRoom w blocks text ledger = roomForText (length w) (length text) && leb (rowSize * blocks) (length ledger)
 
--- an answer and a text buffer beside the reference: its refusal, with the same number at the same row; or its text, to the byte, at the
--- front of the buffer; or 15 where that has no room
-abbrev pub AsReference : Outcome → (blocks : ℕ) (text ledger : List ℕ) (a : Answer) (text′ : List ℕ) → Type 0
-AsReference (declined n row) blocks text ledger a text′ = (a ≡ refused n row) × (text′ ≡ text)
-AsReference (done c w) blocks text ledger a text′ =
-    (a ≡ cond (hasRoom w blocks text ledger) (converted (length w) blocks) (refused 15 0))
-    × (text′ ≡ cond (hasRoom w blocks text ledger) (put w text) text)
+-- where there is room the text stands at the front of its buffer, other bytes as they were, and the ledger is changed in its block rows
+-- alone; else 15, and no byte changed
+abbrev pub Delivered : (room : Bool) (w : List ℕ) (blocks : ℕ) (text ledger : List ℕ) (a : Answer) (text′ ledger′ : List ℕ) → Type 0
+Delivered true w blocks text ledger a text′ ledger′ =
+    (a ≡ converted (length w) blocks) × (text′ ≡ put w text) × (drop (rowSize * blocks) ledger′ ≡ drop (rowSize * blocks) ledger)
+Delivered false w blocks text ledger a text′ ledger′ = (a ≡ refused 15 0) × (text′ ≡ text) × (ledger′ ≡ ledger)
 
--- A conversion follows the reference on every input past refusals 1 to 5: there the mode is one, the rule file has rules, and the tree file
--- is accepted as a tree.
-abbrev pub FollowsReference : Type 0
-FollowsReference =
-    (mode : ℕ) (rules tree : List ℕ) → Bytes tree → (m : LaTeXMode) (rs : List Rule) (t : Tree) → modeOf mode ≡ some m → rulesOf rules ≡ some rs
-    → checkTree tree ≡ accepted t → (text ledger : List ℕ) (a : Answer) (text′ ledger′ : List ℕ)
-    → Converts (manuscript mode rules) tree text ledger a text′ ledger′
-    → AsReference (rootOutcome m rs t) (count (blocksOf t)) text ledger a text′
+-- An answer and the buffers beside the reference. Where that refuses (7 to 14): the same number and row, and no byte changed. Where it is
+-- done: its text, to the byte, with its length and the count of blocks; or 15.
+abbrev pub AsReference : Outcome → (blocks : ℕ) (text ledger : List ℕ) (a : Answer) (text′ ledger′ : List ℕ) → Type 0
+AsReference (declined n row) blocks text ledger a text′ ledger′ = (a ≡ refused n row) × (text′ ≡ text) × (ledger′ ≡ ledger)
+AsReference (done c w) blocks text ledger a text′ ledger′ =
+    Delivered (hasRoom w blocks text ledger) w blocks text ledger a text′ ledger′
+
+-- A conversion follows the reference on every input past refusals 1 to 5 (`past`): where the mode is 0 or 1 and stands for m, the rule
+-- file has its layout and holds the rules rs, and the tree file, which is bytes, is accepted as the tree t. Where one of 1 to 5 holds, the
+-- first of them is the answer (`before`).
+pub record FollowsReference : Type 0 where
+  pub before :
+      (mode : ℕ) (rules tree : List ℕ) (n row : ℕ) → (manuscript mode rules) .check tree ≡ bad n row
+      → (text ledger : List ℕ) (a : Answer) (text′ ledger′ : List ℕ) → Converts (manuscript mode rules) tree text ledger a text′ ledger′
+      → (a ≡ refused n row) × (1 ≤ n) × (n ≤ 5)
+  pub past :
+      (mode : ℕ) (rules tree : List ℕ) → Bytes tree → (m : LaTeXMode) (rs : List Rule) (t : Tree) → modeOf mode ≡ some m
+      → rulesOf rules ≡ some rs → checkTree tree ≡ accepted t → (text ledger : List ℕ) (a : Answer) (text′ ledger′ : List ℕ)
+      → Converts (manuscript mode rules) tree text ledger a text′ ledger′ → (d : ℕ) → size t ≤ d
+      → AsReference (rootOutcome d m rs t) (count (blocksOf t)) text ledger a text′ ledger′
 
 -- ---- Demand 3
 
 -- After every list of edits, refused ones included, text and ledger are those of converting the last accepted document from its start.
--- An accepted Convert leaves what a run starts from (`starts`); calls of Edit one after the other, each with what the one before left, give
--- what conversions from the start demand (`runs`); and of these 6 is demanded exactly where, past 1 to 5, the named block does not
--- exist (`six`).
 pub record EveryList : Type 0 where
+  -- Convert accepted a document; then Edit was called for each of a list, each time with what the call before left (`Runs`), and each edit
+  -- changes no block but the one that it names (`Allowed`). Then the answers are those that conversions from the start demand, and
+  -- the buffers hold the text and the block rows of the last accepted document.
+  pub list :
+      (mode : ℕ) (rules tree text ledger : List ℕ) (kept blocks : ℕ) (text′ ledger′ : List ℕ)
+      → Converts (manuscript mode rules) tree text ledger (converted kept blocks) text′ ledger′ → (es : List Edit)
+      → Allowed (manuscript mode rules) text ledger tree es → (said : List Answer) (kept″ : ℕ) (text″ ledger″ : List ℕ)
+      → Runs (manuscript mode rules) kept text′ ledger′ es said kept″ text″ ledger″
+      → (said ≡ (reference (manuscript mode rules) text ledger tree es) .answers)
+      × Holds (manuscript mode rules) text ledger ((reference (manuscript mode rules) text ledger tree es) .last)
+      (record { text = text″; ledger = ledger″; size = kept″ })
+  -- A run may start from any buffers that hold the text and the block rows of an accepted Convert, other bytes being any.
   pub starts :
-      (mode : ℕ) (rules tree t l : List ℕ) (size blocks : ℕ) (text ledger : List ℕ)
-      → Converts (manuscript mode rules) tree t l (converted size blocks) text ledger
-      → Holds (manuscript mode rules) t l tree (record { text = text; ledger = ledger; size = size })
+      (mode : ℕ) (rules tree text ledger : List ℕ) (kept blocks : ℕ) (text′ ledger′ : List ℕ)
+      → Converts (manuscript mode rules) tree text ledger (converted kept blocks) text′ ledger′ → (text₁ ledger₁ : List ℕ)
+      → take kept text₁ ≡ take kept text′ → take (rowSize * blocks) ledger₁ ≡ take (rowSize * blocks) ledger′
+      → Holds (manuscript mode rules) text₁ ledger₁ tree (record { text = text₁; ledger = ledger₁; size = kept })
+  -- And then the same holds, and after each accepted edit what follows the blocks converted again is the kept text, moved (`TailsMoved`).
   pub runs :
       (mode : ℕ) (rules : List ℕ) (kept : ℕ) (text ledger : List ℕ) (es : List Edit) (said : List Answer) (kept′ : ℕ) (text′ ledger′ : List ℕ)
       → Runs (manuscript mode rules) kept text ledger es said kept′ text′ ledger′
       → Demanded (manuscript mode rules) kept text ledger es said kept′ text′ ledger′
+  -- 6 is demanded exactly where, past 1 to 5, the named block does not exist.
   pub six :
       (mode : ℕ) (rules t l old : List ℕ) (e : Edit)
       → (demanded (manuscript mode rules) t l old e ≡ refused 6 0)
       ↔ (lacks ((manuscript mode rules) .check (e .tree)) (e .block) ≡ true)
+  -- The count of an accepted edit goes from the named block to the first after which both documents' conversions carry the same, or to the
+  -- last.
+  pub counts :
+      (mode : ℕ) (rules t l old : List ℕ) (s : Kept) → Holds (manuscript mode rules) t l old s → (e : Edit)
+      → Permitted (manuscript mode rules) t l old e → (len : ℕ) (growth : ℤ) (n : ℕ)
+      → demanded (manuscript mode rules) t l old e ≡ edited len growth n
+      → FirstSame (carriesFrom (manuscript mode rules) (e .block) (e .tree)) (carriesFrom (manuscript mode rules) (e .block) old) n

@@ -2,16 +2,17 @@
 -- contract of Convert and Edit answers so. The calls are those of the tables of `Starred`, and some of the same files in other buffers.
 use mathlib.Core.Path.{_≡_, refl, sym, ap, subst, subst₂, _∙_}
 use mathlib.Core.List.{List, [], _∷_, _++_, map, flatten}
-use Prim.Native.Nat.{ℕ, _-_}
+use Prim.Native.Nat.{ℕ, _*_, _-_}
 use native.Mathlib.Omega.{arith}
 use lib.IntN.{pos, negsuc}
 use lib.ListN.{take, drop, getD, replicate}
 use Rattle.text.specs.Ascii.{ascii}
+use Rattle.ledger.specs.Ledger.{rowSize}
 use Rattle.edit_meaning.specs.Edit.{Answer, Result, put}
 use Rattle.edit_meaning.specs.Edit.Answer.{refused, converted, edited}
 use Rattle.edit_meaning.specs.Calls.{Gives, Converts, Edits}
 use Rattle.manuscript.specs.Manuscript.{manuscript}
-use Rattle.promises.specs.Starred.{Call, Case, case, result, hand, starred, small, small-hold}
+use Rattle.promises.specs.Starred.{zeros, Call, Case, case, result, hand, starred, small, small-hold}
 use Rattle.promises.specs.Starred.Call.{converts, edits}
 
 -- ---- programs
@@ -67,9 +68,6 @@ abbrev within : ℕ → ℕ → List ℕ → List ℕ → Call → Call
 within block kept text ledger (converts mode rules tree t l) = converts mode rules tree text ledger
 within block kept text ledger (edits mode rules tree b k t l) = edits mode rules tree block kept text ledger
 
-abbrev zeros : ℕ → List ℕ
-zeros n = replicate n 0
-
 abbrev noResult : Result
 noResult = record { answer = refused 0 0; text = []; ledger = [] }
 
@@ -94,7 +92,7 @@ item = callAt 9 hand
 
 -- line feed, space, space, of which two bytes are written, in a text buffer of two
 abbrev tight : Call
-tight = within 0 0 (replicate 2 7) (replicate 384 7) (callAt 2 hand)
+tight = within 0 0 (replicate 2 7) (replicate (3 * rowSize) 7) (callAt 2 hand)
 
 -- the label's block 0 edited to `a`, and a table behind it that wrote the label
 abbrev unlabelled : Call
@@ -114,12 +112,12 @@ shouted = callAt 3 small
 
 -- `a` edited to a line feed, behind which the second block, a space, writes nothing any more
 abbrev folded : Call
-folded = within 0 2 (ascii "a ") ((1 ∷ zeros 127) ++ (2 ∷ zeros 127)) (callAt 4 small)
+folded = within 0 2 (ascii "a ") ((1 ∷ zeros (rowSize - 1)) ++ (2 ∷ zeros (rowSize - 1))) (callAt 4 small)
 
 -- what is right for those that the tables do not have
 abbrev further : List Case
 further =
-    case tight (converted 2 3) (ascii "\n ") (take 384 ((givesAt 2 hand) .ledger))
+    case tight (converted 2 3) (ascii "\n ") (take (3 * rowSize) ((givesAt 2 hand) .ledger))
     ∷ case borrowed (edited 160 (pos 0) 1) (textLent borrowed) (ledgerLent borrowed)
     ∷ case (afresh borrowed)
     (converted 125 2) (put (take 125 ((givesAt 12 hand) .text)) (textLent borrowed)) ((givesAt 12 hand) .ledger)
@@ -133,24 +131,24 @@ further-hold = refl
 
 -- ---- the near passes
 
-abbrev lengthOf : Answer → ℕ
-lengthOf (refused number row) = 0
-lengthOf (converted length blocks) = length
-lengthOf (edited length growth count) = length
+abbrev lengthSaid : Answer → ℕ
+lengthSaid (refused number row) = 0
+lengthSaid (converted len blocks) = len
+lengthSaid (edited len growth count) = len
 
-abbrev numberOf : Answer → ℕ
-numberOf (refused number row) = number
-numberOf (converted length blocks) = 0
-numberOf (edited length growth count) = 0
+abbrev numberSaid : Answer → ℕ
+numberSaid (refused number row) = number
+numberSaid (converted len blocks) = 0
+numberSaid (edited len growth count) = 0
 
-abbrev countOf : Answer → ℕ
-countOf (refused number row) = 0
-countOf (converted length blocks) = blocks
-countOf (edited length growth count) = count
+abbrev countSaid : Answer → ℕ
+countSaid (refused number row) = 0
+countSaid (converted len blocks) = blocks
+countSaid (edited len growth count) = count
 
 -- the text that an edit left is the one that Convert gives
 abbrev TextOfConvert : Result → Result → Type 0
-TextOfConvert r whole = take (lengthOf (whole .answer)) (r .text) ≡ take (lengthOf (whole .answer)) (whole .text)
+TextOfConvert r whole = take (lengthSaid (whole .answer)) (r .text) ≡ take (lengthSaid (whole .answer)) (whole .text)
 
 -- behind the named block, whose text ended at `old` and ends at `new`, stands what was kept there
 abbrev Copied : ℕ → ℕ → ℕ → Call → Result → Type 0
@@ -193,15 +191,15 @@ module _ (p : Program) (meets : Meets p) where
   -- one that refuses all, with whatever number
   pub refuses-all : (n i : ℕ) → ((p letters) .answer ≡ refused n i → ⊥) × ((p formula) .answer ≡ refused n i → ⊥)
   refuses-all n i = (
-    λ h. let z : _≡_ {A = ℕ} 0 4 = ap lengthOf (sym h ∙ ap (λ r. r .answer) letters-is) in omega arith,
-    λ h. let z : _≡_ {A = ℕ} 0 35 = ap lengthOf (sym h ∙ ap (λ r. r .answer) formula-is) in omega arith,
+    λ h. let z : _≡_ {A = ℕ} 0 4 = ap lengthSaid (sym h ∙ ap (λ r. r .answer) letters-is) in omega arith,
+    λ h. let z : _≡_ {A = ℕ} 0 35 = ap lengthSaid (sym h ∙ ap (λ r. r .answer) formula-is) in omega arith,
   )
 
   -- 15 before measuring: the file has more text than the buffer has room for, but what is written fits; or 11 is met first
   pub early-fifteen : ((p tight) .answer ≡ refused 15 0 → ⊥) × ((p item) .answer ≡ refused 15 0 → ⊥)
   early-fifteen = (
-    λ h. let z : _≡_ {A = ℕ} 15 0 = ap numberOf (sym h ∙ ap (λ r. r .answer) (at-call further further-hold 0)) in omega arith,
-    λ h. let z : _≡_ {A = ℕ} 15 11 = ap numberOf (sym h ∙ ap (λ r. r .answer) (at-call hand starred 9)) in omega arith,
+    λ h. let z : _≡_ {A = ℕ} 15 0 = ap numberSaid (sym h ∙ ap (λ r. r .answer) (at-call further further-hold 0)) in omega arith,
+    λ h. let z : _≡_ {A = ℕ} 15 11 = ap numberSaid (sym h ∙ ap (λ r. r .answer) (at-call hand starred 9)) in omega arith,
   )
 
   -- an edit that converts the whole document and works out the count afterwards
@@ -227,8 +225,8 @@ module _ (p : Program) (meets : Meets p) where
   )
 
   -- a count that is always the block total
-  pub always-total : (countOf ((p words) .answer) ≡ 3 → ⊥) × (countOf ((p shouted) .answer) ≡ 3 → ⊥)
+  pub always-total : (countSaid ((p words) .answer) ≡ 3 → ⊥) × (countSaid ((p shouted) .answer) ≡ 3 → ⊥)
   always-total = (
-    λ h. let z : _≡_ {A = ℕ} 3 1 = sym h ∙ ap (λ r. countOf (r .answer)) (at-call small small-hold 0) in omega arith,
-    λ h. let z : _≡_ {A = ℕ} 3 1 = sym h ∙ ap (λ r. countOf (r .answer)) (at-call small small-hold 3) in omega arith,
+    λ h. let z : _≡_ {A = ℕ} 3 1 = sym h ∙ ap (λ r. countSaid (r .answer)) (at-call small small-hold 0) in omega arith,
+    λ h. let z : _≡_ {A = ℕ} 3 1 = sym h ∙ ap (λ r. countSaid (r .answer)) (at-call small small-hold 3) in omega arith,
   )

@@ -5,7 +5,7 @@
 -- has written are 7, so that one sees what is left alone.
 use mathlib.Core.Path.{_≡_, refl}
 use mathlib.Core.List.{List, [], _∷_, _++_, map, flatten}
-use Prim.Native.Nat.{ℕ, _+_, _-_}
+use Prim.Native.Nat.{ℕ, _+_, _*_, _-_}
 use Prim.Native.String.{String}
 use lib.IntN.{ℤ, pos, negℤ}
 use lib.ListN.{length, take, replicate}
@@ -84,12 +84,16 @@ rules = file "quotetabulartable" ((5 ∷ 0 ∷ 255 ∷ 255 ∷ 3 ∷ 0 ∷ 0 ∷
 abbrev sevens : ℕ → List ℕ
 sevens n = replicate n 7
 
-abbrev zeros : ℕ → List ℕ
+abbrev pub zeros : ℕ → List ℕ
 zeros n = replicate n 0
 
 -- a row of the ledger: its first bytes (4 of the length, the flag, whether a label is held, its length, a zero, the label), then zeros
 abbrev row : List ℕ → List ℕ
 row l = l ++ zeros (rowSize - length l)
+
+-- a ledger that no call has written, with two bytes more than the rows of so many blocks
+abbrev ledgerFor : ℕ → List ℕ
+ledgerFor n = sevens (rowSize * n + 2)
 
 abbrev minus : ℕ → ℤ
 minus n = negℤ (pos n)
@@ -160,36 +164,36 @@ hand =
     -- the empty root
     case (converts inText rules (tree "" []) (sevens 2) (sevens 2)) (converted 0 0) (sevens 2) (sevens 2)
     -- Math `ab`
-    ∷ case (converts inMath rules (tree "ab" (word 2 ∷ [])) (sevens 6) (sevens 130))
+    ∷ case (converts inMath rules (tree "ab" (word 2 ∷ [])) (sevens 6) (ledgerFor 1))
     (converted 4 1) (ascii "a b " ++ sevens 2) (row (4 ∷ []) ++ sevens 2)
     -- line feed, space, space: the flag is set behind the first
-    ∷ case (converts inText rules (tree "\n  " (break ∷ space ∷ space ∷ [])) (sevens 4) (sevens 386))
+    ∷ case (converts inText rules (tree "\n  " (break ∷ space ∷ space ∷ [])) (sevens 4) (ledgerFor 3))
     (converted 2 3) (ascii "\n " ++ sevens 2) (row (1 ∷ 0 ∷ 0 ∷ 0 ∷ 1 ∷ []) ++ row (1 ∷ []) ++ row (2 ∷ []) ++ sevens 2)
     -- one leading space
-    ∷ case (converts inText rules (tree " " (space ∷ [])) (sevens 3) (sevens 130))
+    ∷ case (converts inText rules (tree " " (space ∷ [])) (sevens 3) (ledgerFor 1))
     (converted 1 1) (ascii " " ++ sevens 2) (row (1 ∷ []) ++ sevens 2)
     -- Math `{}`
-    ∷ case (converts inMath rules (tree "{}" (braces [])) (sevens 6) (sevens 130))
+    ∷ case (converts inMath rules (tree "{}" (braces [])) (sevens 6) (ledgerFor 1))
     (converted 4 1) (ascii "zws " ++ sevens 2) (row (4 ∷ []) ++ sevens 2)
     -- Math `{a}`
-    ∷ case (converts inMath rules (tree "{a}" (braces (word 1 ∷ []))) (sevens 4) (sevens 130))
+    ∷ case (converts inMath rules (tree "{a}" (braces (word 1 ∷ []))) (sevens 4) (ledgerFor 1))
     (converted 2 1) (ascii "a " ++ sevens 2) (row (2 ∷ []) ++ sevens 2)
     -- Math `x^2`
-    ∷ case (converts inMath rules (tree "x^2" (node ItemAttachComponent 3 ∷ word 1 ∷ caret ∷ word 1 ∷ [])) (sevens 9) (sevens 130))
+    ∷ case (converts inMath rules (tree "x^2" (node ItemAttachComponent 3 ∷ word 1 ∷ caret ∷ word 1 ∷ [])) (sevens 9) (ledgerFor 1))
     (converted 7 1) (ascii "x ^(2 )" ++ sevens 2) (row (7 ∷ []) ++ sevens 2)
     -- Math `^2`
-    ∷ case (converts inMath rules (tree "^2" (node ItemAttachComponent 2 ∷ caret ∷ word 1 ∷ [])) (sevens 10) (sevens 130))
+    ∷ case (converts inMath rules (tree "^2" (node ItemAttachComponent 2 ∷ caret ∷ word 1 ∷ [])) (sevens 10) (ledgerFor 1))
     (converted 8 1) (ascii "zws^(2 )" ++ sevens 2) (row (8 ∷ []) ++ sevens 2)
     -- `$x$`
-    ∷ case (converts inText rules (tree "$x$" (node ItemFormula 3 ∷ dollar ∷ word 1 ∷ dollar ∷ [])) (sevens 37) (sevens 130))
+    ∷ case (converts inText rules (tree "$x$" (node ItemFormula 3 ∷ dollar ∷ word 1 ∷ dollar ∷ [])) (sevens 37) (ledgerFor 1))
     (converted 35 1) (ascii "#math.equation(block: false, $x $);" ++ sevens 2) (row (35 ∷ []) ++ sevens 2)
     -- `\item` as row 1
-    ∷ case (converts inText rules (tree "\\item" item) (sevens 2) (sevens 130)) (refused 11 1) (sevens 2) (sevens 130)
+    ∷ case (converts inText rules (tree "\\item" item) (sevens 2) (ledgerFor 1)) (refused 11 1) (sevens 2) (ledgerFor 1)
     -- the table
-    ∷ case (converts inText rules (tree "tabular{|l|}a\\\\tabular" table) (sevens 126) (sevens 130))
+    ∷ case (converts inText rules (tree "tabular{|l|}a\\\\tabular" table) (sevens 126) (ledgerFor 1))
     (converted 124 1) (tableText ++ sevens 2) (row (124 ∷ []) ++ sevens 2)
     -- `${\label{e}}$` then that table
-    ∷ case (converts inText rules (tree "${\\label{e}}$tabular{|l|}a\\\\tabular" (formula ++ table)) (sevens 165) (sevens 260))
+    ∷ case (converts inText rules (tree "${\\label{e}}$tabular{|l|}a\\\\tabular" (formula ++ table)) (sevens 165) (sevens (rowSize * 2 + 4)))
     (converted 160 2) keptText keptLedger
     -- block 0 edited to `a`, in the buffers that this left
     ∷ case (edits inText rules (tree "atabular{|l|}a\\\\tabular" (word 1 ∷ table)) 0 160 keptText keptLedger)
@@ -222,17 +226,17 @@ small =
     ∷ case (edits inText rules (words "oneelevensix" 6) 1 9 wordsText wordsLedger)
     (edited 12 (pos 3) 1) (ascii "oneelevensix") (row (3 ∷ []) ++ row (9 ∷ []) ++ row (12 ∷ []) ++ sevens 2)
     ∷ case (edits inText rules (words "oneseventhsix" 7) 1 9 wordsText wordsLedger) (refused 15 0) wordsText wordsLedger
-    -- whatever the text came from: what stands before the block and behind it is kept
+    -- whatever the text came from: what stands before the block and after it is kept
     ∷ case (edits inText rules (words "onexsix" 1) 1 9 (ascii "ONETWOSIX") wordsLedger)
     (edited 7 (minus 2) 1) (ascii "ONExSIX" ++ zeros 2) (row (3 ∷ []) ++ row (4 ∷ []) ++ row (7 ∷ []) ++ sevens 2)
-    -- a block begins with the flag of the row before: a space behind a line feed writes nothing
+    -- a block begins with the flag of the row before: a space after a line feed writes nothing
     ∷ case (edits inText rules (tree "\n " (break ∷ space ∷ [])) 1 2 (ascii "\na") (row (1 ∷ 0 ∷ 0 ∷ 0 ∷ 1 ∷ []) ++ row (2 ∷ [])))
     (edited 1 (minus 1) 1) (ascii "\n" ++ zeros 1) (row (1 ∷ 0 ∷ 0 ∷ 0 ∷ 1 ∷ []) ++ row (1 ∷ []))
     -- 6: no such block; the kept length is not the last row's, or exceeds the buffer; a row one byte too short; lengths that fall
     ∷ case (edits inText rules (words "onexsix" 1) 3 9 wordsText wordsLedger) (refused 6 0) wordsText wordsLedger
     ∷ case (edits inText rules (words "onexsix" 1) 1 8 wordsText wordsLedger) (refused 6 0) wordsText wordsLedger
     ∷ case (edits inText rules (words "onexsix" 1) 1 9 (ascii "onetwosi") wordsLedger) (refused 6 0) (ascii "onetwosi") wordsLedger
-    ∷ case (edits inText rules (words "onexsix" 1) 1 9 wordsText (take 383 wordsLedger)) (refused 6 0) wordsText (take 383 wordsLedger)
+    ∷ case (edits inText rules (words "onexsix" 1) 1 9 wordsText (take (rowSize * 3 - 1) wordsLedger)) (refused 6 0) wordsText (take (rowSize * 3 - 1) wordsLedger)
     ∷ case (edits inText rules (words "onexsix" 1) 1 9 wordsText (row (6 ∷ []) ++ row (3 ∷ []) ++ row (9 ∷ [])))
     (refused 6 0) wordsText (row (6 ∷ []) ++ row (3 ∷ []) ++ row (9 ∷ []))
     -- 1 comes before 6, and 6 before 11; the row of an 11 is counted from the root
@@ -242,8 +246,8 @@ small =
     ∷ case (edits inText rules (tree "one\\itemsix" (word 3 ∷ item ++ word 3 ∷ [])) 1 9 wordsText wordsLedger)
     (refused 11 2) wordsText wordsLedger
     -- Convert: the text buffer is one byte too short, or the ledger
-    ∷ case (converts inMath rules (tree "ab" (word 2 ∷ [])) (sevens 3) (sevens 128)) (refused 15 0) (sevens 3) (sevens 128)
-    ∷ case (converts inMath rules (tree "ab" (word 2 ∷ [])) (sevens 4) (sevens 127)) (refused 15 0) (sevens 4) (sevens 127)
+    ∷ case (converts inMath rules (tree "ab" (word 2 ∷ [])) (sevens 3) (sevens rowSize)) (refused 15 0) (sevens 3) (sevens rowSize)
+    ∷ case (converts inMath rules (tree "ab" (word 2 ∷ [])) (sevens 4) (sevens (rowSize - 1))) (refused 15 0) (sevens 4) (sevens (rowSize - 1))
     ∷ []
 
 pub small-hold : map (λ c. result (c .call)) small ≡ map (λ c. c .gives) small

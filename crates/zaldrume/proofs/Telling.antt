@@ -7,34 +7,34 @@ use native.Mathlib.Omega.{arith}
 use lib.IntN.{ℤ}
 use Rattle.edit_meaning.specs.Edit.{Answer, Result, convertDocument, edit}
 use Rattle.edit_meaning.specs.Edit.Answer.{refused, converted, edited}
-use Rattle.edit_meaning.specs.Calls.{Gives}
-use Rattle.edit_meaning.specs.Numbers.{Fifteen, OfConvert, OfEdit}
+use Rattle.edit_meaning.specs.Calls.{Gives, Converts, Edits}
+use Rattle.edit_meaning.specs.Numbers.{Fifteen, ConvertNumber, OfConvert, OfEdit}
 use Rattle.manuscript.specs.Manuscript.{manuscript}
 use Rattle.manuscript.proofs.Answers.{convert-answers, edit-answers}
-use Rattle.zaldrume.specs.Answers.{numberOf, placeOf, growthOf, countOf, Tells, convertTold, editTold}
+use Rattle.zaldrume.specs.Answers.{numberTold, placeTold, growthTold, countTold, Tells, convertTold, editTold}
 
 pub tells :
-    {r : Result} {a : Answer} {text ledger : List ℕ} {growth : ℤ} (b : Answer) → Gives r a text ledger → a ≡ b → growth ≡ growthOf b
-    → Tells r (numberOf b) (placeOf b) growth (countOf b) text ledger
+    {r : Result} {a : Answer} {text ledger : List ℕ} {growth : ℤ} (b : Answer) → Gives r a text ledger → a ≡ b → growth ≡ growthTold b
+    → Tells r (numberTold b) (placeTold b) growth (countTold b) text ledger
 tells {r} b g e grown =
     let same : b ≡ r .answer = sym e ∙ g .answer in
     record {
-      said = ap numberOf same;
-      stands = ap placeOf same;
-      grown = grown ∙ ap growthOf same;
-      counted = ap countOf same;
+      said = ap numberTold same;
+      stands = ap placeTold same;
+      grown = grown ∙ ap growthTold same;
+      counted = ap countTold same;
       bytes = g .bytes;
       rows = g .rows;
     }
 
 -- ---- back from the numbers
 
-convert-spells : (a : Answer) → OfConvert Fifteen a → a ≡ convertTold (numberOf a) (placeOf a) (countOf a)
-convert-spells (refused zero i) h = absurd (omega arith)
+convert-spells : (a : Answer) → OfConvert ConvertNumber a → a ≡ convertTold (numberTold a) (placeTold a) (countTold a)
+convert-spells (refused zero i) h = absurd (omega (arith, h .0 .0))
 convert-spells (refused (suc n) i) h = refl
 convert-spells (converted len n) h = refl
 
-edit-spells : (a : Answer) → OfEdit Fifteen a → a ≡ editTold (numberOf a) (placeOf a) (growthOf a) (countOf a)
+edit-spells : (a : Answer) → OfEdit Fifteen a → a ≡ editTold (numberTold a) (placeTold a) (growthTold a) (countTold a)
 edit-spells (refused zero i) h = absurd (omega arith)
 edit-spells (refused (suc n) i) h = refl
 edit-spells (edited len g n) h = refl
@@ -53,3 +53,14 @@ module _ (mode : ℕ) (rules tree text ledger : List ℕ) {number place count : 
   edit-told block kept t =
       edit-spells _ (edit-answers mode rules tree block kept text ledger)
       ∙ sym (λ i. editTold (t .said i) (t .stands i) (t .grown i) (t .counted i))
+
+  -- so what a caller in another language is told meets the contract of the call
+  pub told-converts :
+      Tells (convertDocument (manuscript mode rules) tree text ledger) number place growth count text′ ledger′
+      → Converts (manuscript mode rules) tree text ledger (convertTold number place count) text′ ledger′
+  told-converts t = record { gives = record { answer = sym (convert-told t); bytes = t .bytes; rows = t .rows } }
+
+  pub told-edits :
+      (block kept : ℕ) → Tells (edit (manuscript mode rules) tree block kept text ledger) number place growth count text′ ledger′
+      → Edits (manuscript mode rules) tree block kept text ledger (editTold number place growth count) text′ ledger′
+  told-edits block kept t = record { gives = record { answer = sym (edit-told block kept t); bytes = t .bytes; rows = t .rows } }
