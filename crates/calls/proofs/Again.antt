@@ -23,7 +23,7 @@ use Rattle.edit_meaning.specs.Calls.{Gives}
 use Rattle.manuscript.specs.Manuscript.{listed, blocksIn}
 use Rattle.passes.specs.Passes.{BlocksUpTo, Stood, Measures, Came, rowNo, converterOf, walkBy}
 use Rattle.passes.specs.declared.Standing.{Standing}
-use Rattle.passes.proofs.Reaching.{listed-count}
+use Rattle.manuscript.proofs.Manuscript.{listed-count}
 use Rattle.passes.proofs.Pieces.{walk-gives, gives-within, came-refused, came-pieces, Came-to}
 use Rattle.calls.specs.Calls.{Document, EndsBefore, CarriesBefore, Measured}
 use Rattle.calls.proofs.Starting.{begin, begins-as, count-left}

@@ -1,4 +1,4 @@
--- What the checks of the files leave, and what that says of Convert and Edit: a refusal of theirs is that of the call (`converts-shut`,
+-- What the checks of the files leave is what a call begins with (`begins`). A refusal of theirs is that of the call (`converts-shut`,
 -- `edits-shut`); else the call is about the document that the rows and the text spell (`document`, `converts`, `edits`).
 use mathlib.Core.Path.{_≡_, refl, sym, ap, subst, _∙_}
 use mathlib.Core.Option.{Option}
@@ -11,6 +11,7 @@ use Rattle.text.specs.Numbers.{Bytes}
 use Rattle.mitex_spec.specs.Rules.{Rule}
 use Rattle.mitex_spec.specs.RuleFile.{rulesOf}
 use Rattle.mitex_spec.specs.Index.{SomeRules}
+use Rattle.mitex_syntax.specs.Spells.{SpellsAll}
 use Rattle.mitex_syntax.proofs.Trees.{size-some}
 use Rattle.tree_file.specs.Check.{Verdict, checkTree, blocksOf, checkedAnswer}
 use Rattle.tree_file.specs.Check.Verdict.{refused as unfit, accepted}
@@ -19,15 +20,14 @@ use Rattle.tree_file.specs.declared.Checked.the-variants.{Whole, Refused}
 use Rattle.tree_file.proofs.Bridge.{Answered, answered, accepted-says, answer-blocks}
 use Rattle.mitex_meaning.specs.declared.LaTeXMode.{LaTeXMode}
 use Rattle.mitex_meaning.specs.declared.LaTeXMode.the-variants.{Text, Math}
-use Rattle.edit_meaning.specs.Walk.{BlockConverter}
-use Rattle.edit_meaning.specs.Walk.{CheckedFile}
+use Rattle.edit_meaning.specs.Walk.{BlockConverter, CheckedFile}
 use Rattle.edit_meaning.specs.Walk.CheckedFile.{bad, good}
 use Rattle.edit_meaning.specs.Edit.{Result, settle, fromCheck, conversion, convertDocument, editChecked, edit}
 use Rattle.edit_meaning.specs.Edit.Answer.{refused}
 use Rattle.edit_meaning.specs.Calls.{Gives, Converts, Edits}
 use Rattle.manuscript.specs.Manuscript.{modeOf, listed, byTree, byRules, byMode, manuscriptIn, manuscript, blocksIn}
 use Rattle.manuscript.proofs.Manuscript.{opened-as}
-use Rattle.calls.specs.Calls.{answerOfConvert, answerOfEdit, openTree, openRules, opened, Indexed, Document, ConvertsBlocks, EditsBlocks}
+use Rattle.calls.specs.Calls.{answerOfConvert, answerOfEdit, openTree, openRules, opened, FilesOpen, Begins, blockRows, Document, ConvertsBlocks, EditsBlocks}
 use Rattle.calls.specs.declared.Converted.{Converted}
 use Rattle.calls.specs.declared.Converted.the-variants.{Refused as NotConverted}
 use Rattle.calls.specs.declared.Edited.{Edited}
@@ -65,10 +65,6 @@ opened-no-rules zero p v h e = sym (ap (λ x. openRules Text x v) e)
 opened-no-rules (suc zero) p v h e = sym (ap (λ x. openRules Math x v) e)
 opened-no-rules (suc (suc n)) p v h e = absurd (omega arith)
 
-pub indexed : (r : Opened) {rules index : List ℕ} → SomeRules rules index → Indexed r rules index
-indexed (Shut number row) s = tt
-indexed (Open m start blocks) s = s
-
 -- ---- refused
 
 shut-tree : (m : LaTeXMode) (v : Verdict) {n row : ℕ} → openTree m (checkedAnswer v) ≡ Shut n row → byTree v ≡ bad n row
@@ -90,45 +86,44 @@ shut-mode (some m) p tree e = shut-rules m p tree e
 -- ---- opened
 
 -- what is open: the mode, and the answer of the tree's check
-pub record Opens (o : Option LaTeXMode) (v : Checked) (m : LaTeXMode) (start n : ℕ) : Type 0 where
-  pub mode-is : o ≡ some m
-  pub rows : ℕ
-  pub checked : v ≡ Whole start rows n
+record Opens (o : Option LaTeXMode) (v : Checked) (m : LaTeXMode) (start n : ℕ) : Type 0 where
+  in-mode : o ≡ some m
+  rows : ℕ
+  checked : v ≡ Whole start rows n
 
 opens-tree : (m : LaTeXMode) (v : Checked) {k : LaTeXMode} {start n : ℕ} → openTree m v ≡ Open k start n → Opens (some m) v k start n
 opens-tree m (Refused number row) e = let z : _≡_ {A = ℕ} 0 1 = cc in absurd (omega arith)
 opens-tree m (Whole s r b) {k} {start} {n} e =
-    record { mode-is = cc; rows = r; checked = let x : s ≡ start = cc in let y : b ≡ n = cc in λ i. Whole (x i) r (y i) }
+    record { in-mode = cc; rows = r; checked = let x : s ≡ start = cc in let y : b ≡ n = cc in λ i. Whole (x i) r (y i) }
 
-pub opens :
+opens :
     (o : Option LaTeXMode) (p : Option (List Rule)) (v : Checked) {k : LaTeXMode} {start n : ℕ} → opened o p v ≡ Open k start n
     → Opens o v k start n
 opens nothing p v e = let z : _≡_ {A = ℕ} 0 1 = cc in absurd (omega arith)
 opens (some m) nothing v e = let z : _≡_ {A = ℕ} 0 1 = cc in absurd (omega arith)
 opens (some m) (some rs) v e = opens-tree m v e
 
--- the files are open: the tree file's bytes, the answer of its check, and the index of the rules
-pub record FilesOpen (mode : ℕ) (file tree index : List ℕ) (m : LaTeXMode) (start n : ℕ) : Type 0 where
-  pub bytes : Bytes tree
-  pub opens : Opens (modeOf mode) (checkedAnswer (checkTree tree)) m start n
-  pub rules : SomeRules file index
+-- ---- what a call begins with
 
-pub reads :
-    {mode : ℕ} {file tree index : List ℕ} {m : LaTeXMode} {start n : ℕ} {v : Opened} → Bytes tree
-    → v ≡ opened (modeOf mode) (rulesOf file) (checkedAnswer (checkTree tree)) → Indexed v file index → v ≡ Open m start n
-    → FilesOpen mode file tree index m start n
-reads {mode} {file} {tree} {index} by e ix f =
-    record {
-      bytes = by;
-      opens = opens (modeOf mode) (rulesOf file) (checkedAnswer (checkTree tree)) (sym e ∙ f);
-      rules = subst (λ (r : Opened). Indexed r file index) f ix;
-    }
+module _ (mode : ℕ) (file tree index : List ℕ) where
+  pub begins-shut :
+      {n row : ℕ} → Shut n row ≡ opened (modeOf mode) (rulesOf file) (checkedAnswer (checkTree tree))
+      → Begins mode file tree index (Shut n row)
+  begins-shut e = shut-mode (modeOf mode) (rulesOf file) tree (sym e)
+
+  pub begins :
+      (v : Opened) → Bytes tree → SomeRules file index → v ≡ opened (modeOf mode) (rulesOf file) (checkedAnswer (checkTree tree))
+      → Begins mode file tree index v
+  begins (Shut n row) by rs e = begins-shut e
+  begins (Open m start n) by rs e =
+      let o = opens (modeOf mode) (rulesOf file) (checkedAnswer (checkTree tree)) (sym e) in
+      record { in-mode = o .in-mode; indexed = rs; bytes = by; rows = o .rows; checked = o .checked }
 
 module _ {mode : ℕ} {file tree index : List ℕ} {m : LaTeXMode} {start n : ℕ} (o : FilesOpen mode file tree index m start n) where
-  abbrev pub there : Answered tree start (o .opens .rows) n
-  there = answered tree start (o .opens .rows) n (o .opens .checked)
+  abbrev pub there : Answered tree start (o .rows) n
+  there = answered tree start (o .rows) n (o .checked)
 
-  -- the file has a root's row and a trailer behind its text
+  -- the file has a root's row and a trailer after its text
   pub long : start + 16 ≤ length tree
   long =
       let a = accepted-says tree (o .bytes) (there .tree) (there .is) in
@@ -137,62 +132,55 @@ module _ {mode : ℕ} {file tree index : List ℕ} {m : LaTeXMode} {start n : �
   pub trailer : length tree - 8 + 8 ≡ length tree
   trailer = omega (arith, long)
 
-  -- the rows after the root's, and the text
-  abbrev pub blockRows : List ℕ
-  blockRows = take (length tree - 8 - (start + 8)) (drop (start + 8) tree)
+  module _ {rows : List ℕ} (rows-are : rows ≡ blockRows start tree) where
+    -- the document: the rows after the root's, and the text
+    abbrev pub document : Document file index rows (take start tree) n
+    document =
+        let b = answer-blocks tree (o .bytes) start (o .rows) n there (length tree - 8) trailer in
+        record {
+          rs = o .indexed .rules;
+          ready = o .indexed .ready;
+          blocks = blocksOf (there .tree);
+          spells = subst (λ r. SpellsAll (blocksOf (there .tree)) r (take start tree)) (sym rows-are) (b .spells);
+          many = sym (there .blocks-are);
+          most = omega (arith, b .few, there .blocks-are);
+          few = omega (arith, b .short, ap length rows-are, length-take (length tree - 8 - (start + 8)) (drop (start + 8) tree), length-drop (start + 8) tree);
+          short = omega (arith, b .short, length-take start tree);
+        }
 
-  abbrev pub document : Document file index blockRows (take start tree) n
-  document =
-      let b = answer-blocks tree (o .bytes) start (o .opens .rows) n there (length tree - 8) trailer in
-      record {
-        rs = o .rules .rules;
-        ready = o .rules .ready;
-        blocks = blocksOf (there .tree);
-        spells = b .spells;
-        many = sym (there .blocks-are);
-        most = omega (arith, b .few, there .blocks-are);
-        few = omega (arith, b .short, length-take (length tree - 8 - (start + 8)) (drop (start + 8) tree), length-drop (start + 8) tree);
-        short = omega (arith, b .short, length-take start tree);
-      }
+    -- a call over the checked tree is one over the blocks
+    opened-call :
+        (call : (𝓒 : BlockConverter) → CheckedFile (𝓒 .Block) → Result)
+        → call (manuscript mode file) ((manuscript mode file) .check tree)
+        ≡ call (blocksIn m (document .rs)) (good (listed (document .blocks)))
+    opened-call = opened-as mode file tree (o .in-mode) (o .indexed .ready .decodes) (there .is)
 
-  -- a call over the checked tree is one over the blocks
-  opened-call :
-      (call : (𝓒 : BlockConverter) → CheckedFile (𝓒 .Block) → Result)
-      → call (manuscript mode file) ((manuscript mode file) .check tree)
-      ≡ call (blocksIn m (document .rs)) (good (listed (document .blocks)))
-  opened-call = opened-as mode file tree (o .opens .mode-is) (o .rules .ready .decodes) (there .is)
+    pub converts :
+        (r : Converted) {out ledger out′ ledger′ : List ℕ} → ConvertsBlocks file index rows (take start tree) m n out ledger r out′ ledger′
+        → Converts (manuscript mode file) tree out ledger (answerOfConvert r) out′ ledger′
+    unfolding convertDocument conversion
+    converts r {out} {ledger} {out′} {ledger′} g =
+        record {
+          gives =
+              subst (λ (x : Result). Gives x (answerOfConvert r) out′ ledger′)
+              (sym (opened-call (λ 𝓒 v. settle (fromCheck 𝓒 v) out ledger))) (g document);
+        }
 
-  pub converts :
-      (r : Converted) {out ledger out′ ledger′ : List ℕ}
-      → ConvertsBlocks file index blockRows (take start tree) m n out ledger r out′ ledger′
-      → Converts (manuscript mode file) tree out ledger (answerOfConvert r) out′ ledger′
-  unfolding convertDocument conversion
-  converts r {out} {ledger} {out′} {ledger′} g =
-      record {
-        gives =
-            subst (λ (x : Result). Gives x (answerOfConvert r) out′ ledger′) (sym (opened-call (λ 𝓒 v. settle (fromCheck 𝓒 v) out ledger)))
-            (g document);
-      }
-
-  pub edits :
-      (r : Edited) {k kept : ℕ} {out ledger out′ ledger′ : List ℕ}
-      → EditsBlocks file index blockRows (take start tree) m n k kept out ledger r out′ ledger′
-      → Edits (manuscript mode file) tree k kept out ledger (answerOfEdit r) out′ ledger′
-  unfolding edit
-  edits r {k} {kept} {out} {ledger} {out′} {ledger′} g =
-      record {
-        gives =
-            subst (λ (x : Result). Gives x (answerOfEdit r) out′ ledger′) (sym (opened-call (λ 𝓒 v. editChecked 𝓒 v k kept out ledger)))
-            (g document);
-      }
+    pub edits :
+        (r : Edited) {k kept : ℕ} {out ledger out′ ledger′ : List ℕ}
+        → EditsBlocks file index rows (take start tree) m n k kept out ledger r out′ ledger′
+        → Edits (manuscript mode file) tree k kept out ledger (answerOfEdit r) out′ ledger′
+    unfolding edit
+    edits r {k} {kept} {out} {ledger} {out′} {ledger′} g =
+        record {
+          gives =
+              subst (λ (x : Result). Gives x (answerOfEdit r) out′ ledger′)
+              (sym (opened-call (λ 𝓒 v. editChecked 𝓒 v k kept out ledger))) (g document);
+        }
 
 -- ---- refused by the checks
 
-module _ (mode : ℕ) (file tree : List ℕ) {v : Opened} {n row : ℕ} (e : v ≡ opened (modeOf mode) (rulesOf file) (checkedAnswer (checkTree tree)))
-    (f : v ≡ Shut n row) where
-  shut : (manuscript mode file) .check tree ≡ bad n row
-  shut = shut-mode (modeOf mode) (rulesOf file) tree (sym e ∙ f)
-
+module _ (mode : ℕ) (file tree : List ℕ) {n row : ℕ} (shut : (manuscript mode file) .check tree ≡ bad n row) where
   pub converts-shut : {out ledger : List ℕ} → Converts (manuscript mode file) tree out ledger (answerOfConvert (NotConverted n row)) out ledger
   unfolding convertDocument conversion settle
   converts-shut {out} {ledger} =

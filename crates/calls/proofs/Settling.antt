@@ -30,7 +30,7 @@ use Rattle.passes.specs.Passes.{Pieced, Stood, Came, Measures, Writes}
 use Rattle.passes.specs.declared.Standing.{Standing}
 use Rattle.manuscript.proofs.Manuscript.{keeps-short}
 use Rattle.passes.proofs.Pieces.{walk-gives, came-refused, Came-to, came-pieces}
-use Rattle.passes.proofs.Reaching.{listed-count}
+use Rattle.manuscript.proofs.Manuscript.{listed-count}
 use Rattle.calls.specs.Calls.{Document, Draft, Delivers}
 use Rattle.calls.proofs.Starting.{begin, begins-as}
 

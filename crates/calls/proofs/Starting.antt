@@ -16,7 +16,7 @@ use Rattle.edit_meaning.specs.Walk.{rowsAll}
 use Rattle.manuscript.specs.Manuscript.{listed, blocksIn}
 use Rattle.passes.specs.Passes.{Outside, BlocksUpTo, SomeBlocks, Stood, rowNo, converterOf, walkBy}
 use Rattle.passes.specs.declared.Standing.{Standing}
-use Rattle.passes.proofs.Reaching.{listed-count}
+use Rattle.manuscript.proofs.Manuscript.{listed-count}
 use Rattle.calls.specs.Calls.{Document}
 
 module _ {rules index rows text : List ℕ} {n : ℕ} (w : Document rules index rows text n) where

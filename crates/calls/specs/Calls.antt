@@ -5,13 +5,15 @@ use mathlib.Core.Option.{Option}
 use mathlib.Core.Option.Option.{none as nothing, some}
 use mathlib.Core.List.{List}
 use Prim.Native.Nat.{ℕ, _+_, _*_, _-_, _≤_, min}
-use lib.ListN.{length, take}
+use lib.ListN.{length, take, drop}
+use Rattle.text.specs.Numbers.{Bytes}
 use Rattle.text.specs.Writing.{cap}
 use Rattle.mitex_spec.specs.Rules.{Rule}
 use Rattle.mitex_spec.specs.Index.{Ready, SomeRules}
 use Rattle.mitex_syntax.specs.Tree.{Forest, count}
 use Rattle.mitex_syntax.specs.Spells.{SpellsAll}
 use Rattle.tree_file.specs.Layout.{fileMost, blocksMost}
+use Rattle.tree_file.specs.Check.{checkTree, checkedAnswer}
 use Rattle.tree_file.specs.declared.Checked.{Checked}
 use Rattle.tree_file.specs.declared.Checked.the-variants.{Whole as Sound, Refused as Bad}
 use Rattle.mitex_meaning.specs.State.{newOf, carryOf, Carried}
@@ -20,11 +22,11 @@ use Rattle.mitex_meaning.specs.declared.LaTeXMode.{LaTeXMode}
 use Rattle.mitex_meaning.specs.declared.Converter.{Converter}
 use Rattle.ledger.specs.Ledger.{rowSize, decodeRows, encodeRows, fits, Piece, written, rowsFrom}
 use Rattle.edit_meaning.specs.Walk.{walk}
-use Rattle.edit_meaning.specs.Walk.CheckedFile.{good}
+use Rattle.edit_meaning.specs.Walk.CheckedFile.{bad, good}
 use Rattle.edit_meaning.specs.Edit.{Answer, settle, endBefore, carryBefore, textAfter, ledgerAfter, write, editChecked}
 use Rattle.edit_meaning.specs.Edit.Answer.{refused, converted, edited}
 use Rattle.edit_meaning.specs.Calls.{Gives}
-use Rattle.manuscript.specs.Manuscript.{listed, blocksIn}
+use Rattle.manuscript.specs.Manuscript.{modeOf, listed, manuscript, blocksIn}
 use Rattle.passes.specs.Passes.{BlocksGiven, Pieced, converterOf, WrotePieces}
 use Rattle.passes.specs.Passes.{FirstPieces}
 use Rattle.passes.specs.declared.Standing.{Standing}
@@ -39,11 +41,11 @@ use Rattle.calls.specs.declared.Opened.the-variants.{Shut, Open}
 
 abbrev pub answerOfConvert : Converted → Answer
 answerOfConvert (NotConverted number row) = refused number row
-answerOfConvert (WasConverted length blocks) = converted length blocks
+answerOfConvert (WasConverted len blocks) = converted len blocks
 
 abbrev pub answerOfEdit : Edited → Answer
 answerOfEdit (NotEdited number row) = refused number row
-answerOfEdit (WasEdited length growth count) = edited length growth count
+answerOfEdit (WasEdited len growth count) = edited len growth count
 
 -- ---- the files
 
@@ -60,10 +62,22 @@ abbrev pub opened : Option LaTeXMode → Option (List Rule) → Checked → Open
 opened nothing rules v = Shut 1 0
 opened (some m) rules v = openRules m rules v
 
--- and the index of the rules
-abbrev pub Indexed : Opened → List ℕ → List ℕ → Type 0
-Indexed (Shut number row) rules index = Unit {0}
-Indexed (Open m start blocks) rules index = SomeRules rules index
+-- the files are open: the mode, the index of the rules, the tree file's bytes and the answer of its check
+pub record FilesOpen (mode : ℕ) (rules tree index : List ℕ) (m : LaTeXMode) (start n : ℕ) : Type 0 where
+  pub in-mode : modeOf mode ≡ some m
+  pub indexed : SomeRules rules index
+  pub bytes : Bytes tree
+  pub rows : ℕ
+  pub checked : checkedAnswer (checkTree tree) ≡ Sound start rows n
+
+-- what a call begins with: a refusal of the checks, or open files
+abbrev pub Begins : (mode : ℕ) (rules tree index : List ℕ) → Opened → Type 0
+Begins mode rules tree index (Shut number row) = (manuscript mode rules) .check tree ≡ bad number row
+Begins mode rules tree index (Open m start n) = FilesOpen mode rules tree index m start n
+
+-- the rows after the root's, in a tree file whose rows start there
+abbrev pub blockRows : ℕ → List ℕ → List ℕ
+blockRows start tree = take (length tree - 8 - (start + 8)) (drop (start + 8) tree)
 
 -- a document past the checks: its rules, and its blocks, spelt by the rows after the root's
 pub record Document (rules index rows text : List ℕ) (n : ℕ) : Type 0 where

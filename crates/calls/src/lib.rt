@@ -4,6 +4,7 @@ use mitex_meaning::Converter;
 use mitex_meaning::LaTeXMode;
 use mitex_spec::INDEX_SIZE;
 use passes::Standing;
+use tree_file::BLOCKS_MOST;
 use tree_file::Checked;
 ghost use mathlib.Core.Path.{_≡_};
 ghost use mathlib.Core.Bool.{true, _&&_};
@@ -22,28 +23,31 @@ ghost use Rattle.edit_meaning.specs.Edit.{textMost, roomForText, editFits};
 ghost use Rattle.edit_meaning.specs.Run.{sizeAfter};
 ghost use Rattle.edit_meaning.specs.Calls.{Converts, Edits, Runs, Demanded};
 ghost use Rattle.manuscript.specs.Manuscript.{modeOf, manuscript};
-ghost use Rattle.calls.specs.Calls.{answerOfConvert, answerOfEdit, openTree, opened, Indexed, Document, Draft, Delivers, ConvertsBlocks, EndsBefore, CarriesBefore, Measured, oldEnd, Overwrites, Splices, EditsBlocks};
+ghost use Rattle.calls.specs.Calls.{answerOfConvert, answerOfEdit, openTree, opened, Begins, blockRows, Document, Draft, Delivers, ConvertsBlocks, EndsBefore, CarriesBefore, Measured, oldEnd, Overwrites, Splices, EditsBlocks};
 ghost use Rattle.calls.specs.Three.{threeEdits, threeAnswers};
 
 // A text buffer counts as at most so many bytes.
 const TEXT_MOST: usize = 4294967295;
 
-// Bytes of a draft's text, and as many of its rows: those of 512 blocks, the most that a document has.
+// Bytes of a draft's text. Its rows are those of the most blocks that a document has.
 const DRAFT: usize = 65536;
 
-// The same for a short document.
+const DRAFT_ROWS: usize = ROW_SIZE * BLOCKS_MOST;
+
+// The same for a short document, which has at most so many blocks, and at most so many bytes of token texts: half of what the draft
+// holds, since the text that they come to is seldom twice as long.
 const SHORT_DRAFT: usize = 8192;
 
-// A short document has at most so many blocks, whose rows have room in its draft.
+const SHORT_ROWS: usize = ROW_SIZE * SHORT_BLOCKS;
+
 const SHORT_BLOCKS: usize = 64;
 
-// And at most so many bytes of token texts, half of what its draft can hold: the text that they come to is seldom twice as long.
 const SHORT_TEXT: usize = 4096;
 
-// The same for a document that is not short, and not long either: a draft's text, its rows, its blocks and its token texts.
+// The same for a document that is not short, and not long either.
 const MIDDLE_DRAFT: usize = 32768;
 
-const MIDDLE_ROWS: usize = 16384;
+const MIDDLE_ROWS: usize = ROW_SIZE * MIDDLE_BLOCKS;
 
 const MIDDLE_BLOCKS: usize = 128;
 
@@ -68,12 +72,12 @@ pub enum Edited {
     },
 }
 
-// What three edits in a row answered, and the text's length behind them.
+// What three edits in a row answered, and the text's length after them.
 pub struct Three {
     pub first: Edited,
     pub second: Edited,
     pub third: Edited,
-    pub length: usize,
+    pub kept: usize,
 }
 
 // What refusals 1 to 5 leave: a mode, where the tree file's rows begin, and how many blocks there are.
@@ -109,11 +113,11 @@ fn open_tree(mode: LaTeXMode, tree: &[u8]) -> Opened
     }
 }
 
-// Refusals 1 to 5; where there is none the index is that of the rules.
+// What every call begins with: refusals 1 to 5; where there is none the index is that of the rules.
 fn open(mode: u8, rules: &[u8], tree: &[u8], index: &mut [u32]) -> Opened
     requires { ⌜ length (now index) ≡ indexSize ⌝ }
     ensures answer { λ r. ⌜ r ≡ opened (modeOf mode) (rulesOf (now (rules .entry))) (checkedAnswer (checkTree (now (tree .entry)))) ⌝ }
-    ensures index { λ r. ⌜ Indexed r (now (rules .entry)) (now (index .exit)) ⌝ }
+    ensures begins { λ r. ⌜ Begins mode (now (rules .entry)) (now (tree .entry)) (now (index .exit)) r ⌝ }
 {
     if 1 < mode {
         return Opened::Shut { number: 1, row: 0 };
@@ -127,7 +131,17 @@ fn open(mode: u8, rules: &[u8], tree: &[u8], index: &mut [u32]) -> Opened
     open_tree(LaTeXMode::Math, tree)
 }
 
-// ---- what both begin with
+// The rows of the blocks in a tree file whose rows start there: those after the root's.
+fn block_rows(tree: &[u8], start: usize) -> &[u8]
+    requires { ⌜ start + 16 ≤ length (now tree) ⌝ }
+    ensures { λ r. ⌜ now r ≡ blockRows start (now (tree .entry)) ⌝ }
+{
+    let from = start + 8;
+    let end = tree.len() - 8;
+    &tree[from..end]
+}
+
+// ---- what Convert and Edit share
 
 // A new converter past the root: its flag is cleared.
 fn opening(mode: LaTeXMode) -> Converter
@@ -273,7 +287,7 @@ fn convert_longer<'a>(
         );
     }
     let mut draft = [0u8; DRAFT];
-    let mut draft_rows = [0u8; DRAFT];
+    let mut draft_rows = [0u8; DRAFT_ROWS];
     convert_by_draft(
         &mut draft,
         &mut draft_rows,
@@ -304,7 +318,7 @@ fn convert_blocks<'a>(
 {
     if is_within(text, blocks, SHORT_TEXT, SHORT_BLOCKS) {
         let mut draft = [0u8; SHORT_DRAFT];
-        let mut draft_rows = [0u8; SHORT_DRAFT];
+        let mut draft_rows = [0u8; SHORT_ROWS];
         return convert_by_draft(
             &mut draft,
             &mut draft_rows,
@@ -338,20 +352,16 @@ pub fn convert<'a>(
             mode: m,
             start,
             blocks,
-        } => {
-            let from = start + 8;
-            let end = tree.len() - 8;
-            convert_blocks(
-                &tree[from..end],
-                &tree[..start],
-                rules,
-                &index,
-                m,
-                blocks,
-                text,
-                ledger,
-            )
-        }
+        } => convert_blocks(
+            block_rows(tree, start),
+            &tree[..start],
+            rules,
+            &index,
+            m,
+            blocks,
+            text,
+            ledger,
+        ),
     }
 }
 
@@ -551,28 +561,24 @@ pub fn edit<'a>(
             mode: m,
             start,
             blocks,
-        } => {
-            let from = start + 8;
-            let end = tree.len() - 8;
-            edit_blocks(
-                &tree[from..end],
-                &tree[..start],
-                rules,
-                &index,
-                m,
-                blocks,
-                block,
-                kept,
-                text,
-                ledger,
-            )
-        }
+        } => edit_blocks(
+            block_rows(tree, start),
+            &tree[..start],
+            rules,
+            &index,
+            m,
+            blocks,
+            block,
+            kept,
+            text,
+            ledger,
+        ),
     }
 }
 
 // ---- three edits in a row
 
-// The text's length behind an edit: a refused one leaves it as it was.
+// The text's length after an edit: a refused one leaves it as it was.
 fn length_after(r: Edited, kept: usize) -> usize
     ensures { λ n. ⌜ n ≡ sizeAfter (answerOfEdit r) kept ⌝ }
 {
@@ -602,21 +608,21 @@ pub fn three_edits<'a>(
 ) -> Three
     ensures run { λ r. ⌜ Runs (manuscript mode (now (rules .entry))) kept (now (text .entry)) (now (ledger .entry))
         (threeEdits (now (one .entry)) i (now (two .entry)) j (now (three .entry)) k)
-        (threeAnswers r) (r .length) (now (text .exit)) (now (ledger .exit)) ⌝ }
+        (threeAnswers r) (r .kept) (now (text .exit)) (now (ledger .exit)) ⌝ }
     ensures demand { λ r. ⌜ Demanded (manuscript mode (now (rules .entry))) kept (now (text .entry)) (now (ledger .entry))
         (threeEdits (now (one .entry)) i (now (two .entry)) j (now (three .entry)) k)
-        (threeAnswers r) (r .length) (now (text .exit)) (now (ledger .exit)) ⌝ }
+        (threeAnswers r) (r .kept) (now (text .exit)) (now (ledger .exit)) ⌝ }
 {
     let first = edit(mode, rules, one, i, kept, text, ledger);
     let after_one = length_after(first, kept);
     let second = edit(mode, rules, two, j, after_one, text, ledger);
     let after_two = length_after(second, after_one);
     let third = edit(mode, rules, three, k, after_two, text, ledger);
-    let length = length_after(third, after_two);
+    let after_three = length_after(third, after_two);
     Three {
         first,
         second,
         third,
-        length,
+        kept: after_three,
     }
 }

@@ -16,15 +16,11 @@ use Rattle.mitex_meaning.specs.Contract.{Went}
 use Rattle.mitex_meaning.specs.declared.Converter.{Converter}
 use Rattle.edit_meaning.specs.Walk.{rowsAll}
 use Rattle.manuscript.specs.Manuscript.{listed}
+use Rattle.manuscript.proofs.Manuscript.{listed-count}
 use Rattle.passes.specs.Passes.{SomeBlocks, StandsBefore}
 use Rattle.passes.specs.declared.Standing.{Standing}
 
 -- ---- counting blocks and their rows
-
-pub listed-count : (f : Forest) → length (listed f) ≡ count f
-unfolding count
-listed-count none = refl
-listed-count (more t f) = omega (arith, listed-count f)
 
 -- each block has a row or more
 pub count-sizes : (f : Forest) → count f ≤ sizes f

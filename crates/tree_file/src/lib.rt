@@ -44,7 +44,7 @@ const FILE_MOST: usize = 65536;
 const DEPTH_MOST: usize = 64;
 
 // The blocks are at most so many.
-const BLOCKS_MOST: usize = 512;
+pub const BLOCKS_MOST: usize = 512;
 
 // One-byte characters are at most this.
 const ONE_BYTE: u8 = 127;

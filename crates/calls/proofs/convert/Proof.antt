@@ -1,63 +1,50 @@
 -- `convert`: a refusal of the checks is handed on (`converts-shut`); else the call is that over the document's blocks (`converts`).
-use mathlib.Core.Path.{sym}
+use mathlib.Core.Path.{sym, subst}
 use native.Mathlib.Omega.{arith}
 use borrow.Author.Needs.{needs}
 use lib.Seq.{length-take-le}
-use Rattle.calls.proofs.Files.{FilesOpen, reads, long, document, converts, converts-shut}
+use Rattle.calls.specs.Calls.{Begins}
+use Rattle.calls.specs.declared.Opened.{Opened}
+use Rattle.calls.specs.declared.Opened.the-variants.{Open}
+use Rattle.calls.proofs.Files.{long, document, converts, converts-shut}
 use Rattle.calls.proofs.convert.Statement.{statement}
 use Rattle.calls.proofs.convert.Tie as tie
 
--- the function's entry, from behind the checks
+-- the function's entry, from where the files were opened
 abbrev start : tie.After-open → tie.Start
 start c = let d = c .before .before .before in d .before .before .before
 
+-- what it begins with
+abbrev Here : tie.After-open → Opened → Type 0
+Here c = let a = start c .args in Begins (a .mode) (a .rules .now) (a .tree .now) (c .«open» .last .1 .1 .1 .0)
+
 -- the files are open
-here :
-    (c : tie.After-m)
-    → let d = c .before .before .before in
-    let a = start d .args in
-    let g = c .m .given .0 in
-    FilesOpen (a .mode) (a .rules .now) (a .tree .now) (d .«open» .last .1 .1 .1 .0) (g .0) (g .1 .0) (g .1 .1 .0)
-here c =
-    let d = c .before .before .before in
-    let k = d .before .before .before .before in
-    reads (λ i. omega (arith, k .shared-slice-known2 .given i)) (d .«open» .ensures .0) (d .«open» .ensures .1) (c .m .given .1)
+here : (c : tie.After-m) → let g = c .m .given .0 in Here (c .before .before .before) (Open (g .0) (g .1 .0) (g .1 .1 .0))
+here c = let d = c .before .before .before in subst (Here d) (c .m .given .1) (d .«open» .ensures .1)
 
-add-from : tie.Need-add-from
-add-from c =
-    let d = c .before .before .before .before in
-    let k = d .before .before .before .before in
-    omega (arith, long (here (c .before)), k .shared-slice-known2 .given 0)
-
-sub-end : tie.Need-sub-end
-sub-end c = omega (arith, long (here (c .before)))
-
-sub-convert-blocks : tie.Need-sub-convert-blocks
-sub-convert-blocks c = omega (arith, long (here (c .before)))
-
-part-convert-blocks-start : tie.Need-part-convert-blocks-start
-part-convert-blocks-start c = omega (arith, long (here (c .before)))
+-- where the blocks' rows are known, from the call over them
+abbrev given : tie.After-convert-blocks-arg3 → tie.After-block-rows
+given c = c .before .before .before .before
 
 slice-aggregate-convert-blocks : tie.Need-slice-aggregate-convert-blocks
 slice-aggregate-convert-blocks c =
     let m = c .before .before .before in
-    sym
-    (length-take-le (m .m .given .0 .1 .0) (start (m .before .before .before) .args .tree .now) (omega (arith, long (here m))))
+    sym (length-take-le _ _ (omega (arith, long (here m))))
 
 convert-blocks-requires : tie.Need-convert-blocks-requires
-convert-blocks-requires c κs = let d = c .before .before .before in document (here (d .before .before .before))
+convert-blocks-requires c κs = let r = given c in document (here (r .before .before)) (r .block-rows .ensures)
 
 returns : tie.Need-returns
 returns c =
     let d = c .before .before .before .before in
     let a = start d .args in
-    converts-shut (a .mode) (a .rules .now) (a .tree .now) (d .«open» .ensures .0) (c .before .number .given .1)
+    converts-shut (a .mode) (a .rules .now) (a .tree .now) (subst (Here d) (c .before .number .given .1) (d .«open» .ensures .1))
 
 returns-2 : tie.Need-returns-2
 returns-2 c =
     let b = c .before .before .before .before in
-    let d = b .before .before .before in
-    converts (here (d .before .before .before .before)) (b .convert-blocks .result) (b .convert-blocks .ensures)
+    let r = given (b .before) in
+    converts (here (r .before .before)) (r .block-rows .ensures) (b .convert-blocks .result) (b .convert-blocks .ensures)
 
 pub convert-spec : {M : Type 1} → statement M
 convert-spec =
@@ -67,11 +54,7 @@ convert-spec =
     (λ c κs. search needs)
     (λ c. search needs)
     (λ c. search needs)
-    add-from
-    sub-end
-    sub-convert-blocks
-    part-convert-blocks-start
-    (λ c. search needs)
+    (λ c κs. omega (arith, long (here (c .before))))
     slice-aggregate-convert-blocks
     (λ c. search needs)
     convert-blocks-requires

@@ -1,7 +1,8 @@
 -- The three calls, one after the other, are the run of the three (`runs-more`), and so what demand 3 says of runs holds of them.
 use borrow.Author.Needs.{needs}
 use Rattle.mitex_spec.specs.RuleFile.{rulesOf}
-use Rattle.edit_meaning.proofs.Calls.{runs-none, runs-more, runs-demanded}
+use Rattle.edit_meaning.specs.Calls.Runs.{no-call}
+use Rattle.edit_meaning.proofs.Calls.{runs-more, runs-demanded}
 use Rattle.manuscript.specs.Manuscript.{modeOf, manuscript}
 use Rattle.manuscript.proofs.Manuscript.{keeps-short}
 use Rattle.calls.proofs.three_edits.Statement.{statement}
@@ -30,7 +31,7 @@ returns : tie.Need-returns
 returns c =
     let r = runs-more (first c .edit .ensures) (after-one c .length-after .ensures)
     (runs-more (second c .edit2 .ensures) (after-two c .length-after2 .ensures)
-    (runs-more (third c .edit3 .ensures) (c .length-after3 .ensures) runs-none)) in
+    (runs-more (third c .edit3 .ensures) (c .length-after3 .ensures) no-call)) in
     let a = start c .args in
     let file = a .rules .now in
     (r, runs-demanded (manuscript (a .mode) file) (keeps-short (modeOf (a .mode)) (rulesOf file)) r)
