@@ -121,7 +121,7 @@ module _ {rules index rows text : List ℕ} {n kept : ℕ} {from m : Standing} {
   from-old =
       omega (arith, w .begins, ends-rise n kept ledger (w .fitting) (from .block) (m .block) (omega (arith, w .many)) (w .within))
 
-  -- the row before the block behind them
+  -- the row before the block after them
   pub last-row : 0 < m .block → HasRow (m .block - 1) ledger
   last-row h = omega (arith, w .within, fits-long n kept ledger (w .fitting))
 
@@ -155,7 +155,7 @@ module _ {rules index rows text : List ℕ} {n kept : ℕ} {from m : Standing} {
     fresh-end : rowSize * from .block + length fresh ≡ rowSize * m .block
     fresh-end = omega (arith, encodeRows-length encodable, rowsFrom-length (from .walked .at) (w .qs), w .many)
 
-    -- the rows behind stay while theirs are written
+    -- the rows after stay while theirs are written
     later-rows : (j : ℕ) → m .block ≤ j → drop (rowSize * j) (sets ledger (rowSize * from .block) fresh) ≡ drop (rowSize * j) ledger
     later-rows j h =
         let k = rowSize * from .block + length fresh in
@@ -178,7 +178,7 @@ module _ {rules index rows text : List ℕ} {n kept : ℕ} {from m : Standing} {
         let q = ap (λ x. x .end) r in
         record { behind = omega (arith, v .behind); small = omega (arith, v .small) }
 
-    -- the two buffers, when the tail was moved, the text and the rows written, zeros stored behind, and the other rows moved
+    -- the two buffers, when the tail was moved, the text and the rows written, zeros stored after, and the other rows moved
     module _ {old : ℕ} (o : old ≡ oldEnd n m ledger) (room : m .walked .at + (kept - old) ≤ length out) where
       abbrev tail-moved : List ℕ
       tail-moved = sets out (m .walked .at) (take (kept - old) (drop old out))

@@ -426,7 +426,7 @@ fn edit_fits(blocks: usize, block: usize, kept: usize, text: &[u8], ledger: &[u8
     ledger::ledger_fits(ledger, blocks, kept)
 }
 
-// Zeros from `from` up to `to`, where that is behind it.
+// Zeros from `from` up to `to`, where that is after it.
 fn clear_between(out: &mut [u8], from: usize, to: usize)
     requires { ⌜ to ≤ length (now out) ⌝ }
     ensures { λ _. ⌜ now (out .exit) ≡ sets (now (out .entry)) from (replicate (to - from) 0) ⌝ }
@@ -438,7 +438,7 @@ fn clear_between(out: &mut [u8], from: usize, to: usize)
     }
 }
 
-// The tail moved, the blocks that were measured written before it, zeros where the text shrank; then the rows behind them moved.
+// The tail moved, the blocks that were measured written before it, zeros where the text shrank; then the rows after them moved.
 fn overwrite<'a>(
     rows: &[u8],
     text: &'a [u8],
@@ -510,7 +510,7 @@ fn splice<'a>(
     }
 }
 
-// The named block and those behind it converted again, up to the first whose carry is that of its kept row.
+// The named block and those after it converted again, up to the first whose carry is that of its kept row.
 fn edit_blocks<'a>(
     rows: &[u8],
     text: &'a [u8],

@@ -1,6 +1,6 @@
 -- What the code does byte by byte is what the definitions say. An edit reads rows at their places (`endBefore-at`, `carryBefore-at`,
 -- `rowCarries-at`). It moves the kept tail, writes the new text before it and clears what is left (`textAfter-stored`); it writes the
--- rows of the blocks converted again and moves those behind (`ledgerAfter-stored`).
+-- rows of the blocks converted again and moves those after (`ledgerAfter-stored`).
 use mathlib.Core.Path.{_≡_, refl, sym, ap, ap₂, subst, _∙_}
 use mathlib.Core.List.{List, _∷_, _++_, append-assoc}
 use Prim.Native.Nat.{ℕ, zero, suc, _+_, _*_, _-_, _≤_, _<_, max}
@@ -117,8 +117,8 @@ module _ (n k from old now : ℕ) (qs : List Piece) (l : List ℕ) (ok : AllEnco
   later-length =
       omega (arith, moveRows-length (n - (k + length qs)) old now (drop stop l) (omega (arith, length-drop stop l)))
 
-  rows-behind : drop stop (sets l (rowSize * k) fresh) ≡ drop stop l
-  rows-behind =
+  rows-after : drop stop (sets l (rowSize * k) fresh) ≡ drop stop l
+  rows-after =
       subst (λ i. drop i (sets l (rowSize * k) fresh) ≡ drop i l) fresh-length
       (sets-drop fresh l (rowSize * k) (omega (arith, fresh-length)))
 
@@ -143,6 +143,6 @@ module _ (n k from old now : ℕ) (qs : List Piece) (l : List ℕ) (ok : AllEnco
       ∙ drop-append-add F (drop stop l) (length later)
       ∙ drop-drop (length later) stop l
       ∙ ap (λ i. drop i l) later-length in
-      ap (λ r. sets L stop (moveRows (n - (k + length qs)) old now r)) rows-behind
+      ap (λ r. sets L stop (moveRows (n - (k + length qs)) old now r)) rows-after
       ∙ sets-eq later L stop (omega (arith, later-length, length-sets l (rowSize * k) fresh))
       ∙ ap₂ (λ x y. x ++ later ++ y) t d

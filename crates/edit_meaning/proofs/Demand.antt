@@ -21,7 +21,7 @@ use Rattle.edit_meaning.specs.Edit.{Result, unchanged, textMost, roomFor
 use Rattle.edit_meaning.specs.Edit.Answer.{refused, converted, edited}
 use Rattle.edit_meaning.specs.Run.{Edit, Kept, leaves, callEdit, run, lacks, piecesOf, editAnswer, documentAfter, demanded, documentNext, reference, OnlyAt, Permitted, Allowed, Holds, tailMoved, TailsMoved, Demand3}
 use Rattle.edit_meaning.proofs.Walks.{ontoAll, ontoAll-pieces, ontoAll-stopped, finish, Walked, walk-walked, walked-length, walkUntil-until, walk-edited, Until, until-within, until-count}
-use Rattle.edit_meaning.proofs.Splice.{carryBefore-rows, write-spliced, tail, tail-length, text-behind}
+use Rattle.edit_meaning.proofs.Splice.{carryBefore-rows, write-spliced, tail, tail-length, text-after}
 use Rattle.edit_meaning.proofs.Holding.{holding, walked-encodable, rows-length, StandsIn, stands-conversion, stands-encodable, stands-holds, Found, held-found}
 
 rowCarries-rows : (at : ℕ) (k : ℕ) (ps : List Piece) → rowCarries (drop k (rowsFrom at ps)) ≡ carries (drop k ps)
@@ -244,8 +244,8 @@ module _ (𝓒 : BlockConverter) (keeps-short : KeepsShort 𝓒) where
                     ∙ sym (length-append (encodeRows (rowsFrom 0 ps)) l₂)
                     ∙ st .ledgerSize;
               })
-              (rw (append-assoc a qs z) at (text-behind (a ++ qs) z (e .block + length qs) now (rw append-assoc ok′) (tail a m z qs rest (length (written new))) l₂)
-              ∙ sym (rw (append-assoc a m z, parts) at (text-behind (a ++ m) z (e .block + length qs) was (rw (append-assoc, parts) ok) rest l₂)))
+              (rw (append-assoc a qs z) at (text-after (a ++ qs) z (e .block + length qs) now (rw append-assoc ok′) (tail a m z qs rest (length (written new))) l₂)
+              ∙ sym (rw (append-assoc a m z, parts) at (text-after (a ++ m) z (e .block + length qs) was (rw (append-assoc, parts) ok) rest l₂)))
 
           room-step : (b : Bool) → roomForText (length (written new)) (length t) ≡ b → Stepped tree ps rest l₂ e
           room-step true r = accepted r

@@ -46,7 +46,7 @@ module _ (𝓒 : BlockConverter) (keeps-short : KeepsShort 𝓒) where
   walked-encodable w h = rowsFrom-encodable (walked-short w (omega arith)) 0 (omega arith)
 
   module _ (t l : List ℕ) where
-    -- a tree whose conversion is ps, and buffers as long as t and l that hold it, with any bytes behind
+    -- a tree whose conversion is ps, and buffers as long as t and l that hold it, with any bytes after
     pub record StandsIn (tree : List ℕ) (ps : List Piece) (rest l₂ : List ℕ) : Type 0 where
       pub blocks : List Block
       pub checked : check tree ≡ good blocks

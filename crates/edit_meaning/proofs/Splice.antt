@@ -1,5 +1,5 @@
 -- What an edit writes where the buffers hold some pieces, a ++ m ++ z, of which m was converted again to qs: the text and the rows of
--- a ++ qs ++ z, and behind them zeros and what stood there (`write-spliced`).
+-- a ++ qs ++ z, and after them zeros and what stood there (`write-spliced`).
 use mathlib.Core.Path.{_≡_, refl, sym, ap, ap₂, subst, _∙_}
 use mathlib.Core.Bool.{cond}
 use mathlib.Core.List.{List, [], _∷_, _++_, append-assoc, append-nil}
@@ -35,11 +35,11 @@ pub carryBefore-rows : (a z : List Piece) → carryBefore (length a) (rowsFrom 0
 carryBefore-rows [] z = refl
 carryBefore-rows (p ∷ a) z = row-carry 0 startCarry p a z
 
--- the text behind the first j rows' end
-pub text-behind :
+-- the text after the first j rows' end
+pub text-after :
     (x z : List Piece) (j : ℕ) → length x ≡ j → AllEncodable (rowsFrom 0 (x ++ z)) → (r l : List ℕ)
     → drop (endBefore j (decodeRows j (encodeRows (rowsFrom 0 (x ++ z)) ++ l))) (take (length (written (x ++ z))) (written (x ++ z) ++ r)) ≡ written z
-text-behind x z j n ok r l =
+text-after x z j n ok r l =
     let more : List ℕ = encodeRows (rowsFrom (0 + length (written x)) z) ++ l in
     let d : decodeRows (length x) (encodeRows (rowsFrom 0 x) ++ more) ≡ rowsFrom 0 x
     = rw (rowsFrom-length 0 x) at (decodeRows-encode (encodable-left 0 x z ok) more) in
@@ -80,7 +80,7 @@ module _ (a m z qs : List Piece) where
   written-three : (x : List Piece) → written (a ++ (x ++ z)) ≡ written a ++ (written x ++ written z)
   written-three x = rw (written-append a (x ++ z), written-append x z)
 
-  -- what stands behind the new text
+  -- what stands after the new text
   unfoldable pub tail : List ℕ → ℕ → List ℕ
   tail rest new = replicate (length (written (a ++ (m ++ z))) - new) 0 ++ drop (max (length (written (a ++ (m ++ z)))) new) (written (a ++ (m ++ z)) ++ rest)
 

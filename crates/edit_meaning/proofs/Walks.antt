@@ -29,7 +29,7 @@ pub ontoAll-stopped : (ps : List Piece) (n i : ℕ) → ontoAll ps (stopped n i)
 ontoAll-stopped [] n i = refl
 ontoAll-stopped (p ∷ ps) n i = rw (ontoAll-stopped ps n i)
 
--- the pieces behind those that were converted again are the old ones
+-- the pieces after those that were converted again are the old ones
 abbrev pub finish : Walk → List Piece → Walk
 finish (stopped n i) ps = stopped n i
 finish (pieces qs) ps = pieces (qs ++ drop (length qs) ps)

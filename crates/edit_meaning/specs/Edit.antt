@@ -96,13 +96,13 @@ abbrev pub rowCarries : List Row → List Carry
 rowCarries [] = []
 rowCarries (r ∷ rs) = r .carry ∷ rowCarries rs
 
--- The text, of which the bytes from `from` up to `old` become others: those before stay, those behind up to the kept length are
+-- The text, of which the bytes from `from` up to `old` become others: those before stay, those after up to the kept length are
 -- moved, then come zeros where the text shrank, and the rest of the buffer as it was.
 unfoldable pub textAfter : ℕ → ℕ → ℕ → ℕ → List ℕ → List ℕ → List ℕ
 textAfter from old kept new again text =
     take from text ++ again ++ take (kept - old) (drop old text) ++ replicate (kept - new) 0 ++ drop (max kept new) text
 
--- The rows of n blocks, of which those from k on become the rows of some pieces: those before stay, those behind change only in
+-- The rows of n blocks, of which those from k on become the rows of some pieces: those before stay, those after change only in
 -- length, as their text is moved from `old` to `now`, and the rest of the ledger is as it was.
 unfoldable pub ledgerAfter : ℕ → ℕ → ℕ → ℕ → ℕ → List Piece → List ℕ → List ℕ
 ledgerAfter n k from old now qs ledger =

@@ -142,7 +142,7 @@ module _ (𝓒 : BlockConverter) (t l : List ℕ) where
 
 -- ---- the claim
 
--- behind the blocks converted again stands the text from before, moved: from the end of their last row on, in the old ledger and
+-- after the blocks converted again stands the text from before, moved: from the end of their last row on, in the old ledger and
 -- in the new
 abbrev pub tailMoved : Answer → ℕ → Kept → Kept → Type 0
 tailMoved (refused m i) k old new = Unit {0}

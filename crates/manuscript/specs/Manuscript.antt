@@ -68,7 +68,7 @@ manuscript mode file = manuscriptIn (modeOf mode) (rulesOf file)
 abbrev pub blocksIn : LaTeXMode → List Rule → BlockConverter
 blocksIn m rules = manuscriptIn (some m) (some rules)
 
--- pieces put together: the text of all, and the carry behind the last
+-- pieces put together: the text of all, and the carry after the last
 abbrev pub together : Carry → Walk → Outcome
 together c (stopped n row) = stop n row
 together c (pieces ps) = done (carryAfter c ps) (written ps)

@@ -1,4 +1,4 @@
--- A measuring pass, one block a turn. `walkFrom` is the walk over the blocks that are left; behind some blocks, who finishes it from there
+-- A measuring pass, one block a turn. `walkFrom` is the walk over the blocks that are left; after some blocks, who finishes it from there
 -- has finished it from the start (`BlocksPassed`). A turn ends the pass by a refusal (`passed-refused`) or at the kept carry (`passed-met`), or
 -- the pass goes on (`passed-next`) until no block is left (`passed-end`).
 use mathlib.Core.Path.{_≡_, refl, sym, ap, subst, _∙_}
@@ -90,13 +90,13 @@ module _ {s r : Standing} {x : Place} {row : ℕ} {out out′ : List ℕ} (edits
   came-refused (declines h e f) z = stops h e f
   came-refused (accepts u ex ec l w) z = absurd (z u)
 
-  came-behind :
+  came-after :
       {o : Outcome} {q : Standing} → Agrees (r .walked) x row (s .walked .at) out out′ o → r .walked .refusal ≡ 0
       → r .block ≡ s .block + 1
       → Came r q (cond (edits && sameCarry (carryOf (r .walked .converter)) d) (pieces []) (k (carryOf (r .walked .converter))))
       → Came s q (turn edits o row d k)
-  came-behind (declines h e f) z counted m = absurd (omega arith)
-  came-behind {q = q} (accepts {c} {w = t} u ex ec l w) z counted m =
+  came-after (declines h e f) z counted m = absurd (omega arith)
+  came-after {q = q} (accepts {c} {w = t} u ex ec l w) z counted m =
       came-onto (record { text = t; after = c }) counted (w .next)
       (subst (λ (y : Carry). Came r q (cond (edits && sameCarry y d) (pieces []) (k y))) ec m)
 
@@ -152,13 +152,13 @@ module _ {rules index rows text : List ℕ} {s : Standing} {n : ℕ} (w : Blocks
     pub one-more : r .block ≡ s .block + 1
     one-more = stepped .counted
 
-    -- behind the block
+    -- after the block
     module _ (z : r .walked .refusal ≡ 0) where
       pub label-short : r .walked .converter .«label_len» ≤ labelMost
       label-short = fine (w .given) tree others (here .1 .1) stepped z .short
 
-      abbrev behind : BlocksUpTo rules index rows text r n
-      behind =
+      abbrev onward : BlocksUpTo rules index rows text r n
+      onward =
           record {
             given = onward (w .given) tree others (here .1 .1) stepped z;
             many = omega (arith, w .many, one-more, ap count (here .1 .1), count-more tree others);
@@ -190,22 +190,22 @@ module _ {rules index rows text : List ℕ} {s : Standing} {n : ℕ} (w : Blocks
       came-declined z = subst (Came s r) (sym walk-turn) (came-refused edits carry rest (stepped .agrees) z)
 
       module _ (z : r .walked .refusal ≡ 0) where
-        rest-behind : rest (carryOf (r .walked .converter)) ≡ walkFrom (behind z) edits kept
-        rest-behind =
+        rest-after : rest (carryOf (r .walked .converter)) ≡ walkFrom (onward z) edits kept
+        rest-after =
             let mode = sym (same-mode (w .given) tree others (here .1 .1) stepped z) in
             let row = sym (stepped .row) in
             let k : suc (s .block) ≡ r .block = omega (arith, one-more) in
             λ i. walkBy (blocksIn (mode i) (w .given .rs)) edits (carryOf (r .walked .converter)) (row i) (listed others)
             (rowCarries (drop (k i) (decodeRows n kept)))
 
-        -- b is the answer of the test behind the block
+        -- b is the answer of the test after the block
         came-turn :
             {b : Bool} {q : Standing} → b ≡ edits && sameCarry (carryOf (r .walked .converter)) carry
-            → Came r q (cond b (pieces []) (walkFrom (behind z) edits kept)) → Came s q (walkFrom w edits kept)
+            → Came r q (cond b (pieces []) (walkFrom (onward z) edits kept)) → Came s q (walkFrom w edits kept)
         came-turn {q = q} is m =
             subst (Came s q) (sym walk-turn)
-            (came-behind edits carry rest (stepped .agrees) z one-more
-            (subst (Came r q) (λ i. cond (is i) (pieces []) (sym rest-behind i)) m))
+            (came-after edits carry rest (stepped .agrees) z one-more
+            (subst (Came r q) (λ i. cond (is i) (pieces []) (sym rest-after i)) m))
 
 -- ---- the loop
 
@@ -225,9 +225,9 @@ module _ {rules index rows text : List ℕ} {from s : Standing} {n : ℕ} {w : B
 
     module _ (z : r .walked .refusal ≡ 0) (b : Bool) (is : b ≡ meets edits (from .block) r kept) where
       abbrev next-whole : BlocksUpTo rules index rows text r n
-      next-whole = behind (p .whole) h passes z
+      next-whole = onward (p .whole) h passes z
 
-      -- the block passed is one behind the start, and its kept row the one before
+      -- the block passed is one after the start, and its kept row the one before
       is-met : b ≡ edits && sameCarry (carryOf (r .walked .converter)) ((rowAt (s .block) kept) .carry)
       is-met =
           let one = one-more (p .whole) h passes in

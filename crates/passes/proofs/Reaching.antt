@@ -64,7 +64,7 @@ module _ {blocks : Forest} {rows text : List ℕ} {k i j : ℕ} (r : Reached blo
       ))
       (r .begun) (omega arith) (omega arith)
 
-  -- and behind its e bytes of rows and n bytes of text is the next
+  -- and after its e bytes of rows and n bytes of text is the next
   module _ (e n : ℕ) (is-e : e ≡ extentOf (drop i rows)) (is-n : n ≡ tokenSum (take (extentOf (drop i rows)) (drop i rows))) where
     pub reached-next : Reached blocks rows text (k + 1) (i + e) (j + n)
     reached-next =
@@ -115,7 +115,7 @@ module _ {rows : List ℕ} {block k i j : ℕ} (g : SomeBlocks rows block) (r : 
         → Reaches rows block (k + 1) (i + e) (j + n)
     reaches-next is-e is-n blocks text sp many short = reached-next (r blocks text sp many short) (omega arith) (g .few) short _ _ is-e is-n
 
--- behind the last turn
+-- after the last turn
 pub reaches-stands :
     {rows : List ℕ} {block k at : ℕ} {c : Converter} {r : Standing} → Reaches rows block k (r .i) (r .j) → k ≡ block → r .block ≡ block
     → Went c at (r .walked) → StandsBefore rows block at c r

@@ -68,7 +68,7 @@ passed (accepts u ex ec l v) = record { well = u; carry = ec; label = l; put = v
 
 -- ---- a turn
 
--- the row behind a block
+-- the row after a block
 abbrev rowOf : Walked → Row
 rowOf a = record { end = a .at; carry = carryOf (a .converter) }
 
@@ -119,7 +119,7 @@ module _ {rules index rows text : List ℕ} {s : Standing} {to : ℕ} {ledger : 
       pub row-left : HasRow (s .block) ledger × (r .walked .at < cap) × (r .walked .converter .«label_len» ≤ labelMost)
       row-left = (omega (arith, w .room), omega (arith, ends-at .1), made .label)
 
-      -- and behind it the rest is left
+      -- and after it the rest is left
       module _ {ledger′ : List ℕ} (e : ledger′ ≡ sets ledger (rowSize * s .block) (encodeRow (rowOf (r .walked)))) where
         rows-long : length ledger′ ≡ length ledger
         rows-long = ap length e ∙ length-sets ledger (rowSize * s .block) (encodeRow (rowOf (r .walked)))

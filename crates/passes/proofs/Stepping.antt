@@ -1,4 +1,4 @@
--- Laws of one block's turn: the block at which a pass stands is an element of the rows, it has room to be converted, and behind it
+-- Laws of one block's turn: the block at which a pass stands is an element of the rows, it has room to be converted, and after it
 -- the pass can go on (`onward`).
 use mathlib.Core.Path.{_≡_, refl, ap, subst, _∙_}
 use mathlib.Core.List.{List}
@@ -106,7 +106,7 @@ module _ {rules index rows text : List ℕ} {s : Standing} (w : BlocksGiven rule
                 (m (w .rs) (w .ready) t (part-spells x e n is-e is-n) levels (omega (arith, x .end, w .few)));
           }
 
-    -- behind the block
+    -- after the block
     module _ {out out′ : List ℕ} {r : Standing} (p : Stepped rules index rows text s (w .rs) t g out r out′)
         (z : r .walked .refusal ≡ 0) where
       pub fine : Good (r .walked) (placeOf (s .walked .converter))

@@ -36,7 +36,7 @@ pub record Outside (c : Converter) : Type 0 where
   pub indent : c .indent ≡ 0
   pub label : c .«label_len» ≤ labelMost
 
--- a pass goes on from here: the file has rules, and the blocks that are left are spelt behind the bytes of those before
+-- a pass goes on from here: the file has rules, and the blocks that are left are spelt after the bytes of those before
 pub record BlocksGiven (rules index rows text : List ℕ) (s : Standing) : Type 0 where
   pub rs : List Rule
   pub ready : Ready rules index rs
@@ -125,7 +125,7 @@ StandsBefore rows k at c r =
     (blocks : Forest) (text : List ℕ) → SpellsAll blocks rows text → k ≤ count blocks → length text ≤ fileMost
     → Stood blocks rows text k at c r
 
--- an edit that began at block `first` stops at a standing: behind that block, where the carry is that of the kept row before
+-- an edit that began at block `first` stops at a standing: after that block, where the carry is that of the kept row before
 abbrev pub meets : Bool → ℕ → Standing → List ℕ → Bool
 meets edits first s kept =
     edits && (ltb first (s .block) && sameCarry (carryOf (s .walked .converter)) ((rowAt (s .block - 1) kept) .carry))
@@ -135,7 +135,7 @@ abbrev pub walkBy : (𝓒 : BlockConverter) → Bool → Carry → ℕ → List 
 walkBy 𝓒 false c r bs ds = walk 𝓒 c r bs
 walkBy 𝓒 true c r bs ds = walkUntil 𝓒 c r bs ds
 
--- a measuring pass came to a walk: it was refused as the walk was; or it stands behind the walk's pieces
+-- a measuring pass came to a walk: it was refused as the walk was; or it stands after the walk's pieces
 pub data Came (from r : Standing) : Walk → Type 0 where
   stops : {n i : ℕ} → 0 < n → r .walked .refusal ≡ n → r .walked .row ≡ i → Came from r (stopped n i)
   comes :

@@ -85,7 +85,7 @@ pub fn step<'a>(
     }
 }
 
-// Whether an edit that began at block `first` stops at a standing: behind that block, where the carry is that of the kept row before.
+// Whether an edit that began at block `first` stops at a standing: after that block, where the carry is that of the kept row before.
 fn met(kept: &[u8], first: usize, s: Standing) -> bool
     requires { ⌜ (first < s .block → RowFits (s .block - 1) (now kept)) × (s .walked .converter .«label_len» ≤ labelMost) ⌝ }
     ensures { λ r. ⌜ r ≡ meets true first s (now (kept .entry)) ⌝ }

@@ -94,7 +94,7 @@ item = callAt 9 hand
 abbrev tight : Call
 tight = within 0 0 (replicate 2 7) (replicate (3 * rowSize) 7) (callAt 2 hand)
 
--- the label's block 0 edited to `a`, and a table behind it that wrote the label
+-- the label's block 0 edited to `a`, and a table after it that wrote the label
 abbrev unlabelled : Call
 unlabelled = callAt 12 hand
 
@@ -110,7 +110,7 @@ words = callAt 0 small
 abbrev shouted : Call
 shouted = callAt 3 small
 
--- `a` edited to a line feed, behind which the second block, a space, writes nothing any more
+-- `a` edited to a line feed, after which the second block, a space, writes nothing any more
 abbrev folded : Call
 folded = within 0 2 (ascii "a ") ((1 ∷ zeros (rowSize - 1)) ++ (2 ∷ zeros (rowSize - 1))) (callAt 4 small)
 
@@ -150,7 +150,7 @@ countSaid (edited len growth count) = count
 abbrev TextOfConvert : Result → Result → Type 0
 TextOfConvert r whole = take (lengthSaid (whole .answer)) (r .text) ≡ take (lengthSaid (whole .answer)) (whole .text)
 
--- behind the named block, whose text ended at `old` and ends at `new`, stands what was kept there
+-- after the named block, whose text ended at `old` and ends at `new`, stands what was kept there
 abbrev Copied : ℕ → ℕ → ℕ → Call → Result → Type 0
 Copied kept old new c r = take (kept - old) (drop new (r .text)) ≡ take (kept - old) (drop old (textLent c))
 

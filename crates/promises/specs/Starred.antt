@@ -166,7 +166,7 @@ hand =
     -- Math `ab`
     ∷ case (converts inMath rules (tree "ab" (word 2 ∷ [])) (sevens 6) (ledgerFor 1))
     (converted 4 1) (ascii "a b " ++ sevens 2) (row (4 ∷ []) ++ sevens 2)
-    -- line feed, space, space: the flag is set behind the first
+    -- line feed, space, space: the flag is set after the first
     ∷ case (converts inText rules (tree "\n  " (break ∷ space ∷ space ∷ [])) (sevens 4) (ledgerFor 3))
     (converted 2 3) (ascii "\n " ++ sevens 2) (row (1 ∷ 0 ∷ 0 ∷ 0 ∷ 1 ∷ []) ++ row (1 ∷ []) ++ row (2 ∷ []) ++ sevens 2)
     -- one leading space

@@ -38,7 +38,7 @@ here :
     → DraftPassed w (start (from c) .args .mode) (from c .stand-at .result) (c .draft-blocks .result)
 here c w = passed w (stood (from c) w) (from c .before .opening .ensures) (c .draft-blocks .ensures .0)
 
--- behind the draft, where the room is known
+-- after the draft, where the room is known
 abbrev measured : tie.After-has-room → tie.After-draft-blocks
 measured c = let d = c .before .before .before .before in d .before .before .before .before
 

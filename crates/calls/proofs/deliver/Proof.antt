@@ -14,7 +14,7 @@ use Rattle.calls.proofs.deliver.Tie as tie
 abbrev start : tie.After-slice-known2 → tie.Start
 start c = let d = c .before .before .before .before in d .before .before .before .before
 
--- behind the copy of the text, where that is short enough
+-- after the copy of the text, where that is short enough
 abbrev short : tie.After-put → tie.Else1
 short c = c .before .before .before
 

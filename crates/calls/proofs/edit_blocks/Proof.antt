@@ -9,7 +9,7 @@ use Rattle.calls.proofs.Again.{Fitting, fitting, MeasuredAgain, row-fit
 use Rattle.calls.proofs.edit_blocks.Statement.{statement}
 use Rattle.calls.proofs.edit_blocks.Tie as tie
 
--- the function's entry, from behind refusal 6
+-- the function's entry, from after refusal 6
 abbrev start : tie.After-edit-fits → tie.Start
 start c = let d = c .before .before .before .before .before in d .before .before .before .before
 
@@ -21,7 +21,7 @@ Given c = Document (c .args .rules .now) (c .args .index .now) (c .args .rows .n
 fits : (c : tie.Else1) → let a = start (c .before) .args in Fitting (a .blocks) (a .block) (a .kept) (a .out .now) (a .ledger .now)
 fits c = fitting (c .before .edit-fits .ensures) (not-false (c .before .edit-fits .result) (c .if1 .left))
 
--- from behind the standing to there
+-- from after the standing to there
 abbrev six : tie.After-stand-at → tie.Else1
 six c = let d = c .before .before .before in d .before .before
 

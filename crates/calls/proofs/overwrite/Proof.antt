@@ -15,15 +15,15 @@ use Rattle.calls.proofs.overwrite.Tie as tie
 abbrev start : tie.After-walked → tie.Start
 start c = let d = c .before .before .before in d .before .before .before .before
 
--- and behind the tail's moving
+-- and after the tail's moving
 abbrev entry : tie.After-move-bytes → tie.Start
 entry c = start (c .before .before)
 
--- the tail's moving, behind the writing of the blocks
+-- the tail's moving, after the writing of the blocks
 abbrev moved : tie.After-write-blocks → tie.After-move-bytes
 moved c = c .before .before .before .before .before
 
--- the writing of the blocks, behind the clearing
+-- the writing of the blocks, after the clearing
 abbrev blocks : tie.After-clear-between → tie.After-write-blocks
 blocks c = let d = c .before .before .before in d .before .before .before
 

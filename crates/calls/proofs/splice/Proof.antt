@@ -17,7 +17,7 @@ old-end :
     (c : tie.After-end-before) → c .end-before .result ≡ oldEnd (start c .args .blocks) (start c .args .m) (start c .args .ledger .now)
 old-end c = c .end-before .ensures .0 (start c .args .blocks) (start c .pre .within)
 
--- behind the measuring of the buffer
+-- after the measuring of the buffer
 abbrev ended : tie.After-text-room → tie.After-end-before
 ended c = c .before .before .before .before
 

@@ -8,7 +8,7 @@ use Rattle.manuscript.proofs.Manuscript.{keeps-short}
 use Rattle.calls.proofs.three_edits.Statement.{statement}
 use Rattle.calls.proofs.three_edits.Tie as tie
 
--- what is known behind each call, the last first, and at the start
+-- what is known after each call, the last first, and at the start
 abbrev third : tie.After-length-after3 → tie.After-edit3
 third c = c .before .before .before .before .before
 

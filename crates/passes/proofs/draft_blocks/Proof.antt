@@ -28,7 +28,7 @@ whole c = c .loop .inv .passed (start c .pre .0) .whole
 abbrev turn : tie.After-step Inv-loop μ-loop → tie.At-loop Inv-loop μ-loop
 turn c = c .before .before .before .before
 
--- behind the block, its answer, and the writing of its row
+-- after the block, its answer, and the writing of its row
 abbrev answered : tie.After-struct-known2 Inv-loop μ-loop → tie.After-step Inv-loop μ-loop
 answered c = c .before .before .before .before
 

@@ -19,9 +19,9 @@ abbrev μ-loop : tie.MeasureT-loop
 abbrev start : tie.At-loop Inv-loop μ-loop → tie.Start Inv-loop μ-loop
 start c = let d = c .before .before .before in d .before .before .before
 
--- behind the block of a turn, and where the turn began
-abbrev behind : tie.After-struct-known2 Inv-loop μ-loop → tie.After-step Inv-loop μ-loop
-behind c = c .before .before .before
+-- after the block of a turn, and where the turn began
+abbrev stepped : tie.After-struct-known2 Inv-loop μ-loop → tie.After-step Inv-loop μ-loop
+stepped c = c .before .before .before
 
 abbrev standing : tie.After-step Inv-loop μ-loop → tie.At-loop Inv-loop μ-loop
 standing c = c .before .before .before .before
@@ -41,12 +41,12 @@ step-requires c κs =
 
 returns : tie.Need-returns Inv-loop μ-loop
 returns c =
-    let d = behind (c .before) in
+    let d = stepped (c .before) in
     λ w. passed-refused (standing d .loop .inv w) (d .before .before .if1 .taken) (d .step .ensures) (c .if2 .taken)
 
 met-requires : tie.Need-met-requires Inv-loop μ-loop
 met-requires c κs =
-    let d = behind (c .before) in
+    let d = stepped (c .before) in
     let l = standing d in
     let h = d .before .before .if1 .taken in
     let w = l .loop .inv (start l .pre .0) .whole in
@@ -55,13 +55,13 @@ met-requires c κs =
 returns-2 : tie.Need-returns-2 Inv-loop μ-loop
 returns-2 c =
     let m = c .before in
-    let d = behind (m .before .before) in
+    let d = stepped (m .before .before) in
     λ w. passed-met (standing d .loop .inv w) (d .before .before .if1 .taken) (d .step .ensures) (m .before .if2 .left) _ (m .met .ensures)
     (c .if3 .taken)
 
 loop-less : tie.Need-loop-less Inv-loop μ-loop
 loop-less c =
-    let d = behind (c .before .before .before) in
+    let d = stepped (c .before .before .before) in
     let l = standing d in
     let h = d .before .before .if1 .taken in
     omega (arith, h, one-more (l .loop .inv (start l .pre .0) .whole) h (d .step .ensures))
@@ -69,7 +69,7 @@ loop-less c =
 loop-again : tie.Need-loop-again Inv-loop μ-loop
 loop-again c =
     let m = c .before in
-    let d = behind (m .before .before) in
+    let d = stepped (m .before .before) in
     λ w. passed-next (standing d .loop .inv w) (d .before .before .if1 .taken) (d .step .ensures) (m .before .if2 .left) _ (m .met .ensures)
     (c .if3 .left)
 

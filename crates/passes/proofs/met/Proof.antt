@@ -1,4 +1,4 @@
--- `met`: where there is no block behind the first the answer is false; else it is that of `same_carry`.
+-- `met`: where there is no block after the first the answer is false; else it is that of `same_carry`.
 use borrow.Author.Needs.{needs}
 use borrow.Author.Tests.{lt-ltb, le-ltb}
 use Rattle.passes.proofs.met.Statement.{statement}

@@ -10,14 +10,14 @@ use Rattle.passes.proofs.step.Tie as tie
 abbrev start : tie.After-span-at → tie.Start
 start c = let d = c .before .before .before in d .before .before .before
 
--- the block, behind its measuring
+-- the block, after its measuring
 here :
     (c : tie.After-span-at)
     → Child (start c .args .rows .now) (start c .args .text .now) (start c .args .s .i) (start c .args .s .j) (c .span-at .result .rows)
     (c .span-at .result .text)
 here c = next-child (start c .pre .0) (start c .pre .1 .0) _ _ (c .span-at .ensures .0) (c .span-at .ensures .1)
 
--- behind the two sums that end its parts
+-- after the two sums that end its parts
 abbrev ends : tie.After-convert-arg → tie.After-span-at
 ends c = let d = c .before .before in d .before .before
 

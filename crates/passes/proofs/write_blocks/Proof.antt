@@ -25,7 +25,7 @@ here c = c .loop .inv (start c .pre .0)
 abbrev turn : tie.After-step Inv-loop μ-loop → tie.At-loop Inv-loop μ-loop
 turn c = c .before .before .before .before
 
--- and the block, behind the writing of its row
+-- and the block, after the writing of its row
 abbrev block : tie.After-slice-known4 Inv-loop μ-loop → tie.After-step Inv-loop μ-loop
 block c = let d = c .before .before .before in d .before .before .before .before
 

@@ -6,7 +6,7 @@ use Rattle.zaldrume.proofs.Telling.{tells}
 use Rattle.zaldrume.proofs.zaldrume_convert.Statement.{statement}
 use Rattle.zaldrume.proofs.zaldrume_convert.Tie as tie
 
--- behind the call, from where its answer is looked at
+-- after the call, from where its answer is looked at
 abbrev call : tie.After-slice-known4 → tie.After-convert
 call c = c .before .before .before .before
 

@@ -8,7 +8,7 @@ use Rattle.zaldrume.proofs.Telling.{tells}
 use Rattle.zaldrume.proofs.zaldrume_edit.Statement.{statement}
 use Rattle.zaldrume.proofs.zaldrume_edit.Tie as tie
 
--- behind the call, from where its answer is looked at
+-- after the call, from where its answer is looked at
 abbrev call : tie.After-slice-known4 → tie.After-edit
 call c = c .before .before .before .before
 
