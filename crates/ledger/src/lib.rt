@@ -9,7 +9,7 @@ ghost use lib.ListN.{length, take, drop, replicate};
 ghost use lib.Seq.{sets};
 ghost use Rattle.text.specs.Compare.{same};
 ghost use Rattle.mitex_meaning.specs.Outcome.{labelMost};
-ghost use Rattle.mitex_meaning.specs.State.{carryOf, Carried};
+ghost use Rattle.mitex_meaning.specs.State.{carryOf, withCarry};
 ghost use Rattle.mitex_meaning.specs.Keeping.{labelBytes};
 ghost use Rattle.ledger.specs.Ledger.{rowSize, mark, isHeld, encodeRow, HasRow, RowFits, rowAt, allZero, marksFit, rowFits, fits, Movable, moveRow, moveRows, sameLabel, sameCarry};
 
@@ -58,7 +58,7 @@ fn row_label(ledger: &[u8], i: usize) -> &[u8]
 // The converter with the carry of row `i`.
 pub fn row_carry(ledger: &[u8], i: usize, converter: Converter) -> Converter
     requires { ⌜ RowFits i (now ledger) ⌝ }
-    ensures { λ r. ⌜ Carried converter ((rowAt i (now (ledger .entry))) .carry) r ⌝ }
+    ensures { λ r. ⌜ r ≡ withCarry ((rowAt i (now (ledger .entry))) .carry) converter ⌝ }
 {
     let flagged = converter.with_flag(row_flag(ledger, i));
     if row_held(ledger, i) {

@@ -15,8 +15,9 @@ use Rattle.mitex_meaning.specs.Outcome.Outcome.{refused}
 use Rattle.mitex_syntax.specs.Views.{isValid}
 use Rattle.mitex_meaning.specs.State.{contextOf, carryOf, placed}
 use Rattle.mitex_meaning.specs.Groups.{formula}
-use Rattle.mitex_meaning.specs.Contract.{Place, placeOf, Agrees, Went, Takes, Declined}
+use Rattle.mitex_meaning.specs.Contract.{Place, placeOf, Agrees, Takes, wentWith, refusedWith}
 use Rattle.mitex_meaning.specs.Conversion.{convert}
+use Rattle.mitex_meaning.proofs.Holding.{went-says}
 use Rattle.mitex_meaning.proofs.Agreeing.{Good, good, agrees-as, agrees-after, agrees-shift, agrees-close, agrees-takes}
 use Rattle.mitex_meaning.proofs.Outcomes.{after-after}
 use Rattle.mitex_meaning.specs.Environments.{takeLabel}
@@ -111,8 +112,8 @@ pub agrees-takes-as :
 agrees-takes-as {row} {at} {out} {out₁} {out₂} {a} {r} {x} list e m h g t =
     agrees-takes list m h g (subst (λ (y : Bool). Takes a y m out₁ r out₂) e t)
 
-pub declined-row : {n row row′ : ℕ} {a : Walked} → row ≡ row′ → Declined n row a → Declined n row′ a
-declined-row {n} {row} {row′} {a} e d = subst (λ (z : ℕ). Declined n z a) e d
+pub declined-row : {c : Converter} {n row row′ : ℕ} {a : Walked} → row ≡ row′ → a ≡ refusedWith c n row → a ≡ refusedWith c n row′
+declined-row {c} {n} e d = d ∙ ap (refusedWith c n) e
 
 -- ---- the loop of a plan, begun with the converter d that the plan asks for
 
@@ -139,9 +140,10 @@ pub planned-done :
     (c : Converter) (p : Plan) {d : Converter} → d ≡ placed (p .mode) (p .env) (p .indent) c → (rs : List Rule) (n : ℕ) (g : Forest) {a r : Walked}
     {row at q : ℕ} {out out₁ out₂ : List ℕ} {b : Converter} → length out ≤ cap
     → Agrees a (placeOf d) (row + 1 + p .part .i / 8) at out out₁ (wholly rs n d (p .how) g) → a .refusal ≡ 0
-    → Wrote (a .at) out₁ (endText (p .end)) q out₂ → b ≡ placed (c .mode) (c .env) (c .indent) (a .converter) → Went b q r
+    → Wrote (a .at) out₁ (endText (p .end)) q out₂ → b ≡ placed (c .mode) (c .env) (c .indent) (a .converter) → r ≡ wentWith b q
     → Agrees r (placeOf c) row at out out₂ (planned (convert n) rs p g (carryOf c))
-planned-done c p e rs n g {a} {r} {row} {at} {q} {out} {out₁} {out₂} room m z ended back went =
+planned-done c p e rs n g {a} {r} {row} {at} {q} {out} {out₁} {out₂} room m z ended back is =
+    let went = went-says is in
     planned-ended c p e rs n g
     (agrees-close room m
     (record {

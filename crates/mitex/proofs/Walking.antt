@@ -20,7 +20,7 @@ use Rattle.mitex_syntax.proofs.Trees.{Element, element, all-begins, spans, kind
 use Rattle.mitex_meaning.specs.Outcome.{Context, Label, Carry, Outcome, after, andThen, closing, shift, labelMost}
 use Rattle.mitex_meaning.specs.Outcome.Outcome.{done}
 use Rattle.mitex_meaning.specs.State.{contextOf, carryOf, labelOf}
-use Rattle.mitex_meaning.specs.Contract.{Place, placeOf, Agrees, Went, Declined}
+use Rattle.mitex_meaning.specs.Contract.{Place, placeOf, Agrees, wentWith, refusedWith}
 use Rattle.mitex_meaning.specs.Contract.Agrees.{declines, accepts}
 use Rattle.mitex_meaning.specs.Children.{actOf, before, converts, behind, nextLoop, loopEnd, turn, each}
 use Rattle.mitex_meaning.specs.Conversion.{convert}
@@ -34,6 +34,7 @@ use Rattle.mitex_meaning.specs.declared.Loop.{Loop}
 use Rattle.mitex_meaning.specs.declared.Act.{Act}
 use Rattle.mitex_meaning.specs.declared.Converter.{Converter}
 use Rattle.mitex_meaning.specs.declared.Walked.{Walked}
+use Rattle.mitex_meaning.proofs.Holding.{went-says}
 use Rattle.mitex_meaning.proofs.Agreeing.{Closed, Good, good, agrees-as, agrees-done, agrees-refused, agrees-after, agrees-close, agrees-shift, then-done, then-refused}
 use Rattle.mitex_meaning.proofs.Loops.{turn-converts, turn-passes, each-none, each-more}
 use Rattle.mitex.specs.Walks.{Room, Siblings, Converts, Turns}
@@ -283,8 +284,9 @@ refused-closing w (accepts u ex ec l v) z = absurd (z u)
 -- a walk that went well is closed where it is, with a text behind it
 closed-went :
     {a r : Walked} {q : ℕ} {out out′ w : List ℕ} (x : Place) → placeOf (a .converter) ≡ x → a .refusal ≡ 0 → Wrote (a .at) out w q out′
-    → Went (a .converter) q r → Closed a x w out r out′
-closed-went {a} {r} {q} {out} {out′} {w} x e z wr went =
+    → r ≡ wentWith (a .converter) q → Closed a x w out r out′
+closed-went {a} {r} {q} {out} {out′} {w} x e z wr is =
+    let went = went-says is in
     record {
       refused-on = λ n. absurd (n z);
       accepted = λ u. went .well;
@@ -307,7 +309,7 @@ module _ {rules index rows text : List ℕ} {row : ℕ} (d : Converter) {w p : �
     (begun : Wrote w out (before act text) p out₁) where
   -- it is passed over
   pub turned-passed :
-      converts act ≡ false → d .«label_len» ≤ labelMost → {a : Walked} → Went d p a → Turns rules index rows text row d w out a out₁ act
+      converts act ≡ false → d .«label_len» ≤ labelMost → {a : Walked} → a ≡ wentWith d p → Turns rules index rows text row d w out a out₁ act
   turned-passed e short went rs ready t sp n h =
       agrees-as
       (turn-passes (convert n (contextOf rs d)) act t (carryOf d) e
@@ -333,7 +335,7 @@ module _ {rules index rows text : List ℕ} {row : ℕ} (d : Converter) {w p : �
     -- it is converted
     pub turned :
         {q : ℕ} {out₃ : List ℕ} {r : Walked} → length out₁ ≤ cap → a .refusal ≡ 0 → Wrote (a .at) out₂ (behind act) q out₃
-        → Went (a .converter) q r → Turns rules index rows text row d w out r out₃ act
+        → r ≡ wentWith (a .converter) q → Turns rules index rows text row d w out r out₃ act
     turned room₁ z ended went rs ready t sp n h =
         agrees-as (around rs n t sp)
         (agrees-after room begun
@@ -420,9 +422,9 @@ module _ {rules index rows text : List ℕ} {row : ℕ} {out₀ : List ℕ} {w�
 
       -- the token behind the run was refused
       pub run-refused :
-          {a : Walked} {o : List ℕ} → (r .refusal ≡ 0 → ⊥) → Declined (r .refusal) (row + (i + r .rows) / 8) a
+          {a : Walked} {c : Converter} {o : List ℕ} → (r .refusal ≡ 0 → ⊥) → a ≡ refusedWith c (r .refusal) (row + (i + r .rows) / 8)
           → Agrees a (placeOf d₀) row w₀ out₀ o (wholly rs level d₀ l₀ f)
-      run-refused {a} {o} z de =
+      run-refused {a} {c} {o} z de =
           let e8 = i-eighth k in
           let at-row : row + (i + r .rows) / 8 ≡ row + (i / 8 + r .rows / 8) = omega arith in
           head .onward a o
@@ -430,7 +432,7 @@ module _ {rules index rows text : List ℕ} {row : ℕ} {out₀ : List ℕ} {w�
           (ap (λ (y : Context). each (conv-in y) (i / 8) l (head .forest) (carryOf d)) (in-place rs)
           ∙ m rs (ready .decodes) .refuses z (head .forest) level held-so (i / 8) (rest-spells (head .spells)) (head .fits))
           (agrees-refused (i / 8 + r .rows / 8) (omega arith)
-          (subst (λ (q : ℕ). Declined (r .refusal) q a) at-row de)))
+          (de ∙ ap (refusedWith c (r .refusal)) at-row)))
 
       run-left :
           r .refusal ≡ 0
@@ -484,7 +486,7 @@ module _ {rules index rows text : List ℕ} {row : ℕ} {out₀ : List ℕ} {w�
     {d : Converter} {l : Loop} {i j : ℕ} (k : Looping rules index rows text row out₀ w₀ d₀ l₀ out w d l i j) (h : length rows ≤ i) where
   -- the loop's own end is written
   pub loop-done :
-      {p : ℕ} {out₁ : List ℕ} {a : Walked} → Wrote w out (loopEnd l) p out₁ → Went d p a → (rs : List Rule) → Ready rules index rs → (f : Forest)
+      {p : ℕ} {out₁ : List ℕ} {a : Walked} → Wrote w out (loopEnd l) p out₁ → a ≡ wentWith d p → (rs : List Rule) → Ready rules index rs → (f : Forest)
       → SpellsAll f rows text → (n : ℕ) → sizes f ≤ n → Agrees a (placeOf d₀) row w₀ out₀ out₁ (wholly rs n d₀ l₀ f)
   loop-done {p} {out₁} {a} ended went rs ready f sp n fit =
       let z = k .left rs ready f sp n fit in

@@ -9,9 +9,13 @@ use Rattle.mitex_meaning.specs.Outcome.{Carry}
 use Rattle.mitex_meaning.specs.Outcome.Outcome.{refused, done}
 use Rattle.mitex_meaning.specs.Texts.{space}
 use Rattle.mitex_meaning.specs.Commands.{itemText, itemIn, labelNow, labelHeld, labelIn}
+use Rattle.mitex_meaning.specs.Contract.{Place, Agrees}
 use Rattle.mitex_meaning.specs.declared.LaTeXMode.{LaTeXMode}
+use Rattle.mitex_meaning.specs.declared.LaTeXMode.the-variants.{Text, Math}
+use Rattle.mitex_meaning.specs.declared.Walked.{Walked}
 use Rattle.mitex_meaning.specs.declared.LaTeXEnv.{LaTeXEnv}
-use Rattle.mitex_meaning.specs.declared.LaTeXEnv.the-variants.{None, Figure, Table, Itemize, Enumerate, Math, Matrix, Cases, SubStack, MathCurlyGroup}
+use Rattle.mitex_meaning.specs.declared.LaTeXEnv.the-variants.{None, Figure, Table, Itemize, Enumerate, Math as MathEnv, Matrix, Cases, SubStack, MathCurlyGroup}
+use Rattle.mitex_meaning.proofs.Agreeing.{agrees-well}
 use Rattle.mitex_commands.specs.Leaves.{markOf, writesNow}
 
 item-by :
@@ -22,7 +26,7 @@ item-by Figure n c = refl
 item-by Table n c = refl
 item-by Itemize n c = refl
 item-by Enumerate n c = refl
-item-by Math n c = refl
+item-by MathEnv n c = refl
 item-by Matrix n c = refl
 item-by Cases n c = refl
 item-by SubStack n c = refl
@@ -47,7 +51,7 @@ module _ (m : LaTeXMode) (s : List ℕ) (c : Carry) where
   label-by Table = refl
   label-by Itemize = refl
   label-by Enumerate = refl
-  label-by Math = refl
+  label-by MathEnv = refl
   label-by Matrix = refl
   label-by Cases = refl
   label-by SubStack = refl
@@ -59,3 +63,10 @@ module _ (m : LaTeXMode) (s : List ℕ) (c : Carry) where
 
     pub label-held : b ≡ false → labelIn e m s c ≡ labelHeld s c
     label-held z = label-by e ∙ ap (λ (x : Bool). cond x (labelNow m s c) (labelHeld s c)) (sym is ∙ z)
+
+-- a label that is written at once is never refused
+pub label-well :
+    (m : LaTeXMode) (s : List ℕ) (c : Carry) {a : Walked} {x : Place} {row at : ℕ} {out out′ : List ℕ}
+    → Agrees a x row at out out′ (labelNow m s c) → a .refusal ≡ 0
+label-well Text s c g = agrees-well refl g
+label-well Math s c g = agrees-well refl g

@@ -164,6 +164,7 @@ pub fn convert_command_item(out: &mut [u8], at: usize, row: usize, c: Converter)
     requires { ⌜ (at ≤ cap) × (length (now out) ≤ cap) ⌝ }
     requires { ⌜ c .«label_len» ≤ labelMost ⌝ }
     ensures { λ r. ⌜ Agrees r (placeOf c) row at (now (out .entry)) (now (out .exit)) (itemIn (c .env) (c .indent) (carryOf c)) ⌝ }
+    ensures untouched { λ r. ⌜ ((r .refusal ≡ 0 → ⊥) → now (out .exit) ≡ now (out .entry)) ⌝ }
 {
     let env = c.env;
     let mark = mark_of(env);
@@ -262,6 +263,7 @@ pub fn convert_command_label(
     requires { ⌜ SomeForest (now rows) (now text) 0 0 ⌝ }
     requires { ⌜ c .«label_len» ≤ labelMost ⌝ }
     ensures { λ r. ⌜ ((f : Forest) → SpellsAll f (now (rows .entry)) (now (text .entry)) → Agrees r (placeOf c) row at (now (out .entry)) (now (out .exit)) (labelIn (c .env) (c .mode) (labelText f) (carryOf c))) ⌝ }
+    ensures untouched { λ r. ⌜ ((r .refusal ≡ 0 → ⊥) → now (out .exit) ≡ now (out .entry)) ⌝ }
 {
     let s = label_text(rows, text);
     let env = c.env;

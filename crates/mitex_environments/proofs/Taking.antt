@@ -3,12 +3,12 @@ use mathlib.Core.Path.{_≡_, refl, sym, ap, subst, _∙_}
 use mathlib.Core.Bool.{Bool, true, false}
 use mathlib.Core.List.{List, []}
 use Prim.Native.Nat.{ℕ, _≤_}
+use native.Mathlib.Omega.{arith}
 use Rattle.text.specs.Writing.{cap, Wrote}
 use Rattle.text.proofs.Writing.{wrote-nil}
-use Rattle.mitex_meaning.specs.Outcome.{Carry, Label, labelMost, labelled}
-use Rattle.mitex_meaning.specs.Outcome.Label.{unheld}
-use Rattle.mitex_meaning.specs.State.{carryOf, Carried}
-use Rattle.mitex_meaning.specs.Contract.{placeOf, Went, Takes}
+use Rattle.mitex_meaning.specs.Outcome.{Carry, Label, labelMost}
+use Rattle.mitex_meaning.specs.State.{carryOf, withoutLabel}
+use Rattle.mitex_meaning.specs.Contract.{wentWith, Takes}
 use Rattle.mitex_meaning.specs.Environments.{taken, dropped, heldText}
 use Rattle.mitex_meaning.specs.declared.LaTeXMode.{LaTeXMode}
 use Rattle.mitex_meaning.specs.declared.LaTeXMode.the-variants.{Text, Math}
@@ -69,15 +69,15 @@ takes-as {a} {r} {list} {m} {out} {out′} e q t =
 -- the held label is written and dropped
 pub takes-dropped :
     {a r : Walked} {d : Converter} {p : ℕ} {out out′ : List ℕ} → a .refusal ≡ 0 → a .converter .«label_len» ≤ labelMost
-    → Carried (a .converter) (labelled unheld (carryOf (a .converter))) d → Went d p r
+    → d ≡ withoutLabel (a .converter) → r ≡ wentWith d p
     → Wrote (a .at) out (heldText (carryOf (a .converter) .label)) p out′ → Takes a false Text out r out′
 takes-dropped {a} {r} {d} {p} {out} {out′} z l m g w =
-    let same : placeOf d ≡ placeOf (a .converter) = λ i. record { mode = m .mode i; env = m .env i; indent = m .indent i } in
-    record {
+    subst (λ (b : Walked). Takes a false Text out b out′) (sym (g ∙ ap (λ (c : Converter). wentWith c p) m))
+    (record {
       refused-on = λ h. absurd (h z);
-      accepted = λ h. g .well;
-      placed-so = λ h. ap placeOf (g .gives) ∙ same;
-      carry = λ h. ap carryOf (g .gives) ∙ m .carry;
-      short = λ h. subst (λ (c : Converter). c .«label_len» ≤ labelMost) (sym (g .gives)) (m .short l);
-      written = λ h. subst (λ (q : ℕ). Wrote (a .at) out (heldText (carryOf (a .converter) .label)) q out′) (sym (g .next)) w;
-    }
+      accepted = λ h. refl;
+      placed-so = λ h. refl;
+      carry = λ h. refl;
+      short = λ h. omega arith;
+      written = λ h. w;
+    })

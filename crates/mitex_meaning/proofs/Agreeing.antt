@@ -1,5 +1,5 @@
 -- Laws of answers that agree with outcomes: how agreement follows `after`, `closing`, `andThen` and `shift`.
-use mathlib.Core.Path.{_≡_, sym, ap, subst, _∙_}
+use mathlib.Core.Path.{_≡_, refl, sym, ap, subst, _∙_}
 use mathlib.Core.Bool.{Bool}
 use mathlib.Core.List.{List}
 use Prim.Native.Nat.{ℕ, _+_, _≤_, _<_}
@@ -10,7 +10,7 @@ use Rattle.text.proofs.Writing.{wrote-then, wrote-low}
 use Rattle.mitex_meaning.specs.Outcome.{Carry, Outcome, andThen, after, closing, shift, labelMost}
 use Rattle.mitex_meaning.specs.Outcome.Outcome.{refused, done}
 use Rattle.mitex_meaning.specs.State.{carryOf, placed, Carried}
-use Rattle.mitex_meaning.specs.Contract.{Place, placeOf, Agrees, Went, Declined, Takes}
+use Rattle.mitex_meaning.specs.Contract.{Place, placeOf, Agrees, wentWith, refusedWith, Takes}
 use Rattle.mitex_meaning.specs.Contract.Agrees.{declines, accepts}
 use Rattle.mitex_meaning.specs.Environments.{taken, dropped, takeLabel}
 use Rattle.mitex_meaning.specs.declared.LaTeXMode.{LaTeXMode}
@@ -30,26 +30,29 @@ pub record Good (a : Walked) (x : Place) : Type 0 where
 
 module _ {a : Walked} {x : Place} {row at : ℕ} {out out′ : List ℕ} where
   pub agrees-done :
-      {c : Carry} {w : List ℕ} {p : ℕ} (d : Converter) → Went d p a → placeOf d ≡ x → carryOf d ≡ c → d .«label_len» ≤ labelMost
+      {c : Carry} {w : List ℕ} {p : ℕ} (d : Converter) → a ≡ wentWith d p → placeOf d ≡ x → carryOf d ≡ c → d .«label_len» ≤ labelMost
       → Wrote at out w p out′ → Agrees a x row at out out′ (done c w)
-  agrees-done {c} {w} {p} d g ex ec l wr =
-      accepts (g .well) (ap placeOf (g .gives) ∙ ex) (ap carryOf (g .gives) ∙ ec)
-      (subst (λ (z : Converter). z .«label_len» ≤ labelMost) (sym (g .gives)) l) (subst (λ (q : ℕ). Wrote at out w q out′) (sym (g .next)) wr)
+  agrees-done {c} {w} d g ex ec l wr = subst (λ (b : Walked). Agrees b x row at out out′ (done c w)) (sym g) (accepts refl ex ec l wr)
 
   -- the converter went on with another carry
   pub agrees-carried :
-      {c : Converter} {e : Carry} {w : List ℕ} {p : ℕ} (d : Converter) → Went d p a → Carried c e d → placeOf c ≡ x
+      {c : Converter} {e : Carry} {w : List ℕ} {p : ℕ} (d : Converter) → a ≡ wentWith d p → Carried c e d → placeOf c ≡ x
       → c .«label_len» ≤ labelMost → Wrote at out w p out′ → Agrees a x row at out out′ (done e w)
   agrees-carried {c} d g m ex l wr =
       let same : placeOf d ≡ placeOf c = λ i. record { mode = m .mode i; env = m .env i; indent = m .indent i } in
       agrees-done d g (same ∙ ex) (m .carry) (m .short l) wr
 
-  pub agrees-refused : {n : ℕ} (r : ℕ) → 0 < n → Declined n (row + r) a → Agrees a x row at out out′ (refused n r)
-  agrees-refused r h d = declines {r = r} h (d .number) (d .at-row)
+  pub agrees-refused : {d : Converter} {n : ℕ} (r : ℕ) → 0 < n → a ≡ refusedWith d n (row + r) → Agrees a x row at out out′ (refused n r)
+  agrees-refused {d} {n} r h e = subst (λ (b : Walked). Agrees b x row at out out′ (refused n r)) (sym e) (declines h refl refl)
 
   -- refused at the element's own row
-  pub agrees-here : {n : ℕ} → 0 < n → Declined n row a → Agrees a x row at out out′ (refused n 0)
-  agrees-here {n} h d = declines {r = 0} h (d .number) (let e = d .at-row in omega arith)
+  pub agrees-here : {d : Converter} {n : ℕ} → 0 < n → a ≡ refusedWith d n row → Agrees a x row at out out′ (refused n 0)
+  agrees-here {d} {n} h e = agrees-refused 0 h (e ∙ ap (refusedWith d n) (let z : row ≡ row + 0 = omega arith in z))
+
+  -- what comes to a text is no refusal
+  pub agrees-well : {o : Outcome} {c : Carry} {w : List ℕ} → o ≡ done c w → Agrees a x row at out out′ o → a .refusal ≡ 0
+  agrees-well e (declines h p q) = let z : _≡_ {A = ℕ} 0 1 = cc in absurd (omega arith)
+  agrees-well e (accepts u ex ec l w) = u
 
   pub good : {o : Outcome} → Agrees a x row at out out′ o → a .refusal ≡ 0 → Good a x
   good (declines h p q) z = absurd (omega arith)

@@ -31,14 +31,16 @@ pub data Agrees (a : Walked) (x : Place) (row at : ℕ) (out out′ : List ℕ) 
       → a .converter .«label_len» ≤ labelMost → Wrote at out w (a .at) out′ → Agrees a x row at out out′ (done c w)
 
 -- a walk that went well, and one that was refused
+abbrev pub wentWith : Converter → ℕ → Walked
+wentWith c at = record { converter = c; at = at; refusal = 0; row = 0 }
+
+abbrev pub refusedWith : Converter → ℕ → ℕ → Walked
+refusedWith c n row = record { converter = c; at = 0; refusal = n; row = row }
+
 pub record Went (c : Converter) (at : ℕ) (a : Walked) : Type 0 where
   pub gives : a .converter ≡ c
   pub next : a .at ≡ at
   pub well : a .refusal ≡ 0
-
-pub record Declined (n row : ℕ) (a : Walked) : Type 0 where
-  pub number : a .refusal ≡ n
-  pub at-row : a .row ≡ row
 
 -- what ends an environment: a refusal is handed on; else the held label is written and dropped where the environment takes it
 pub record Takes (a : Walked) (list : Bool) (m : LaTeXMode) (out : List ℕ) (r : Walked) (out′ : List ℕ) : Type 0 where

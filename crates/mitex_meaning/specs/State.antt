@@ -2,8 +2,8 @@
 use mathlib.Core.Path.{_≡_}
 use mathlib.Core.Bool.{Bool, true, false}
 use Prim.Native.Nat.{ℕ, _+_, _-_, _≤_}
-use mathlib.Core.List.{List}
-use lib.ListN.{take, replicate}
+use mathlib.Core.List.{List, _++_}
+use lib.ListN.{length, take, drop, replicate}
 use Rattle.mitex_spec.specs.Rules.{Rule}
 use Rattle.mitex_meaning.specs.Outcome.{Context, Label, Carry, labelMost, stepOf}
 use Rattle.mitex_meaning.specs.Outcome.Label.{unheld, held}
@@ -59,6 +59,47 @@ enteredEnv e c = placed (c .mode) e (c .indent + stepOf e) c
 
 abbrev pub exitedEnv : LaTeXEnv → Converter → Converter
 exitedEnv p c = placed (c .mode) p (c .indent - stepOf (c .env)) c
+
+-- ---- another carry, in the place where it was
+
+abbrev pub withFlag : Bool → Converter → Converter
+withFlag b c =
+    record {
+      mode = c .mode;
+      env = c .env;
+      indent = c .indent;
+      label = c .label;
+      «label_len» = c .«label_len»;
+      «label_held» = c .«label_held»;
+      «skip_next_space» = b;
+    }
+
+-- the label's array, how many of its bytes count, and whether it is held
+abbrev pub holding : List ℕ → ℕ → Bool → Converter → Converter
+holding l n b c =
+    record {
+      mode = c .mode;
+      env = c .env;
+      indent = c .indent;
+      label = l;
+      «label_len» = n;
+      «label_held» = b;
+      «skip_next_space» = c .«skip_next_space»;
+    }
+
+abbrev pub withoutLabel : Converter → Converter
+withoutLabel c = holding (c .label) 0 false c
+
+-- the label is written over the front of the array
+abbrev pub withLabel : List ℕ → Converter → Converter
+withLabel s c = holding (s ++ drop (length s) (c .label)) (length s) true c
+
+abbrev pub labelledAs : Label → Converter → Converter
+labelledAs unheld c = withoutLabel c
+labelledAs (held s) c = withLabel s c
+
+abbrev pub withCarry : Carry → Converter → Converter
+withCarry e c = labelledAs (e .label) (withFlag (e .flag) c)
 
 -- ---- what moves
 

@@ -2,10 +2,9 @@
 ghost use mathlib.Core.Path.{_≡_};
 ghost use Prim.Native.Nat.{_+_, _<_, _≤_, _^_};
 ghost use lib.ListN.{length};
-ghost use Rattle.mitex_meaning.specs.Outcome.{flagged, labelled, labelMost, stepOf};
-ghost use Rattle.mitex_meaning.specs.Outcome.Label.{held, unheld};
-ghost use Rattle.mitex_meaning.specs.State.{carryOf, newOf, withMode, enteredEnv, exitedEnv, Carried};
-ghost use Rattle.mitex_meaning.specs.Contract.{Went, Declined};
+ghost use Rattle.mitex_meaning.specs.Outcome.{labelMost, stepOf};
+ghost use Rattle.mitex_meaning.specs.State.{newOf, withMode, enteredEnv, exitedEnv, withFlag, withLabel, withoutLabel};
+ghost use Rattle.mitex_meaning.specs.Contract.{wentWith, refusedWith};
 
 // The mode of the text that is written.
 pub enum LaTeXMode {
@@ -305,7 +304,7 @@ impl Converter {
 
     // The flag set so.
     pub fn with_flag(self, flag: bool) -> Converter
-        ensures { λ r. ⌜ Carried self (flagged flag (carryOf self)) r ⌝ }
+        ensures { λ r. ⌜ r ≡ withFlag flag self ⌝ }
     {
         Converter {
             skip_next_space: flag,
@@ -315,7 +314,7 @@ impl Converter {
 
     // With no label held.
     pub fn without_label(self) -> Converter
-        ensures { λ r. ⌜ Carried self (labelled unheld (carryOf self)) r ⌝ }
+        ensures { λ r. ⌜ r ≡ withoutLabel self ⌝ }
     {
         Converter {
             label_len: 0,
@@ -327,7 +326,7 @@ impl Converter {
     // With this label held.
     pub fn with_label(self, s: &[u8]) -> Converter
         requires { ⌜ length (now s) ≤ labelMost ⌝ }
-        ensures { λ r. ⌜ Carried self (labelled (held (now (s .entry))) (carryOf self)) r ⌝ }
+        ensures { λ r. ⌜ r ≡ withLabel (now (s .entry)) self ⌝ }
     {
         let mut label = self.label;
         let mut i = 0;
@@ -358,7 +357,7 @@ pub fn indent_in(mut c: Converter, context: LaTeXEnv) -> usize
 
 // A walk that went well.
 pub fn went(c: Converter, at: usize) -> Walked
-    ensures { λ r. ⌜ Went c at r ⌝ }
+    ensures { λ r. ⌜ r ≡ wentWith c at ⌝ }
 {
     Walked {
         converter: c,
@@ -370,7 +369,7 @@ pub fn went(c: Converter, at: usize) -> Walked
 
 // A walk that was refused.
 pub fn refuse(c: Converter, number: u8, row: usize) -> Walked
-    ensures { λ r. ⌜ Declined number row r ⌝ }
+    ensures { λ r. ⌜ r ≡ refusedWith c number row ⌝ }
 {
     Walked {
         converter: c,

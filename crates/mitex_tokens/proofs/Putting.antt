@@ -16,13 +16,14 @@ use Rattle.mitex_meaning.specs.Outcome.{Context, Label, Carry, Outcome, after, 
 use Rattle.mitex_meaning.specs.Outcome.Label.{unheld}
 use Rattle.mitex_meaning.specs.Outcome.Outcome.{refused, done}
 use Rattle.mitex_meaning.specs.State.{carryOf}
-use Rattle.mitex_meaning.specs.Contract.{placeOf, Agrees, Declined}
+use Rattle.mitex_meaning.specs.Contract.{placeOf, Agrees, refusedWith}
 use Rattle.mitex_meaning.specs.Tokens.{tokenText, whiteSpace, symbolBy, tokenOut}
 use Rattle.mitex_meaning.specs.Children.{before, converts, behind}
 use Rattle.mitex_meaning.specs.declared.Act.{Act}
 use Rattle.mitex_meaning.specs.declared.Act.the-variants.{Convert}
 use Rattle.mitex_meaning.specs.declared.Converter.{Converter}
 use Rattle.mitex_meaning.specs.declared.Walked.{Walked}
+use Rattle.mitex_meaning.proofs.Holding.{flag-says}
 use Rattle.mitex_meaning.proofs.Agreeing.{agrees-here, agrees-carried}
 use Rattle.mitex_loops.proofs.Closing.{passes-alone}
 use Rattle.mitex_loops.proofs.Plainly.{bare}
@@ -44,10 +45,28 @@ puts-low (accepts y w) z = wrote-low w
 pub settles-agrees :
     {a : TokenPut} {row at : ℕ} {out out′ : List ℕ} {o : Outcome} {r : Walked} (c : Converter) → Puts a (carryOf c .label) at out out′ o
     → Settles a row c r → c .«label_len» ≤ labelMost → Agrees r (placeOf c) row at out out′ o
-settles-agrees {row = row} {r = r} c (declines {n} h e) (declined z d) short = agrees-here h (subst (λ (k : ℕ). Declined k row r) e d)
+settles-agrees {row = row} c (declines {n} h e) (declined z d) short = agrees-here h (d ∙ ap (λ (k : ℕ). refusedWith c k row) e)
 settles-agrees c (declines h e) (carried z m g) short = absurd (omega arith)
 settles-agrees c (accepts z w) (declined y d) short = absurd (y z)
-settles-agrees c (accepts z w) (carried {d} y m g) short = agrees-carried d g m refl short w
+settles-agrees c (accepts z w) (carried {d} y m g) short = agrees-carried d g (flag-says c m) refl short w
+
+-- a walk that was refused: so was the token
+pub settles-refused : {a : TokenPut} {row : ℕ} {c : Converter} {r : Walked} → Settles a row c r → (r .refusal ≡ 0 → ⊥) → a .refusal ≡ 0 → ⊥
+settles-refused (declined z d) y = z
+settles-refused (carried z m g) y = absurd (y (ap (λ (w : Walked). w .refusal) g))
+
+-- what comes to a text is no refusal
+pub puts-well :
+    {o : Outcome} {e : Carry} {w : List ℕ} {a : TokenPut} {l : Label} {at : ℕ} {out out′ : List ℕ} → o ≡ done e w → Puts a l at out out′ o
+    → a .refusal ≡ 0
+puts-well q (declines h e) = let z : _≡_ {A = ℕ} 0 1 = cc in absurd (omega arith)
+puts-well q (accepts z w) = z
+
+pub space-well :
+    (b : Bool) (s : List ℕ) {a : TokenPut} {l : Label} {at : ℕ} {out out′ : List ℕ} → Puts a l at out out′ (whiteSpace b s (carrying b l))
+    → a .refusal ≡ 0
+space-well true s g = puts-well refl g
+space-well false s g = puts-well refl g
 
 -- ---- what is written around it
 

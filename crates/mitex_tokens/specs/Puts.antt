@@ -6,10 +6,10 @@ use mathlib.Core.List.{List, []}
 use Prim.Native.Nat.{ℕ, _<_}
 use Rattle.text.specs.Writing.{Wrote}
 use Rattle.mitex_spec.specs.Rules.{Rule}
-use Rattle.mitex_meaning.specs.Outcome.{Context, Label, Carry, Outcome, after, closing, flagged}
+use Rattle.mitex_meaning.specs.Outcome.{Context, Label, Carry, Outcome, after, closing}
 use Rattle.mitex_meaning.specs.Outcome.Outcome.{refused, done}
-use Rattle.mitex_meaning.specs.State.{carryOf, Carried}
-use Rattle.mitex_meaning.specs.Contract.{Went, Declined}
+use Rattle.mitex_meaning.specs.State.{withFlag}
+use Rattle.mitex_meaning.specs.Contract.{wentWith, refusedWith}
 use Rattle.mitex_meaning.specs.Tokens.{tokenOut}
 use Rattle.mitex_meaning.specs.Children.{before, converts, behind}
 use Rattle.mitex_meaning.specs.declared.LaTeXMode.{LaTeXMode}
@@ -41,5 +41,5 @@ pub data Puts (a : TokenPut) (l : Label) (at : ℕ) (out out′ : List ℕ) : Ou
 
 -- a walk that ends behind the token: refused as it was, or with the converter's flag moved
 pub data Settles (a : TokenPut) (row : ℕ) (c : Converter) (r : Walked) : Type 0 where
-  declined : (a .refusal ≡ 0 → ⊥) → Declined (a .refusal) row r → Settles a row c r
-  carried : {d : Converter} → a .refusal ≡ 0 → Carried c (flagged (a .flag) (carryOf c)) d → Went d (a .at) r → Settles a row c r
+  declined : (a .refusal ≡ 0 → ⊥) → r ≡ refusedWith c (a .refusal) row → Settles a row c r
+  carried : {d : Converter} → a .refusal ≡ 0 → d ≡ withFlag (a .flag) c → r ≡ wentWith d (a .at) → Settles a row c r

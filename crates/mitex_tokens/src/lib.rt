@@ -277,6 +277,7 @@ fn put_symbol(out: &mut [u8], at: usize, s: &[u8], rules: &[u8], index: &[u32]) 
     requires { ⌜ (at ≤ cap) × (length (now out) ≤ cap) ⌝ }
     requires { ⌜ SomeRules (now rules) (now index) ⌝ }
     ensures { λ r. ⌜ ((x : Context) (l : Label) → rulesOf (now (rules .entry)) ≡ some (x .rules) → Puts r l at (now (out .entry)) (now (out .exit)) (commandSym x (now (s .entry)) (carrying false l))) ⌝ }
+    ensures untouched { λ r. ⌜ ((r .refusal ≡ 0 → ⊥) → now (out .exit) ≡ now (out .entry)) ⌝ }
 {
     let name = mitex_loops::past_first(s);
     let found = mitex_spec::get_cmd(rules, index, name);
@@ -327,6 +328,7 @@ pub fn put_token(
     requires { ⌜ (at ≤ cap) × (length (now out) ≤ cap) ⌝ }
     requires { ⌜ SomeRules (now rules) (now index) ⌝ }
     ensures { λ r. ⌜ ((rs : List Rule) (l : Label) → rulesOf (now (rules .entry)) ≡ some rs → Puts r l at (now (out .entry)) (now (out .exit)) (tokenOut (inside rs mode env indent) kind (now (s .entry)) (carrying flag l))) ⌝ }
+    ensures untouched { λ r. ⌜ ((r .refusal ≡ 0 → ⊥) → now (out .exit) ≡ now (out .entry)) ⌝ }
 {
     match kind {
         TOKEN_WHITE_SPACE => put_space(out, at, s, flag),
@@ -488,6 +490,7 @@ pub fn convert_token(
     requires { ⌜ (at ≤ cap) × (length (now out) ≤ cap) × (c .«label_len» ≤ labelMost) ⌝ }
     requires { ⌜ SomeRules (now rules) (now index) ⌝ }
     ensures { λ r. ⌜ ((rs : List Rule) → rulesOf (now (rules .entry)) ≡ some rs → Agrees r (placeOf c) row at (now (out .entry)) (now (out .exit)) (tokenOut (contextOf rs c) kind (now (s .entry)) (carryOf c))) ⌝ }
+    ensures untouched { λ r. ⌜ ((r .refusal ≡ 0 → ⊥) → now (out .exit) ≡ now (out .entry)) ⌝ }
 {
     let mode = c.mode;
     let env = c.env;

@@ -7,7 +7,9 @@ use borrow.Author.Needs.{needs}
 use Rattle.mitex_meaning.specs.Outcome.{Carry}
 use Rattle.mitex_meaning.specs.State.{newOf, Carried}
 use Rattle.mitex_meaning.specs.declared.Converter.{Converter}
+use Rattle.mitex_meaning.proofs.Holding.{carry-says}
 use Rattle.ledger.specs.Ledger.{rowAt, decodeRows}
+use Rattle.ledger.proofs.Reading.{rowAt-short}
 use Rattle.edit_meaning.specs.Edit.{carryBefore}
 use Rattle.edit_meaning.proofs.Bytes.{carryBefore-at}
 use Rattle.calls.proofs.carry_before.Statement.{statement}
@@ -43,10 +45,12 @@ returns-2 : tie.Need-returns-2
 returns-2 c =
     let d = c .before .before in
     let s = d .before .before in
+    let fits = s .pre (omega (arith, d .if1 .left)) in
     λ n h.
     subst (λ (e : Carry). Carried (newOf (s .args .mode)) e (c .row-carry .result))
     (row-before (s .args .k) n (s .args .ledger .now) (d .if1 .left) h)
-    (carried-on (c .before .opening2 .ensures) (c .row-carry .ensures))
+    (carried-on (c .before .opening2 .ensures)
+    (carry-says (c .before .opening2 .result) _ (rowAt-short (s .args .k - 1) (s .args .ledger .now) (fits .1)) (c .row-carry .ensures)))
 
 pub carry-before-spec : {M : Type 1} → statement M
 carry-before-spec =

@@ -36,7 +36,7 @@ token-here c rs l e =
     puts-as
     (ap (λ (v : LaTeXEnv). tokenOut (inside rs (a .mode) v (a .indent)) (a .kind) (a .s .now) (carrying false l))
     (sym (c .before .before .braced-env .ensures)))
-    (c .put-token .ensures rs l e)
+    (c .put-token .ensures .0 rs l e)
 
 braced-env-requires : tie.Need-braced-env-requires
 braced-env-requires c κs = search needs
@@ -57,7 +57,7 @@ put-blank-requires : tie.Need-put-blank-requires
 put-blank-requires c κs =
     let t = c .before .before .before .before .before in
     let p = start t .pre in (
-      puts-low (t .put-token .ensures (p .1 .rules) unheld (p .1 .ready .decodes)) (c .before .if1 .left),
+      puts-low (t .put-token .ensures .0 (p .1 .rules) unheld (p .1 .ready .decodes)) (c .before .if1 .left),
       omega (arith, t .put-token .kept .0, p .0 .1),
     )
 

@@ -36,7 +36,7 @@ returns-2 c =
     λ rs l e.
     puts-as
     (ap (λ (b : Bool). heldOut b (inside rs (a .mode) (a .env) (a .indent)) (a .kind) (a .s .now) (carrying (a .flag) l)) (else .if1 .left))
-    (c .before .before .put-token .ensures rs l e)
+    (c .before .before .put-token .ensures .0 rs l e)
 
 pub put-held-spec : {M : Type 1} → statement M
 put-held-spec = tie.close (tie.spec put-braced-requires same-length returns put-token-requires same-length-2 returns-2)

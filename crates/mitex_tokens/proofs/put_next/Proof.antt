@@ -41,7 +41,7 @@ same-length-3 : tie.Need-same-length-3
 same-length-3 c = search needs
 
 returns-3 : tie.Need-returns-3
-returns-3 c = λ rs l e. c .before .before .put-token .ensures rs l e
+returns-3 c = λ rs l e. c .before .before .put-token .ensures .0 rs l e
 
 pub put-next-spec : {M : Type 1} → statement M
 put-next-spec =

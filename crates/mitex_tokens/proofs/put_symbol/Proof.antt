@@ -1,5 +1,5 @@
 -- `mitex_tokens::put_symbol` meets its contract: by what `get_cmd` finds, and its written name.
-use mathlib.Core.Path.{_∙_, ap, sym}
+use mathlib.Core.Path.{refl, sym, ap, _∙_}
 use mathlib.Core.Bool.{false}
 use Prim.Native.Nat.{_+_, _≤_}
 use native.Mathlib.Omega.{arith}
@@ -10,7 +10,7 @@ use Rattle.mitex_meaning.specs.Tokens.{symbolBy}
 use Rattle.mitex_tokens.specs.Puts.{carrying}
 use Rattle.mitex_tokens.specs.Puts.Puts.{declines}
 use Rattle.mitex_tokens.proofs.Tokens.{alias-inside, symbol-absent, symbol-aliased, symbol-plain}
-use Rattle.mitex_tokens.proofs.Putting.{puts-as}
+use Rattle.mitex_tokens.proofs.Putting.{puts-as, puts-well}
 use borrow.Author.Needs.{needs}
 use Rattle.mitex_tokens.proofs.put_symbol.Statement.{statement}
 use Rattle.mitex_tokens.proofs.put_symbol.Tie as tie
@@ -69,8 +69,10 @@ put-plain-requires-2 c κs = search needs
 
 returns : tie.Need-returns
 returns c =
-    let c₁ = c .before .before .before .before in
-    λ x l e. puts-as (ap (λ n. symbolBy n (getCmd (x .rules) n) (carrying false l)) (sym (c₁ .past-first .ensures)) ∙ symbol-absent (carrying false l) (c .before .before .before .get-cmd .ensures (x .rules) e) (c .before .enum-told .given .1)) (declines (omega arith) (c .put-none .ensures))
+    let c₁ = c .before .before .before .before in (
+      λ x l e. puts-as (ap (λ n. symbolBy n (getCmd (x .rules) n) (carrying false l)) (sym (c₁ .past-first .ensures)) ∙ symbol-absent (carrying false l) (c .before .before .before .get-cmd .ensures (x .rules) e) (c .before .enum-told .given .1)) (declines (omega arith) (c .put-none .ensures)),
+      λ z. refl,
+    )
 
 same-length : tie.Need-same-length
 same-length c = search needs
@@ -79,8 +81,10 @@ returns-2 : tie.Need-returns-2
 returns-2 c =
     let c₁ = c .before .before .before .before in
     let c₂ = c₁ .before .before in
-    let c₃ = c₂ .before in
-    λ x l e. puts-as (ap (λ n. symbolBy n (getCmd (x .rules) n) (carrying false l)) (sym (c₃ .past-first .ensures)) ∙ symbol-plain (carrying false l) (c₂ .get-cmd .ensures (x .rules) e) (c₁ .enum-told2 .given .1)) (c .before .before .put-plain .ensures l)
+    let c₃ = c₂ .before in (
+      λ x l e. puts-as (ap (λ n. symbolBy n (getCmd (x .rules) n) (carrying false l)) (sym (c₃ .past-first .ensures)) ∙ symbol-plain (carrying false l) (c₂ .get-cmd .ensures (x .rules) e) (c₁ .enum-told2 .given .1)) (c .before .before .put-plain .ensures l),
+      λ z. absurd (z (puts-well refl (c .before .before .put-plain .ensures unheld))),
+    )
 
 same-length-2 : tie.Need-same-length-2
 same-length-2 c = search needs
@@ -90,8 +94,10 @@ returns-3 c =
     let c₁ = c .before .before .before .before .before in
     let c₂ = c₁ .before in
     let c₃ = c₂ .before .before in
-    let c₄ = c₃ .before in
-    λ x l e. puts-as (ap (λ n. symbolBy n (getCmd (x .rules) n) (carrying false l)) (sym (c₄ .past-first .ensures)) ∙ symbol-aliased (carrying false l) (c₃ .get-cmd .ensures (x .rules) e) (c₂ .found .given .1)) (c .before .before .put-plain2 .ensures l)
+    let c₄ = c₃ .before in (
+      λ x l e. puts-as (ap (λ n. symbolBy n (getCmd (x .rules) n) (carrying false l)) (sym (c₄ .past-first .ensures)) ∙ symbol-aliased (carrying false l) (c₃ .get-cmd .ensures (x .rules) e) (c₂ .found .given .1)) (c .before .before .put-plain2 .ensures l),
+      λ z. absurd (z (puts-well refl (c .before .before .put-plain2 .ensures unheld))),
+    )
 
 pub put-symbol-spec : {M : Type 1} → statement M
 put-symbol-spec =

@@ -2,6 +2,7 @@
 use mathlib.Core.Path.{refl}
 use Prim.Native.Nat.{_+_, _-_, _≤_}
 use native.Mathlib.Omega.{arith}
+use Rattle.mitex_meaning.proofs.Holding.{went-says}
 use Rattle.passes.proofs.Reaching.{Reaches, reaches-start, reaches-low, reaches-begun, reaches-spans, reaches-next, reaches-stands}
 use Rattle.passes.proofs.stand_at.Statement.{statement}
 use Rattle.passes.proofs.stand_at.Tie as tie
@@ -43,7 +44,7 @@ went-requires : tie.Need-went-requires Inv-loop μ-loop
 went-requires c κs = tt
 
 returns : tie.Need-returns Inv-loop μ-loop
-returns c = reaches-stands (c .before .before .loop .inv .1) (omega arith) refl (c .went .ensures)
+returns c = reaches-stands (c .before .before .loop .inv .1) (omega arith) refl (went-says (c .went .ensures))
 
 pub stand-at-spec : {M : Type 1} → statement M
 stand-at-spec =

@@ -193,7 +193,7 @@ command-returns t c =
     let at-convert-command-item = c .before .before in
     let at-told = at-convert-command-item .before .before in
     λ rs ready f sp n h. agrees-as (command-here t (at-told .before .before) Item (at-told .enum-told .given .1) rs f sp n)
-    (at-convert-command-item .convert-command-item .ensures)
+    (at-convert-command-item .convert-command-item .ensures .0)
 
 command-same-length-2 : (t : ℕ) → lts.Need-same-length-2 (calls t) (pre-at t) self.Post
 command-same-length-2 t c =
@@ -205,7 +205,7 @@ command-returns-2 t c =
     let at-convert-command-label = c .before .before in
     let at-told = at-convert-command-label .before .before in
     λ rs ready f sp n h. agrees-as (command-here t (at-told .before .before) Label (at-told .enum-told2 .given .1) rs f sp n)
-    (at-convert-command-label .convert-command-label .ensures f sp)
+    (at-convert-command-label .convert-command-label .ensures .0 f sp)
 
 command-same-length-3 : (t : ℕ) → lts.Need-same-length-3 (calls t) (pre-at t) self.Post
 command-same-length-3 t c =

@@ -17,6 +17,7 @@ use Rattle.mitex_meaning.specs.Conversion.{elementOf, armBy, convert as meaning
 use Rattle.mitex_meaning.specs.declared.Element.{Element}
 use Rattle.mitex_meaning.specs.declared.Element.the-variants.{Children, Formula, CurlyGroup, ClauseLr, AttachComponent, Silent, Command, Environment, TypstCode}
 use Rattle.mitex_meaning.specs.declared.Walked.{Walked}
+use Rattle.mitex_meaning.proofs.Holding.{flag-says}
 use Rattle.mitex_meaning.proofs.Agreeing.{agrees-as, agrees-here, agrees-shift, agrees-carried}
 use Rattle.mitex_commands.proofs.Elements.{ofNode}
 use Rattle.mitex_plans.specs.Plans.{Single, Means}
@@ -54,7 +55,7 @@ falls-here t c k h =
 room-here :
     (t : ℕ) (c : Here t) → let a = entry t c .args in
     Room 8 (below (a .rows .now)) (a .text .now) (a .out .now) (a .at) (a .row) (c .with-flag .result)
-room-here t c = let start = entry t c in room-below (start .pre .1 .0) (rows-some (start .pre .1 .1 .1 .spells)) (c .with-flag .ensures)
+room-here t c = let start = entry t c in room-below (start .pre .1 .0) (rows-some (start .pre .1 .1 .1 .spells)) (flag-says (start .args .c) (c .with-flag .ensures))
 
 children-here :
     (t : ℕ) (c : Here t) (e : Element) → told t c .element-of .result ≡ e → ofNode e ≡ true
@@ -75,7 +76,7 @@ arm-here :
     → let a = entry t c .args in
     Walks (a .rules .now) (a .index .now) (below (a .rows .now)) (a .text .now) (a .row) (c .with-flag .result) (a .at) (a .out .now) w out′ (armBy e)
     → Converts (a .rules .now) (a .index .now) (a .rows .now) (a .text .now) (a .row) (a .c) (a .at) (a .out .now) w out′
-arm-here t c e q z m = converts-arm e (c .with-flag .ensures) (kind-here t c q) z m
+arm-here t c e q z m = converts-arm e (flag-says (entry t c .args .c) (c .with-flag .ensures)) (kind-here t c q) z m
 
 -- and one that walks over all of them by a plan
 plan-here :
@@ -336,7 +337,7 @@ convert-returns-8 t c =
     let start = entry t here in
     let d = start .args .c in
     λ rs ready u sp n h. let y = at-node (contextOf rs d) u (carryOf d) sp n h Silent (kind-here t here (at-told .enum-told7 .given .1)) refl in
-    agrees-as (y .is) (agrees-carried (here .with-flag .result) (c .went .ensures) (here .with-flag .ensures) refl (start .pre .1 .0 .label)
+    agrees-as (y .is) (agrees-carried (here .with-flag .result) (c .went .ensures) (flag-says d (here .with-flag .ensures)) refl (start .pre .1 .0 .label)
     (wrote-nil _ _ (start .pre .1 .0 .place)))
 
 convert-same-length-7 : (t : ℕ) → lts.Need-same-length-7 (calls t) (pre-at t) self.Post
@@ -374,7 +375,7 @@ convert-returns-11 t c =
     let start = entry t here in
     let d = start .args .c in
     λ rs ready u sp n h. let y = at-node (contextOf rs d) u (carryOf d) sp n h TypstCode (kind-here t here (at-told .enum-told10 .given .1)) refl in
-    agrees-as (y .is) (agrees-carried (here .with-flag .result) (c .went2 .ensures) (here .with-flag .ensures) refl (start .pre .1 .0 .label)
+    agrees-as (y .is) (agrees-carried (here .with-flag .result) (c .went2 .ensures) (flag-says d (here .with-flag .ensures)) refl (start .pre .1 .0 .label)
     (wrote-as (y .spells .text-is) (at-put .put .ensures)))
 
 convert-same-length-10 : (t : ℕ) → lts.Need-same-length-10 (calls t) (pre-at t) self.Post
@@ -389,7 +390,7 @@ convert-returns-12 t c =
     let here = at-told .before .before in
     let d = entry t here .args .c in
     λ rs ready u sp n h. agrees-as (at-token (contextOf rs d) u (carryOf d) sp n h (kind-here t here (at-told .enum-told11 .given .1)))
-    (at-convert-token .convert-token .ensures rs (ready .decodes))
+    (at-convert-token .convert-token .ensures .0 rs (ready .decodes))
 
 -- its code meets what it promises, if those it calls do where less is left
 pub convert-closed : {M : Type 1} (t : ℕ) → lts.Closed (calls t) (pre-at t) self.Post M
