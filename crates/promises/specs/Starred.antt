@@ -56,7 +56,7 @@ case c a text ledger = record { call = c; gives = record { answer = a; text = te
 
 -- ---- bytes
 
-abbrev inText : ℕ
+abbrev pub inText : ℕ
 inText = 0
 
 abbrev inMath : ℕ
@@ -78,7 +78,7 @@ abbrev tree : String → List (List ℕ) → List ℕ
 tree s rows = file s (node ScopeRoot (length rows) ∷ rows)
 
 -- `quote`: no alias, class 3, a normal environment. `tabular`: alias `table`, class 8, a table
-abbrev rules : List ℕ
+abbrev pub rules : List ℕ
 rules = file "quotetabulartable" ((5 ∷ 0 ∷ 255 ∷ 255 ∷ 3 ∷ 0 ∷ 0 ∷ 0 ∷ []) ∷ (7 ∷ 0 ∷ 5 ∷ 0 ∷ 8 ∷ 0 ∷ 0 ∷ 0 ∷ []) ∷ [])
 
 abbrev sevens : ℕ → List ℕ
@@ -149,7 +149,14 @@ tableText =
     ascii "#table(stroke: none,\ncolumns: 1,\nalign: (left, ),\n"
     ++ ascii "table.vline(stroke: .5pt, x: 0), table.vline(stroke: .5pt, x: 1), \n[a],\n);"
 
--- the formula and then the table, converted: the first row holds the label `e`
+-- `${\\label{e}}$` and then that table; and block 0 of it edited to `a`
+abbrev pub labelled : List ℕ
+labelled = tree "${\\label{e}}$tabular{|l|}a\\\\tabular" (formula ++ table)
+
+abbrev pub unlabelled : List ℕ
+unlabelled = tree "atabular{|l|}a\\\\tabular" (word 1 ∷ table)
+
+-- the first of these, converted: the first row holds the label `e`
 abbrev keptText : List ℕ
 keptText = ascii "#math.equation(block: false, $$);" ++ tableText ++ ascii "<e>" ++ sevens 5
 
@@ -193,10 +200,10 @@ hand =
     ∷ case (converts inText rules (tree "tabular{|l|}a\\\\tabular" table) (sevens 126) (ledgerFor 1))
     (converted 124 1) (tableText ++ sevens 2) (row (124 ∷ []) ++ sevens 2)
     -- `${\label{e}}$` then that table
-    ∷ case (converts inText rules (tree "${\\label{e}}$tabular{|l|}a\\\\tabular" (formula ++ table)) (sevens 165) (sevens (rowSize * 2 + 4)))
+    ∷ case (converts inText rules labelled (sevens 165) (sevens (rowSize * 2 + 4)))
     (converted 160 2) keptText keptLedger
     -- block 0 edited to `a`, in the buffers that this left
-    ∷ case (edits inText rules (tree "atabular{|l|}a\\\\tabular" (word 1 ∷ table)) 0 160 keptText keptLedger)
+    ∷ case (edits inText rules unlabelled 0 160 keptText keptLedger)
     (edited 125 (minus 35) 2) (ascii "a" ++ tableText ++ zeros 35 ++ sevens 5) (row (1 ∷ []) ++ row (125 ∷ []) ++ sevens 4)
     ∷ []
 

@@ -1,0 +1,29 @@
+-- What demand 3 asks of a caller can be met: the starred edit, which takes the label's block away from a table that wrote it, is allowed
+-- (`edit-allowed`). So `demand-3` has something to say of it: `Starred` has what it answers and leaves, byte by byte.
+use mathlib.Core.Path.{_≡_, refl, ap, subst₂}
+use mathlib.Core.List.{List, [], _∷_, flatten}
+use Prim.Native.Nat.{ℕ}
+use Rattle.mitex_syntax.specs.Tree.{Tree}
+use Rattle.edit_meaning.specs.Walk.{CheckedFile}
+use Rattle.edit_meaning.specs.Walk.CheckedFile.{bad, good}
+use Rattle.edit_meaning.specs.Run.{Edit, OnlyAt, Allowed}
+use Rattle.manuscript.specs.Manuscript.{manuscript}
+use Rattle.promises.specs.Starred.{result, inText, rules, labelled, unlabelled}
+
+abbrev theEdit : Edit
+theEdit = record { tree = unlabelled; block = 0 }
+
+abbrev blocksIfGood : CheckedFile Tree → List Tree
+blocksIfGood (bad n row) = []
+blocksIfGood (good bs) = bs
+
+abbrev blocksAt : List ℕ → List Tree
+blocksAt tree = blocksIfGood ((manuscript inText rules) .check tree)
+
+only-first : OnlyAt 0 (blocksAt labelled) (blocksAt unlabelled)
+unfolding result flatten
+only-first = record { count = refl; before = refl; after = refl }
+
+pub edit-allowed : (t l : List ℕ) → Allowed (manuscript inText rules) t l labelled (theEdit ∷ [])
+unfolding Allowed
+edit-allowed t l = (λ bs bs′ old new h. subst₂ (OnlyAt 0) (ap blocksIfGood old) (ap blocksIfGood new) only-first, tt)
