@@ -43,15 +43,6 @@ rises-far (r ∷ rs) name (suc k) e h =
 
 -- ---- the rank of a name
 
-pub rank-most : (rs : List Rule) (name : List ℕ) → rankOf rs name ≤ length rs
-unfolding rankOf
-rank-most [] name = omega arith
-rank-most (r ∷ rs) name =
-    let i = rank-most rs name in
-    by-test (precedes (r .name) name)
-    (λ e. let q = rank-cons r rs name true e in omega arith)
-    (λ e. let q = rank-cons r rs name false e in omega arith)
-
 -- a name that does not come before it has at most the names before it before it
 pub rank-low : (rs : List Rule) (name : List ℕ) (k : ℕ) → k < length rs → precedes (ruleNo rs k .name) name ≡ false → rankOf rs name ≤ k
 rank-low [] name k h e = absurd (omega arith)
