@@ -11,7 +11,8 @@ use Rattle.mitex_spec.specs.Rules.{Rule}
 use Rattle.mitex_spec.specs.Index.{Ready, SomeRules}
 use Rattle.mitex_syntax.specs.Tree.{Forest, count}
 use Rattle.mitex_syntax.specs.Spells.{SpellsAll}
-use Rattle.tree_file.specs.Layout.{fileMost, blocksMost}
+use Rattle.text.specs.Trailer.{fileMost}
+use Rattle.tree_file.specs.Layout.{blocksMost}
 use Rattle.tree_file.specs.declared.Checked.{Checked}
 use Rattle.tree_file.specs.declared.Checked.the-variants.{Whole as Sound, Refused as Bad}
 use Rattle.mitex_meaning.specs.State.{newOf, carryOf, Carried}

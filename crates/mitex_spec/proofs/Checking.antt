@@ -19,7 +19,8 @@ use Rattle.text.proofs.Writing.{part-rest}
 use Rattle.utf8.specs.Utf8.{oneByteEach, valid, run}
 use Rattle.utf8.proofs.Texts.{one-valid, one-take, one-drop}
 use Rattle.mitex_spec.specs.Rules.{Rule}
-use Rattle.mitex_spec.specs.RuleFile.{classMost, noAlias, padded, validAlias, ruleFits, risesFrom, rises, nameLength, aliasLength, taken, aliasAt, ruleAt, ruleRowFits, ahead, rulesIn, rising}
+use Rattle.text.specs.Trailer.{ahead}
+use Rattle.mitex_spec.specs.RuleFile.{classMost, noAlias, padded, validAlias, ruleFits, risesFrom, rises, nameLength, aliasLength, taken, aliasAt, ruleAt, ruleRowFits, rulesIn, rising}
 use Rattle.mitex_spec.specs.Index.{startsFrom, accepted}
 use Rattle.mitex_spec.proofs.RuleFile.{RuleRowFits, row-says}
 

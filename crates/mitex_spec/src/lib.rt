@@ -7,9 +7,10 @@ ghost use Prim.Native.Nat.{ℕ, _+_, _*_, _≤_, _<_};
 ghost use lib.ListN.{length, set};
 ghost use lib.Seq.{sets};
 ghost use Rattle.text.specs.Compare.{precedes};
+ghost use Rattle.text.specs.Trailer.{fileMost};
 ghost use Rattle.utf8.specs.Utf8.{oneByteEach};
 ghost use Rattle.mitex_spec.specs.Rules.{Rule, get, getCmd, getEnv, aliasOr};
-ghost use Rattle.mitex_spec.specs.RuleFile.{rulesOf, rulesIn, rising, padded, ruleRowFits, aliasLength, taken, fileMost, startOf, countOf};
+ghost use Rattle.mitex_spec.specs.RuleFile.{rulesOf, rulesIn, rising, padded, ruleRowFits, aliasLength, taken};
 ghost use Rattle.mitex_spec.specs.Index.{startsFrom, firstsAt, indexSize, firstOf, firstsBelow, firsts, accepted, ChecksRules, ruleNo, rankOf, Numbered, SomeRule, SomeRules};
 ghost use Rattle.mitex_spec.specs.LookUp.{aliasOf, endOf, isCmd, Finds, Answers};
 ghost use Rattle.mitex_spec.specs.declared.Found.the-variants.{Absent};
@@ -20,8 +21,6 @@ pub enum Found {
     Plain { class: u8 },
     Aliased { class: u8, at: usize, size: usize },
 }
-
-const FILE_MOST: usize = 65536;
 
 const NO_ALIAS: usize = 65535;
 
@@ -159,22 +158,6 @@ fn fill_index(rows: &[u8], index: &mut [u32])
     }
 }
 
-// Where the rows start, by the trailer.
-fn start_of(file: &[u8]) -> usize
-    requires { ⌜ 8 ≤ length (now file) ⌝ }
-    ensures { λ r. ⌜ (r ≡ startOf (now (file .entry))) × (r < 4294967296) ⌝ }
-{
-    text::read_u32(file, file.len() - 8)
-}
-
-// How many rows there are, by the trailer.
-fn count_of(file: &[u8]) -> usize
-    requires { ⌜ 8 ≤ length (now file) ⌝ }
-    ensures { λ r. ⌜ (r ≡ countOf (now (file .entry))) × (r < 4294967296) ⌝ }
-{
-    text::read_u32(file, file.len() - 4)
-}
-
 // ---- the table of first bytes
 
 fn wide_u32(n: u32) -> usize
@@ -189,7 +172,7 @@ fn name_at<'a, 'b>(file: &'a [u8], index: &'b [u32], k: usize) -> &'a [u8]
     ensures { λ r. ⌜ ((rs : List Rule) → rulesOf (now (file .entry)) ≡ some rs → now r ≡ ruleNo rs k .name) ⌝ }
 {
     let at = wide_u32(index[k]);
-    let row = start_of(file) + 8 * k;
+    let row = text::start_of(file) + 8 * k;
     let end = at + text::read_u16(file, row);
     &file[at..end]
 }
@@ -210,7 +193,7 @@ fn firsts_below(file: &[u8], index: &[u32], b: usize, from: usize) -> usize
     requires { ⌜ ((rs : List Rule) → rulesOf (now file) ≡ some rs → from ≤ firstsBelow b rs) ⌝ }
     ensures { λ r. ⌜ ((rs : List Rule) → rulesOf (now (file .entry)) ≡ some rs → r ≡ firstsBelow b rs) ⌝ }
 {
-    let count = count_of(file);
+    let count = text::count_of(file);
     let mut k = from;
     while k < count {
         if b <= first_byte(name_at(file, index, k)) {
@@ -240,16 +223,10 @@ pub fn check_rules(file: &[u8], index: &mut [u32]) -> bool
     requires { ⌜ indexSize ≤ length (now index) ⌝ }
     ensures { λ r. ⌜ ChecksRules (now (file .entry)) (now (index .entry)) r (now (index .exit)) ⌝ }
 {
-    if file.len() < 8 {
+    if !text::trailed(file) {
         return false;
     }
-    if FILE_MOST < file.len() {
-        return false;
-    }
-    let start = start_of(file);
-    if start + 8 * count_of(file) + 8 != file.len() {
-        return false;
-    }
+    let start = text::start_of(file);
     let end = file.len() - 8;
     if !rules_fit(&file[start..end], &file[..start]) {
         return false;
@@ -285,7 +262,7 @@ fn rule_at(file: &[u8], index: &[u32], k: usize) -> Found
     requires { ⌜ SomeRule (now file) (now index) k ⌝ }
     ensures { λ r. ⌜ ((rs : List Rule) → rulesOf (now (file .entry)) ≡ some rs → Finds (now (file .entry)) (ruleNo rs k .name) (some (ruleNo rs k)) r) ⌝ }
 {
-    let row = start_of(file) + 8 * k;
+    let row = text::start_of(file) + 8 * k;
     let class = file[row + 4];
     let size = text::read_u16(file, row + 2);
     if size == NO_ALIAS {
@@ -301,7 +278,7 @@ pub fn get(file: &[u8], index: &[u32], name: &[u8]) -> Found
     ensures { λ r. ⌜ Answers (now (file .entry)) (now (name .entry)) (λ rs. get rs (now (name .entry))) r ⌝ }
 {
     let k = rank(file, index, name);
-    if count_of(file) <= k {
+    if text::count_of(file) <= k {
         return Found::Absent;
     }
     if text::same(name_at(file, index, k), name) {

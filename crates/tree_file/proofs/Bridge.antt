@@ -17,7 +17,8 @@ use Rattle.mitex_syntax.specs.Tree.{Tree, size, textOf, count}
 use Rattle.mitex_syntax.specs.Tree.Tree.{token, node}
 use Rattle.mitex_syntax.specs.Spells.{Spells, SpellsAll}
 use Rattle.mitex_syntax.proofs.Trees.{size-node, under}
-use Rattle.tree_file.specs.Layout.{fileMost, blocksMost, decode, Laid, Rooted, startOf}
+use Rattle.text.specs.Trailer.{fileMost, startOf}
+use Rattle.tree_file.specs.Layout.{blocksMost, decode, Laid, Rooted}
 use Rattle.tree_file.specs.Depth.{depth, depthMost}
 use Rattle.tree_file.specs.Shape.{lowest, Shaped, ShapedAll}
 use Rattle.tree_file.specs.Check.{Verdict, byDepth, byShape, checkTree, blocksOf, checkedAnswer}

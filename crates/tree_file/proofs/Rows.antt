@@ -2,8 +2,7 @@
 -- rows that fit are read as these.
 use mathlib.Core.Path.{_≡_, refl, sym, ap, subst, _∙_}
 use mathlib.Core.Bool.{Bool, true, false, _&&_, cond, and-eq-true-iff}
-use mathlib.Core.Option.{Option}
-use mathlib.Core.Option.Option.{none as nothing, some}
+use mathlib.Core.Option.Option.{some}
 use mathlib.Core.List.{List, [], _∷_, _++_}
 use Prim.Native.Nat.{ℕ, zero, suc, _+_, _*_, _≤_, _<_}
 use native.Mathlib.Omega.{arith}
@@ -16,7 +15,9 @@ use Rattle.text.specs.Writing.{cap}
 use Rattle.text.proofs.Numbers.{eight, bytes-drop, four-says, four-of}
 use Rattle.mitex_syntax.specs.Syntax.{isNode}
 use Rattle.mitex_syntax.specs.Spells.{tokenFits}
-use Rattle.tree_file.specs.Layout.{Line, lines, rowAt, ahead, after, taken}
+use Rattle.text.specs.Trailer.{ahead}
+use Rattle.text.proofs.Trailer.{ahead-some}
+use Rattle.tree_file.specs.Layout.{Line, lines, rowAt, after, taken}
 use Rattle.tree_file.specs.Layout.Line.{tok, nod}
 use Rattle.tree_file.specs.Parts.{bytesOf, textsIn, LinesFit}
 use Rattle.tree_file.specs.declared.Row.{Row}
@@ -80,10 +81,6 @@ pub record Read (rows text : List ℕ) (ls : List Line) : Type 0 where
   pub rows-are : rows ≡ bytesOf ls
   pub text-is : text ≡ textsIn ls
   pub fit : LinesFit ls
-
-ahead-some : (l : Line) (o : Option (List Line)) (ls : List Line) → ahead l o ≡ some ls → (ms : List Line) × ((o ≡ some ms) × (l ∷ ms ≡ ls))
-ahead-some l nothing ls e = absurd (no-some e)
-ahead-some l (some ms) ls e = (ms, (refl, cc))
 
 same-rows : (rows : List ℕ) (m n : ℕ) (r : List ℕ) → Bytes rows → 8 ≤ length rows → getD rows 1 0 ≡ m → getD rows 2 0 ≡ 0 → getD rows 3 0 ≡ 0 → n ≡ fourAt 4 rows → drop 8 rows ≡ r
     → rows ≡ getD rows 0 0 ∷ m ∷ 0 ∷ 0 ∷ four n r

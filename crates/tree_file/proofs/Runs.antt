@@ -10,7 +10,8 @@ use lib.Dec.{eqb}
 use Rattle.text.proofs.Writing.{part-rest}
 use borrow.Author.Tests.{ne-eqb}
 use lib.ListN.{length, take, drop, length-drop}
-use Rattle.tree_file.specs.Layout.{Line, rowAt, taken, ahead, after, lines}
+use Rattle.text.specs.Trailer.{ahead}
+use Rattle.tree_file.specs.Layout.{Line, rowAt, taken, after, lines}
 use Rattle.tree_file.specs.Shape.{isSome}
 use Rattle.tree_file.specs.Parts.{isBad}
 use Rattle.tree_file.specs.declared.Row.{Row}
