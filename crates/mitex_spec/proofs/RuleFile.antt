@@ -18,7 +18,7 @@ use Rattle.text.specs.Trailer.{fileMost, startOf, countOf, trailed, textArea, r
 use Rattle.text.proofs.Trailer.{Trailed, trailed-says, trailed-is, areas, length-textArea, length-rowArea, bytes-rowArea, laidOut, laid-length, laid-count, laid-trailed, laid-text, laid-rows, ahead-some}
 use Rattle.utf8.specs.Utf8.{valid}
 use Rattle.mitex_spec.specs.Rules.{Rule, rule}
-use Rattle.mitex_spec.specs.RuleFile.{classMost, noAlias, padded, validAlias, ruleFits, allFit, rises, nameLength, aliasLength, taken, aliasAt, ruleAt, ruleRowFits, rulesIn, rising, rulesOf, aliasNumber, aliasText, ruleText, ruleRow, textOfRules, rowsOfRules, fileOfRules}
+use Rattle.mitex_spec.specs.RuleFile.{classMost, noAlias, padded, validAlias, ruleFits, allFit, rises, nameLength, aliasLength, ruleTaken, aliasAt, ruleAt, ruleRowFits, rulesIn, rising, rulesOf, aliasNumber, aliasText, ruleText, ruleRow, textOfRules, rowsOfRules, fileOfRules}
 
 pub and-join : (a b : Bool) → a ≡ true → b ≡ true → (a && b) ≡ true
 and-join a b p q = and-eq-true-iff a b .1 (p, q)
@@ -44,9 +44,9 @@ alias-low (some a) h = omega arith
 pub record RowReads (r : Rule) (rows text t : List ℕ) : Type 0 where
   pub name-length : nameLength rows ≡ length (r .name)
   pub alias-number : twoAt 2 rows ≡ aliasNumber (r .alias)
-  pub takes : taken rows ≡ length (ruleText r)
+  pub takes : ruleTaken rows ≡ length (ruleText r)
   pub is : ruleAt rows text ≡ r
-  pub rest : drop (taken rows) text ≡ t
+  pub rest : drop (ruleTaken rows) text ≡ t
 
 pub ruleRow-reads : (r : Rule) (l t : List ℕ) → length (ruleText r) < noAlias → RowReads r (ruleRow r l) (ruleText r ++ t) t
 ruleRow-reads r l t h =
@@ -56,7 +56,7 @@ ruleRow-reads r l t h =
     let short : length a < noAlias = omega arith in
     let e : nameLength (ruleRow r l) ≡ n = two-says n (omega arith) in
     let f : twoAt 2 (ruleRow r l) ≡ aliasNumber (r .alias) = two-says (aliasNumber (r .alias)) (alias-low (r .alias) short) in
-    let k : taken (ruleRow r l) ≡ length (ruleText r)
+    let k : ruleTaken (ruleRow r l) ≡ length (ruleText r)
     = ap (λ x. x + aliasLength (ruleRow r l)) e ∙ ap (λ x. n + cond (eqb x noAlias) 0 x) f ∙ ap (λ x. n + x) (alias-takes (r .alias) short) ∙ sym long in
     let s : drop n (ruleText r ++ t) ≡ a ++ t = ap (drop n) (append-assoc (r .name) a t) ∙ drop-append-seam (r .name) (a ++ t) in
     let p : take n (ruleText r ++ t) ≡ r .name = ap (take n) (append-assoc (r .name) a t) ∙ take-append-seam (r .name) (a ++ t) in
@@ -78,7 +78,7 @@ unfolding ruleRowFits
 row-fits r l t h fit =
     let s = ruleRow-reads r l t h in
     and-join _ _
-    (le-leb (taken (ruleRow r l)) (length (ruleText r ++ t)) (omega (arith, s .takes, length-append (ruleText r) t)))
+    (le-leb (ruleTaken (ruleRow r l)) (length (ruleText r ++ t)) (omega (arith, s .takes, length-append (ruleText r) t)))
     (ap ruleFits (s .is) ∙ fit)
 
 pub rulesIn-written : (rs : List Rule) → allFit rs ≡ true → length (textOfRules rs) < noAlias → rulesIn (length rs) (rowsOfRules rs) (textOfRules rs) ≡ some rs
@@ -90,8 +90,8 @@ rulesIn-written (r ∷ rs) fit h =
     let short : length (ruleText r) < noAlias = omega arith in
     let s = ruleRow-reads r (rowsOfRules rs) (textOfRules rs) short in
     let i = rulesIn-written rs (f .1) (omega arith) in
-    ap (λ b. cond b (ahead (ruleAt (ruleRow r (rowsOfRules rs)) (ruleText r ++ textOfRules rs)) (rulesIn (length rs) (rowsOfRules rs) (drop (taken (ruleRow r (rowsOfRules rs))) (ruleText r ++ textOfRules rs)))) none) (row-fits r (rowsOfRules rs) (textOfRules rs) short (f .0))
-    ∙ ap (λ x. ahead x (rulesIn (length rs) (rowsOfRules rs) (drop (taken (ruleRow r (rowsOfRules rs))) (ruleText r ++ textOfRules rs)))) (s .is)
+    ap (λ b. cond b (ahead (ruleAt (ruleRow r (rowsOfRules rs)) (ruleText r ++ textOfRules rs)) (rulesIn (length rs) (rowsOfRules rs) (drop (ruleTaken (ruleRow r (rowsOfRules rs))) (ruleText r ++ textOfRules rs)))) none) (row-fits r (rowsOfRules rs) (textOfRules rs) short (f .0))
+    ∙ ap (λ x. ahead x (rulesIn (length rs) (rowsOfRules rs) (drop (ruleTaken (ruleRow r (rowsOfRules rs))) (ruleText r ++ textOfRules rs)))) (s .is)
     ∙ ap (λ x. ahead r (rulesIn (length rs) (rowsOfRules rs) x)) (s .rest)
     ∙ ap (ahead r) i
 
@@ -100,7 +100,7 @@ rulesIn-written (r ∷ rs) fit h =
 -- what the test of a row says
 pub record RuleRowFits (rows text : List ℕ) : Type 0 where
   pub pad : padded rows ≡ true
-  pub room : taken rows ≤ length text
+  pub room : ruleTaken rows ≤ length text
   pub fits : ruleFits (ruleAt rows text) ≡ true
   pub low : getD rows 4 0 ≤ classMost
   pub name : valid (take (nameLength rows) text) ≡ true
@@ -109,8 +109,8 @@ pub row-says : (rows text : List ℕ) → ruleRowFits rows text ≡ true → Rul
 unfolding ruleRowFits
 row-says rows text e =
     let r = ruleAt rows text in
-    let a = and-eq-true-iff (padded rows) (leb (taken rows) (length text) && ruleFits r) .0 e in
-    let b = and-eq-true-iff (leb (taken rows) (length text)) (ruleFits r) .0 (a .1) in
+    let a = and-eq-true-iff (padded rows) (leb (ruleTaken rows) (length text) && ruleFits r) .0 e in
+    let b = and-eq-true-iff (leb (ruleTaken rows) (length text)) (ruleFits r) .0 (a .1) in
     let c = and-eq-true-iff (leb (r .class) classMost) (valid (r .name) && validAlias (r .alias)) .0 (b .1) in
     let d = and-eq-true-iff (valid (r .name)) (validAlias (r .alias)) .0 (c .1) in
     record { pad = a .0; room = leb-true _ _ (b .0); fits = b .1; low = leb-true _ _ (c .0); name = d .0 }
@@ -150,13 +150,13 @@ row-written rows text by h f =
     ∙ sym (ap (λ x. two x (two m tail)) e)
     ∙ sym (ap (λ x. two (length (take n text)) (two x tail)) g)
 
-text-written : (rows text : List ℕ) → text ≡ ruleText (ruleAt rows text) ++ drop (taken rows) text
+text-written : (rows text : List ℕ) → text ≡ ruleText (ruleAt rows text) ++ drop (ruleTaken rows) text
 text-written rows text =
     let n = nameLength rows in
     let k = aliasLength rows in
     sym
-    (append-assoc (take n text) (aliasText (aliasAt (twoAt 2 rows) (drop n text))) (drop (taken rows) text)
-    ∙ ap (λ x. take n text ++ (x ++ drop (taken rows) text)) (alias-text (twoAt 2 rows) (drop n text))
+    (append-assoc (take n text) (aliasText (aliasAt (twoAt 2 rows) (drop n text))) (drop (ruleTaken rows) text)
+    ∙ ap (λ x. take n text ++ (x ++ drop (ruleTaken rows) text)) (alias-text (twoAt 2 rows) (drop n text))
     ∙ ap (λ x. take n text ++ (take k (drop n text) ++ x)) (sym (drop-drop k n text))
     ∙ ap (λ x. take n text ++ x) (take-append-drop k (drop n text))
     ∙ take-append-drop n text)
@@ -182,9 +182,9 @@ rulesIn-says (suc n) rows text rs by l e =
     by-test (ruleRowFits rows text)
     (λ t.
     let s = row-says rows text t in
-    let o = rulesIn n (drop 8 rows) (drop (taken rows) text) in
+    let o = rulesIn n (drop 8 rows) (drop (ruleTaken rows) text) in
     let a = ahead-some (ruleAt rows text) o rs (sym (ap (λ b. cond b (ahead (ruleAt rows text) o) none) t) ∙ e) in
-    let i = rulesIn-says n (drop 8 rows) (drop (taken rows) text) (a .0) (bytes-drop 8 rows by) (length-drop 8 rows ∙ omega arith) (a .1 .0) in
+    let i = rulesIn-says n (drop 8 rows) (drop (ruleTaken rows) text) (a .0) (bytes-drop 8 rows by) (length-drop 8 rows ∙ omega arith) (a .1 .0) in
     let many = i .many in
     subst (Written (suc n) rows text) (a .1 .1)
     (record {
@@ -193,7 +193,7 @@ rulesIn-says (suc n) rows text rs by l e =
       text-is = text-written rows text ∙ ap (λ x. ruleText (ruleAt rows text) ++ x) (i .text-is);
       fit = and-join _ _ (s .fits) (i .fit);
     }))
-    (λ t. absurd (no-rules (sym (ap (λ b. cond b (ahead (ruleAt rows text) (rulesIn n (drop 8 rows) (drop (taken rows) text))) none) t) ∙ e)))
+    (λ t. absurd (no-rules (sym (ap (λ b. cond b (ahead (ruleAt rows text) (rulesIn n (drop 8 rows) (drop (ruleTaken rows) text))) none) t) ∙ e)))
 
 -- ---- the file
 

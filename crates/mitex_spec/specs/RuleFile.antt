@@ -54,8 +54,8 @@ abbrev pub aliasLength : List ℕ → ℕ
 aliasLength rows = cond (eqb (twoAt 2 rows) noAlias) 0 (twoAt 2 rows)
 
 -- the bytes of text that a row takes
-abbrev pub taken : List ℕ → ℕ
-taken rows = nameLength rows + aliasLength rows
+abbrev pub ruleTaken : List ℕ → ℕ
+ruleTaken rows = nameLength rows + aliasLength rows
 
 abbrev pub aliasAt : ℕ → List ℕ → Option (List ℕ)
 aliasAt m text = cond (eqb m noAlias) none (some (take m text))
@@ -69,14 +69,14 @@ padded rows = eqb (getD rows 5 0) 0 && (eqb (getD rows 6 0) 0 && eqb (getD rows 
 
 -- so they are, the texts are there, and they make a rule
 unfoldable pub ruleRowFits : List ℕ → List ℕ → Bool
-ruleRowFits rows text = padded rows && (leb (taken rows) (length text) && ruleFits (ruleAt rows text))
+ruleRowFits rows text = padded rows && (leb (ruleTaken rows) (length text) && ruleFits (ruleAt rows text))
 
 -- as many rows as said, whose texts fill the text
 unfoldable pub rulesIn : ℕ → List ℕ → List ℕ → Option (List Rule)
 rulesIn zero rows [] = some []
 rulesIn zero rows (b ∷ text) = none
 rulesIn (suc n) rows text =
-    cond (ruleRowFits rows text) (ahead (ruleAt rows text) (rulesIn n (drop 8 rows) (drop (taken rows) text))) none
+    cond (ruleRowFits rows text) (ahead (ruleAt rows text) (rulesIn n (drop 8 rows) (drop (ruleTaken rows) text))) none
 
 abbrev pub rising : Option (List Rule) → Option (List Rule)
 rising none = none

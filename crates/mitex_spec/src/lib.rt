@@ -10,7 +10,7 @@ ghost use Rattle.text.specs.Compare.{precedes};
 ghost use Rattle.text.specs.Trailer.{fileMost};
 ghost use Rattle.utf8.specs.Utf8.{oneByteEach};
 ghost use Rattle.mitex_spec.specs.Rules.{Rule, get, getCmd, getEnv, aliasOr};
-ghost use Rattle.mitex_spec.specs.RuleFile.{rulesOf, rulesIn, rising, padded, ruleRowFits, aliasLength, taken};
+ghost use Rattle.mitex_spec.specs.RuleFile.{rulesOf, rulesIn, rising, padded, ruleRowFits, aliasLength, ruleTaken};
 ghost use Rattle.mitex_spec.specs.Index.{startsFrom, firstsAt, indexSize, firstOf, firstsBelow, firsts, accepted, ChecksRules, ruleNo, rankOf, Numbered, SomeRule, SomeRules};
 ghost use Rattle.mitex_spec.specs.LookUp.{aliasOf, endOf, isCmd, Finds, Answers};
 ghost use Rattle.mitex_spec.specs.declared.Found.the-variants.{Absent};
@@ -49,9 +49,9 @@ fn alias_length(rows: &[u8]) -> usize
 }
 
 // The bytes of text that the row that stands first takes.
-fn taken(rows: &[u8]) -> usize
+fn rule_taken(rows: &[u8]) -> usize
     requires { ⌜ 8 ≤ length (now rows) ⌝ }
-    ensures { λ r. ⌜ (r ≡ taken (now (rows .entry))) × (r < 131072) ⌝ }
+    ensures { λ r. ⌜ (r ≡ ruleTaken (now (rows .entry))) × (r < 131072) ⌝ }
 {
     text::read_u16(rows, 0) + alias_length(rows)
 }
@@ -72,14 +72,14 @@ fn padded(rows: &[u8]) -> bool
 
 // Whether the row that stands first is one, with its texts first in `text`.
 // `plain` says that the characters of the text have one byte each: then its name and alias are not looked at again.
-fn row_fits(rows: &[u8], text: &[u8], plain: bool) -> bool
+fn rule_row_fits(rows: &[u8], text: &[u8], plain: bool) -> bool
     requires { ⌜ (8 ≤ length (now rows)) × (plain ≡ true → oneByteEach (now text) ≡ true) ⌝ }
     ensures { λ r. ⌜ r ≡ ruleRowFits (now (rows .entry)) (now (text .entry)) ⌝ }
 {
     if !padded(rows) {
         return false;
     }
-    let end = taken(rows);
+    let end = rule_taken(rows);
     if text.len() < end {
         return false;
     }
@@ -116,14 +116,14 @@ fn rules_fit(rows: &[u8], text: &[u8]) -> bool
     let mut last = &text[..0];
     let mut first = true;
     while 8 <= l.len() {
-        if !row_fits(l, t, plain) {
+        if !rule_row_fits(l, t, plain) {
             return false;
         }
         let n = text::read_u16(l, 0);
         if !follows(first, last, &t[..n]) {
             return false;
         }
-        let m = taken(l);
+        let m = rule_taken(l);
         last = &t[..n];
         first = false;
         t = &t[m..];
@@ -152,7 +152,7 @@ fn fill_index(rows: &[u8], index: &mut [u32])
     let mut k: usize = 0;
     while 8 <= l.len() {
         store(index, k, at);
-        at += taken(l);
+        at += rule_taken(l);
         k += 1;
         l = &l[8..];
     }

@@ -115,7 +115,7 @@ past-eight : (rows : List ℕ) → take (length rows - 8) (drop 8 rows) ≡ drop
 past-eight rows = take-all (length rows - 8) (drop 8 rows) (simp length-drop (omega arith))
 
 pub children-part : (t : Tree) {rows text : List ℕ} → Spells t rows text → Begins (childrenOf t) (take (length rows - 8) (drop 8 rows)) text
-children-part t {rows} {text} sp = subst (λ (R : List ℕ). Begins (childrenOf t) R text) (sym (past-eight rows)) (children-begin t sp)
+children-part t {rows} {text} sp = subst (λ (l : List ℕ). Begins (childrenOf t) l text) (sym (past-eight rows)) (children-begin t sp)
 
 -- ---- the first element of a forest
 
@@ -299,14 +299,14 @@ module _ {forest : Forest} {rows text : List ℕ} {i j : ℕ} (x : Element fores
     -- the elements behind it
     pub past : Begins (x .others) (drop (i + e) rows) (drop (j + n) text)
     past =
-        subst (λ (R : List ℕ). Begins (x .others) R (drop (j + n) text)) rows-past
-        (subst (λ (T : List ℕ). Begins (x .others) (drop (8 * size (x .tree)) (drop i rows)) T) text-past (x .first .others))
+        subst (λ (l : List ℕ). Begins (x .others) l (drop (j + n) text)) rows-past
+        (subst (λ (s : List ℕ). Begins (x .others) (drop (8 * size (x .tree)) (drop i rows)) s) text-past (x .first .others))
 
     -- where all was spelt exactly they are so
     pub past-exact : SpellsAll forest (drop i rows) (drop j text) → SpellsAll (x .others) (drop (i + e) rows) (drop (j + n) text)
     past-exact sp =
-        subst (λ (R : List ℕ). SpellsAll (x .others) R (drop (j + n) text)) rows-past
-        (subst (λ (T : List ℕ). SpellsAll (x .others) (drop (8 * size (x .tree)) (drop i rows)) T) text-past
+        subst (λ (l : List ℕ). SpellsAll (x .others) l (drop (j + n) text)) rows-past
+        (subst (λ (s : List ℕ). SpellsAll (x .others) (drop (8 * size (x .tree)) (drop i rows)) s) text-past
         (others-exact (subst (λ (f : Forest). SpellsAll f (drop i rows) (drop j text)) (x .is) sp)))
 
 -- ---- a child, as code has it that takes the part of e bytes of rows and n bytes of text

@@ -63,9 +63,9 @@ pub lr-token : (f : Forest) (rows text : List ℕ) → Begins f rows text → 8 
 unfolding rowsOf textOf Sound
 lr-token none rows text sp h mark = absurd (omega (arith, ap length (sp .rows-are)))
 lr-token (more (token m s) u) rows text sp h mark =
-    let some = token-some m s (sp .sound .0) in
+    let long = token-some m s (sp .sound .0) in
     ap slashed (sp .text-is ∙ append-assoc s (textsOf u) (sp .rest))
-    ∙ ap (λ b. eqb b backslash) (List·getD-append s (textsOf u ++ sp .rest) 0 0 some)
+    ∙ ap (λ b. eqb b backslash) (List·getD-append s (textsOf u ++ sp .rest) 0 0 long)
 lr-token (more (node m c) u) rows text sp h mark =
     absurd (let z : _≡_ {A = ℕ} 0 1 = sym (ap (λ x. getD x 1 0) (sp .rows-are)) ∙ mark in omega arith)
 

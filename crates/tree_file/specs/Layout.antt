@@ -45,10 +45,10 @@ pub data Line : Type 0 where
   nod : ℕ → ℕ → Line
 
 -- the bytes of text that a row takes
-abbrev pub taken : Row → ℕ
-taken Bad = 0
-taken (Token m) = m
-taken (Node m) = 0
+abbrev pub rowTaken : Row → ℕ
+rowTaken Bad = 0
+rowTaken (Token m) = m
+rowTaken (Node m) = 0
 
 -- a row before those that come after it
 abbrev pub after : Row → List ℕ → List ℕ → Option (List Line) → Option (List Line)
@@ -60,22 +60,22 @@ after (Node m) rows text o = ahead (nod (getD rows 0 0) m) o
 unfoldable pub lines : ℕ → List ℕ → List ℕ → Option (List Line)
 lines zero rows [] = some []
 lines zero rows (b ∷ s) = nothing
-lines (suc n) rows text = after (rowAt rows text) rows text (lines n (drop 8 rows) (drop (taken (rowAt rows text)) text))
+lines (suc n) rows text = after (rowAt rows text) rows text (lines n (drop 8 rows) (drop (rowTaken (rowAt rows text)) text))
 
 -- ---- rows in preorder: a child's rows end no later than its parent's
 
 pub data Cut : Type 0 where
   cut : Forest → Forest → Cut
 
-abbrev pub first : Tree → Option Cut → Option Cut
-first t nothing = nothing
-first t (some (cut g h)) = some (cut (more t g) h)
+abbrev pub cutWith : Tree → Option Cut → Option Cut
+cutWith t nothing = nothing
+cutWith t (some (cut g h)) = some (cut (more t g) h)
 
 -- the first trees, which have n rows together, and the others
 unfoldable pub split : ℕ → Forest → Option Cut
 split n none = cond (eqb n 0) (some (cut none none)) nothing
 split n (more t f) =
-    cond (eqb n 0) (some (cut none (more t f))) (cond (leb (size t) n) (first t (split (n - size t) f)) nothing)
+    cond (eqb n 0) (some (cut none (more t f))) (cond (leb (size t) n) (cutWith t (split (n - size t) f)) nothing)
 
 abbrev pub over : Tree → Option Forest → Option Forest
 over t nothing = nothing

@@ -13,7 +13,7 @@ ghost use Rattle.mitex_syntax.specs.Tree.Forest.{more};
 ghost use Rattle.mitex_syntax.specs.Syntax.{ItemCurly, ItemBracket};
 ghost use Rattle.mitex_syntax.specs.Views.{textIn, argumentWith, goodEnds};
 ghost use Rattle.mitex_syntax.specs.Spells.{tokenFits, Spells, SpellsAll, Begins, SomeForest};
-ghost use Rattle.tree_file.specs.Layout.{Line, tokenRow, nodeRow, rowAt, taken as takenOf, lines, split, grow, grows};
+ghost use Rattle.tree_file.specs.Layout.{Line, tokenRow, nodeRow, rowAt, rowTaken, lines, split, grow, grows};
 ghost use Rattle.tree_file.specs.Depth.{depths, depthMost};
 ghost use Rattle.tree_file.specs.Shape.{isSome, slashed, symFits, lrFits, labelFits, endsIn, imageFits, colorFits, argumentsFit, cmdFits, envFits, nodeFits, unless, lowest};
 ghost use Rattle.tree_file.specs.Check.{checkTree, checkedAnswer};
@@ -170,8 +170,8 @@ fn is_bad(r: Row) -> bool
 }
 
 // The bytes of text that a row takes.
-fn taken(r: Row) -> usize
-    ensures { λ n. ⌜ n ≡ takenOf r ⌝ }
+fn row_taken(r: Row) -> usize
+    ensures { λ n. ⌜ n ≡ rowTaken r ⌝ }
 {
     match r {
         Row::Bad => 0,
@@ -192,7 +192,7 @@ fn lines_fit(rows: &[u8], text: &[u8]) -> bool
         if is_bad(row) {
             return false;
         }
-        let n = taken(row);
+        let n = row_taken(row);
         t = &t[n..];
         l = &l[8..];
     }

@@ -13,13 +13,13 @@ use borrow.Author.Tests.{le-leb, lt-leb, lt-ltb, le-ltb, leb-true}
 use lib.ListN.{length, take, drop, getD, drop-of-length-le}
 use lib.Seq.{drop-cons}
 use Rattle.utf8.specs.declared.State.{State}
-use Rattle.utf8.specs.Utf8.{Between, Tail, Char, Text, lengthBy, whole, run, oneByteEach, valid}
+use Rattle.utf8.specs.Utf8.{Between, Tail, Char, Text, lengthBy, whole, charSteps, oneByteEach, valid}
 use Rattle.utf8.specs.Utf8.Char.{one, two, three-e0, three-e1, three-ed, three-ee, four-f0, four-f1, four-f4}
 use Rattle.utf8.specs.Utf8.Text.{end, then}
-use Rattle.utf8.specs.Chars.{continues, goesOn, chars, first, charLen, AllChar}
-use Rattle.utf8.proofs.Run.{run-append}
+use Rattle.utf8.specs.Chars.{continues, goesOn, chars, firstChar, charLen, AllChar}
+use Rattle.utf8.proofs.Steps.{steps-append}
 use Rattle.utf8.proofs.Chars.{chars-append}
-use Rattle.utf8.proofs.Grammar.{leads-1, leads-2, leads-e1, leads-ee, leads-f1, text-run, valid-text}
+use Rattle.utf8.proofs.Grammar.{leads-1, leads-2, leads-e1, leads-ee, leads-f1, text-steps, valid-text}
 
 -- ---- the RFC's characters are characters of `chars`
 
@@ -102,7 +102,7 @@ chars-text (then w t) = rw (chars-then w t) (w, chars-text t)
 -- the first character of valid text has the length that its first byte says
 text-first : {s : List ℕ} → Text s → 0 < length s → charLen s ≡ lengthBy (getD s 0 0)
 text-first end h = absurd (omega arith)
-text-first (then {c} {s} w t) h = ap (λ (l : List (List ℕ)). length (first l)) (chars-then w t) ∙ char-length s w
+text-first (then {c} {s} w t) h = ap (λ (l : List (List ℕ)). length (firstChar l)) (chars-then w t) ∙ char-length s w
 
 pub charLen-valid : (s : List ℕ) → valid s ≡ true → 0 < length s → charLen s ≡ lengthBy (getD s 0 0)
 charLen-valid s e h = text-first (valid-text s .0 e) h
@@ -111,7 +111,7 @@ charLen-valid s e h = text-first (valid-text s .0 e) h
 
 pub valid-append : (a b : List ℕ) → valid a ≡ true → valid (a ++ b) ≡ valid b
 unfolding valid
-valid-append a b e = ap (λ (u : State). eqb (u .more) 0) (run-append whole a b ∙ ap (λ (u : State). run u b) (text-run (valid-text a .0 e)))
+valid-append a b e = ap (λ (u : State). eqb (u .more) 0) (steps-append whole a b ∙ ap (λ (u : State). charSteps u b) (text-steps (valid-text a .0 e)))
 
 -- a one-byte character in front
 pub valid-one : (a : ℕ) (s : List ℕ) → a ≤ 0x7F → valid (a ∷ s) ≡ valid s
