@@ -8,11 +8,12 @@ use Prim.Native.Nat.{ℕ, _+_, _*_, _-_, _≤_, min}
 use lib.ListN.{length, take, drop}
 use Rattle.text.specs.Numbers.{Bytes}
 use Rattle.text.specs.Writing.{cap}
+use Rattle.text.specs.Trailer.{fileMost}
 use Rattle.mitex_spec.specs.Rules.{Rule}
 use Rattle.mitex_spec.specs.Index.{Ready, SomeRules}
 use Rattle.mitex_syntax.specs.Tree.{Forest, count}
 use Rattle.mitex_syntax.specs.Spells.{SpellsAll}
-use Rattle.tree_file.specs.Layout.{fileMost, blocksMost}
+use Rattle.tree_file.specs.Layout.{blocksMost}
 use Rattle.tree_file.specs.Check.{checkTree, checkedAnswer}
 use Rattle.tree_file.specs.declared.Checked.{Checked}
 use Rattle.tree_file.specs.declared.Checked.the-variants.{Whole as Sound, Refused as Bad}

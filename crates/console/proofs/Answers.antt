@@ -49,10 +49,10 @@ refusal-most number row =
     let r = digits-most 20 row in
     simp length-append (omega arith)
 
-pub edited-most : (long kept count : ℕ) → length (editedLine long kept count) ≤ answerMost
-edited-most long kept count =
-    let l = digits-most 20 long in
-    let d = difference-most long kept in
+pub edited-most : (size kept count : ℕ) → length (editedLine size kept count) ≤ answerMost
+edited-most size kept count =
+    let l = digits-most 20 size in
+    let d = difference-most size kept in
     let n = digits-most 20 count in
     simp length-append (omega arith)
 

@@ -13,7 +13,7 @@ use Rattle.text.specs.Compare.{indexOf}
 use Rattle.text.proofs.Compare.{by-test}
 use Rattle.text.proofs.Writing.{part-rest}
 use Rattle.console.specs.Mode.{noMode, modeBy, modeIn}
-use Rattle.console.specs.Request.{numberSpelt, before, behind, both, lineRequest, lineMost, requestIn}
+use Rattle.console.specs.Request.{numberSpelt, partBefore, partAfter, both, lineRequest, lineMost, requestIn}
 use Rattle.console.specs.declared.Spelt.{Spelt}
 use Rattle.console.specs.declared.Spelt.the-variants.{Nothing as NoNumber, Number}
 use Rattle.console.specs.declared.Request.the-variants.{Nothing as NoRequest}
@@ -30,15 +30,15 @@ both-lacks : (m : ℕ) (s : Spelt) → both m s NoNumber ≡ NoRequest
 both-lacks m NoNumber = refl
 both-lacks m (Number n) = refl
 
-pub numbers-lack : (m : ℕ) (l : List ℕ) → length l ≤ indexOf 32 l → NoRequest ≡ both m (numberSpelt (before 32 l)) (numberSpelt (behind 32 l))
+pub numbers-lack : (m : ℕ) (l : List ℕ) → length l ≤ indexOf 32 l → NoRequest ≡ both m (numberSpelt (partBefore 32 l)) (numberSpelt (partAfter 32 l))
 numbers-lack m l h =
     let past : length l ≤ indexOf 32 l + 1 = omega arith in
-    sym (ap (λ r. both m (numberSpelt (before 32 l)) (numberSpelt r)) (drop-of-length-le l past) ∙ both-lacks m (numberSpelt (before 32 l)))
+    sym (ap (λ r. both m (numberSpelt (partBefore 32 l)) (numberSpelt r)) (drop-of-length-le l past) ∙ both-lacks m (numberSpelt (partBefore 32 l)))
 
 pub numbers-are :
     (m : ℕ) (l : List ℕ) {k : ℕ} {a b : Spelt} → k ≡ indexOf 32 l → a ≡ numberSpelt (take k l)
     → b ≡ numberSpelt (take (length l - (k + 1)) (drop (k + 1) l))
-    → both m a b ≡ both m (numberSpelt (before 32 l)) (numberSpelt (behind 32 l))
+    → both m a b ≡ both m (numberSpelt (partBefore 32 l)) (numberSpelt (partAfter 32 l))
 numbers-are m l {k} {a} {b} ek ea eb = cc (ek, ea, eb, part-rest l (k + 1))
 
 pub line-short : (l : List ℕ) → length l < 2 → NoRequest ≡ lineRequest l
@@ -50,16 +50,16 @@ pub line-other : (l : List ℕ) → 2 ≤ length l → (getD l 1 0 ≡ 32 → �
 line-other [] h q = absurd (omega arith)
 line-other (x ∷ []) h q = absurd (omega arith)
 line-other (x ∷ y ∷ l) h q =
-    sym (ap (λ t. cond t (both (modeBy x) (numberSpelt (before 32 l)) (numberSpelt (behind 32 l))) NoRequest) (ne-eqb y 32 q))
+    sym (ap (λ t. cond t (both (modeBy x) (numberSpelt (partBefore 32 l)) (numberSpelt (partAfter 32 l))) NoRequest) (ne-eqb y 32 q))
 
 pub line-numbers :
     (l : List ℕ) → 2 ≤ length l → getD l 1 0 ≡ 32 → {m : ℕ} → m ≡ modeBy (getD l 0 0) → {rest : List ℕ} → rest ≡ drop 2 l
-    → both m (numberSpelt (before 32 rest)) (numberSpelt (behind 32 rest)) ≡ lineRequest l
+    → both m (numberSpelt (partBefore 32 rest)) (numberSpelt (partAfter 32 rest)) ≡ lineRequest l
 line-numbers [] h q em er = absurd (omega arith)
 line-numbers (x ∷ []) h q em er = absurd (omega arith)
 line-numbers (x ∷ y ∷ l) h q em er =
     cc (em, er)
-    ∙ sym (ap (λ t. cond t (both (modeBy x) (numberSpelt (before 32 l)) (numberSpelt (behind 32 l))) NoRequest) (eq-eqb y 32 q))
+    ∙ sym (ap (λ t. cond t (both (modeBy x) (numberSpelt (partBefore 32 l)) (numberSpelt (partAfter 32 l))) NoRequest) (eq-eqb y 32 q))
 
 pub request-long : (l : List ℕ) → lineMost ≤ indexOf 10 l → NoRequest ≡ requestIn l
 unfolding requestIn

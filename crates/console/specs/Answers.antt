@@ -16,9 +16,9 @@ difference a b = cond (leb b a) (decimal (a - b)) (ascii "-" ++ decimal (b - a))
 
 -- the growth is the length less the kept one
 abbrev pub editedLine : ℕ → ℕ → ℕ → List ℕ
-editedLine length kept count =
+editedLine size kept count =
     ascii "ok "
-    ++ (decimal length ++ (ascii " " ++ (difference length kept ++ (ascii " " ++ (decimal count ++ ascii "\n")))))
+    ++ (decimal size ++ (ascii " " ++ (difference size kept ++ (ascii " " ++ (decimal count ++ ascii "\n")))))
 
 -- no line is longer than `ok`, three numbers of 20 digits, a sign, three spaces and the line feed
 abbrev pub answerMost : ℕ

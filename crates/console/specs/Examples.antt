@@ -27,7 +27,7 @@ line s r = record { bytes = s; request = r }
 abbrev lines : List Line
 lines =
     line "t 3 120\n" (Edit 0 3 120)
-    -- without an end, with bytes behind it, with leading zeros
+    -- without an end, with bytes after it, with leading zeros
     ∷ line "m 0 0" (Edit 1 0 0)
     ∷ line "t 3 120\nm" (Edit 0 3 120)
     ∷ line "t 03 0120\n" (Edit 0 3 120)

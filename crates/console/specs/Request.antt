@@ -39,11 +39,11 @@ numberSpelt (x ∷ l) = numberFrom 0 (x ∷ l)
 -- ---- the line
 
 -- the part before the first byte b, and the part behind it
-abbrev pub before : ℕ → List ℕ → List ℕ
-before b l = take (indexOf b l) l
+abbrev pub partBefore : ℕ → List ℕ → List ℕ
+partBefore b l = take (indexOf b l) l
 
-abbrev pub behind : ℕ → List ℕ → List ℕ
-behind b l = drop (indexOf b l + 1) l
+abbrev pub partAfter : ℕ → List ℕ → List ℕ
+partAfter b l = drop (indexOf b l + 1) l
 
 abbrev pub both : ℕ → Spelt → Spelt → Request
 both mode (Number block) (Number kept) = Edit mode block kept
@@ -55,7 +55,7 @@ abbrev pub lineRequest : List ℕ → Request
 lineRequest [] = NoRequest
 lineRequest (letter ∷ []) = NoRequest
 lineRequest (letter ∷ space ∷ rest) =
-    cond (eqb space 32) (both (modeBy letter) (numberSpelt (before 32 rest)) (numberSpelt (behind 32 rest))) NoRequest
+    cond (eqb space 32) (both (modeBy letter) (numberSpelt (partBefore 32 rest)) (numberSpelt (partAfter 32 rest))) NoRequest
 
 -- so many bytes are more than any line of the form needs
 abbrev pub lineMost : ℕ
@@ -63,4 +63,4 @@ lineMost = 64
 
 -- the first line of the input, if it is shorter
 unfoldable pub requestIn : List ℕ → Request
-requestIn input = cond (leb lineMost (indexOf 10 input)) NoRequest (lineRequest (before 10 input))
+requestIn input = cond (leb lineMost (indexOf 10 input)) NoRequest (lineRequest (partBefore 10 input))

@@ -7,7 +7,7 @@ ghost use lib.ListN.{length};
 ghost use Rattle.io.specs.Counts.{Counts};
 ghost use Rattle.text.specs.Writing.{cap, Wrote};
 ghost use Rattle.console.specs.Mode.{modeBy, modeIn};
-ghost use Rattle.console.specs.Request.{goesOn, withDigit, numberSpelt, before, behind, both, lineRequest, requestIn};
+ghost use Rattle.console.specs.Request.{goesOn, withDigit, numberSpelt, partBefore, partAfter, both, lineRequest, requestIn};
 ghost use Rattle.console.specs.Answers.{difference, refusalLine, editedLine};
 
 // What is no mode: it is refused as 1.
@@ -95,7 +95,7 @@ fn with_digit(n: usize, x: u8) -> usize
 }
 
 // The number that digits spell: at least one, and no more than 64 bits hold.
-fn number(digits: &[u8]) -> Spelt
+fn number_spelt(digits: &[u8]) -> Spelt
     ensures { λ r. ⌜ r ≡ numberSpelt (now (digits .entry)) ⌝ }
 {
     if digits.len() == 0 {
@@ -133,14 +133,18 @@ fn both(mode: u8, block: Spelt, kept: Spelt) -> Request
 
 // The request whose numbers are these, with a space between them.
 fn numbers(mode: u8, rest: &[u8]) -> Request
-    ensures { λ r. ⌜ r ≡ both mode (numberSpelt (before 32 (now (rest .entry)))) (numberSpelt (behind 32 (now (rest .entry)))) ⌝ }
+    ensures { λ r. ⌜ r ≡ both mode (numberSpelt (partBefore 32 (now (rest .entry)))) (numberSpelt (partAfter 32 (now (rest .entry)))) ⌝ }
 {
     let space = text::index_of(rest, b' ');
     if rest.len() <= space {
         return Request::Nothing;
     }
     let next = space + 1;
-    both(mode, number(&rest[..space]), number(&rest[next..]))
+    both(
+        mode,
+        number_spelt(&rest[..space]),
+        number_spelt(&rest[next..]),
+    )
 }
 
 // What a line, without its end, asks for.
@@ -192,14 +196,14 @@ fn put_difference(out: &mut [u8], at: usize, a: usize, b: usize) -> usize
 }
 
 // `ok 34 -31 2` and a line feed: the text's length, its growth since `kept`, and the count of blocks converted again.
-pub fn put_edited(out: &mut [u8; ANSWER_MOST], length: usize, kept: usize, count: usize) -> usize
-    ensures { λ r. ⌜ Wrote 0 (now (out .entry)) (editedLine length kept count) r (now (out .exit)) ⌝ }
+pub fn put_edited(out: &mut [u8; ANSWER_MOST], size: usize, kept: usize, count: usize) -> usize
+    ensures { λ r. ⌜ Wrote 0 (now (out .entry)) (editedLine size kept count) r (now (out .exit)) ⌝ }
     ensures { λ r. ⌜ Counts r (now (out .exit)) ⌝ }
 {
     let a = text::put(out, 0, b"ok ");
-    let b = text::put_decimal(out, a, length);
+    let b = text::put_decimal(out, a, size);
     let c = text::put_byte(out, b, b' ');
-    let d = put_difference(out, c, length, kept);
+    let d = put_difference(out, c, size, kept);
     let e = text::put_byte(out, d, b' ');
     let f = text::put_decimal(out, e, count);
     text::put_byte(out, f, b'\n')

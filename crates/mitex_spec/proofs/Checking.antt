@@ -16,10 +16,11 @@ use Rattle.text.specs.Numbers.{twoAt}
 use Rattle.text.specs.Compare.{precedes}
 use Rattle.text.proofs.Compare.{by-test}
 use Rattle.text.proofs.Writing.{part-rest}
-use Rattle.utf8.specs.Utf8.{oneByteEach, valid, run}
+use Rattle.utf8.specs.Utf8.{oneByteEach, valid, charSteps}
 use Rattle.utf8.proofs.Texts.{one-valid, one-take, one-drop}
 use Rattle.mitex_spec.specs.Rules.{Rule}
-use Rattle.mitex_spec.specs.RuleFile.{classMost, noAlias, padded, validAlias, ruleFits, risesFrom, rises, nameLength, aliasLength, taken, aliasAt, ruleAt, ruleRowFits, ahead, rulesIn, rising}
+use Rattle.text.specs.Trailer.{ahead}
+use Rattle.mitex_spec.specs.RuleFile.{classMost, noAlias, padded, validAlias, ruleFits, risesFrom, rises, nameLength, aliasLength, ruleTaken, aliasAt, ruleAt, ruleRowFits, rulesIn, rising}
 use Rattle.mitex_spec.specs.Index.{startsFrom, accepted}
 use Rattle.mitex_spec.proofs.RuleFile.{RuleRowFits, row-says}
 
@@ -44,7 +45,7 @@ pub row-not : (rows text : List ℕ) → (RuleRowFits rows text → ⊥) → fal
 row-not rows text h = by-test (ruleRowFits rows text) (λ e. absurd (h (row-says rows text e))) (λ e. sym e)
 
 alias-valid : (m : ℕ) (t : List ℕ) → validAlias (aliasAt m t) ≡ valid (take (cond (eqb m noAlias) 0 m) t)
-unfolding valid run
+unfolding valid charSteps
 alias-valid m t =
     by-test (eqb m noAlias)
     (λ e. ap (λ b. validAlias (cond b none (some (take m t)))) e ∙ sym (ap (λ b. valid (take (cond b 0 m) t)) e))
@@ -52,7 +53,7 @@ alias-valid m t =
 
 -- all but the alias was found good
 pub row-alias :
-    (rows text : List ℕ) (n end : ℕ) → padded rows ≡ true → end ≡ taken rows → end ≤ length text → getD rows 4 0 ≤ classMost
+    (rows text : List ℕ) (n end : ℕ) → padded rows ≡ true → end ≡ ruleTaken rows → end ≤ length text → getD rows 4 0 ≤ classMost
     → n ≡ nameLength rows → valid (take n text) ≡ true → valid (take (end - n) (drop n text)) ≡ ruleRowFits rows text
 unfolding ruleRowFits
 row-alias rows text n end pad e room low q name =
@@ -61,18 +62,18 @@ row-alias rows text n end pad e room low q name =
     ∙ ap (λ k. valid (take (aliasLength rows) (drop k text))) q
     ∙ sym (alias-valid (twoAt 2 rows) (drop (nameLength rows) text))
     ∙ sym
-    (ap (λ b. b && (leb (taken rows) (length text) && ruleFits (ruleAt rows text))) pad
-    ∙ ap (λ b. b && ruleFits (ruleAt rows text)) (le-leb (taken rows) (length text) (omega arith))
+    (ap (λ b. b && (leb (ruleTaken rows) (length text) && ruleFits (ruleAt rows text))) pad
+    ∙ ap (λ b. b && ruleFits (ruleAt rows text)) (le-leb (ruleTaken rows) (length text) (omega arith))
     ∙ ap (λ b. b && (valid (take (nameLength rows) text) && validAlias (aliasAt (twoAt 2 rows) (drop (nameLength rows) text)))) (le-leb (getD rows 4 0) classMost low)
     ∙ ap (λ b. b && validAlias (aliasAt (twoAt 2 rows) (drop (nameLength rows) text))) (ap (λ k. valid (take k text)) (sym q) ∙ name))
 
 -- all but the texts was found good, and the characters of the text have one byte each
 pub row-plain :
-    (rows text : List ℕ) → padded rows ≡ true → taken rows ≤ length text → getD rows 4 0 ≤ classMost → oneByteEach text ≡ true → true ≡ ruleRowFits rows text
+    (rows text : List ℕ) → padded rows ≡ true → ruleTaken rows ≤ length text → getD rows 4 0 ≤ classMost → oneByteEach text ≡ true → true ≡ ruleRowFits rows text
 row-plain rows text pad room low one =
     let n = nameLength rows in
-    sym (one-valid _ (one-take (taken rows - n) (drop n text) (one-drop n text one)))
-    ∙ row-alias rows text n (taken rows) pad refl room low refl (one-valid _ (one-take n text one))
+    sym (one-valid _ (one-take (ruleTaken rows - n) (drop n text) (one-drop n text one)))
+    ∙ row-alias rows text n (ruleTaken rows) pad refl room low refl (one-valid _ (one-take n text one))
 
 -- ---- all rows
 
@@ -117,7 +118,7 @@ none-left l (x ∷ t) first last = ne-eqb (length (x ∷ t)) 0 (λ e. omega arit
 module _ {n : ℕ} {rows text : List ℕ} {first : Bool} {last l t : List ℕ} (s : RulesLeft n rows text first last l t) where
   -- the rows after the next
   abbrev others : ℕ → Option (List Rule)
-  others k = rulesIn k (drop 8 l) (drop (taken l) t)
+  others k = rulesIn k (drop 8 l) (drop (ruleTaken l) t)
 
   next-row : (k : ℕ) → s .m ≡ suc k → accepted (rising (rulesIn n rows text)) ≡ after first last (cond (ruleRowFits l t) (ahead (ruleAt l t) (others k)) none)
   unfolding rulesIn
@@ -147,9 +148,9 @@ module _ {n : ℕ} {rows text : List ℕ} {first : Bool} {last l t : List ℕ} (
 
   pub left-next :
       (b : Bool) (i k : ℕ) → 8 ≤ length l → ruleRowFits l t ≡ true → i ≡ nameLength l → b ≡ (first || precedes last (take i t)) → b ≡ true
-      → k ≡ taken l → RulesLeft n rows text false (take i t) (take (length l - 8) (drop 8 l)) (take (length t - k) (drop k t))
+      → k ≡ ruleTaken l → RulesLeft n rows text false (take i t) (take (length l - 8) (drop 8 l)) (take (length t - k) (drop k t))
   left-next b i k h e p f g q =
-      let go : RulesLeft n rows text false (take i t) (drop 8 l) (drop (taken l) t)
+      let go : RulesLeft n rows text false (take i t) (drop 8 l) (drop (ruleTaken l) t)
       = record {
         m = s .m - 1;
         long = length-drop 8 l ∙ (let w = s .long in omega arith);
@@ -177,19 +178,19 @@ pub filled-start : (n : ℕ) (rows index : List ℕ) → length rows ≡ 8 * n �
 filled-start n rows index h = record { m = n; long = h; still = refl }
 
 module _ {n : ℕ} {rows index₀ index l : List ℕ} {at k : ℕ} (s : Filled n rows index₀ index l at k) where
-  store-next : (j : ℕ) → s .m ≡ suc j → sets index₀ 0 (startsFrom 0 n rows) ≡ sets (set index k at) (k + 1) (startsFrom (at + taken l) j (drop 8 l))
+  store-next : (j : ℕ) → s .m ≡ suc j → sets index₀ 0 (startsFrom 0 n rows) ≡ sets (set index k at) (k + 1) (startsFrom (at + ruleTaken l) j (drop 8 l))
   unfolding startsFrom
   store-next j e =
       s .still
       ∙ ap (λ i. sets index k (startsFrom at i l)) e
-      ∙ ap (λ i. sets (set index k at) i (startsFrom (at + taken l) j (drop 8 l))) (sym (add-one k))
+      ∙ ap (λ i. sets (set index k at) i (startsFrom (at + ruleTaken l) j (drop 8 l))) (sym (add-one k))
 
   pub filled-next :
-      (index′ : List ℕ) (i : ℕ) → 8 ≤ length l → index′ ≡ set index k at → i ≡ taken l
+      (index′ : List ℕ) (i : ℕ) → 8 ≤ length l → index′ ≡ set index k at → i ≡ ruleTaken l
       → Filled n rows index₀ index′ (take (length l - 8) (drop 8 l)) (at + i) (k + 1)
   filled-next index′ i h p q =
       let w = s .long in
-      let go : Filled n rows index₀ (set index k at) (drop 8 l) (at + taken l) (k + 1)
+      let go : Filled n rows index₀ (set index k at) (drop 8 l) (at + ruleTaken l) (k + 1)
       = record { m = s .m - 1; long = length-drop 8 l ∙ omega arith; still = store-next (s .m - 1) (omega arith) } in
       subst (λ x. Filled n rows index₀ x (take (length l - 8) (drop 8 l)) (at + i) (k + 1)) (sym p)
       (subst (λ x. Filled n rows index₀ (set index k at) x (at + i) (k + 1)) (sym (part-rest l 8))

@@ -11,9 +11,11 @@ use lib.ListN.{length, take, drop, set, length-append}
 use lib.Seq.{sets, length-sets, sets-eq, length-take-le, take-set-le, take-append-seam, drop-at}
 use Rattle.text.specs.Numbers.{Bytes}
 use Rattle.mitex_spec.specs.Rules.{Rule}
-use Rattle.mitex_spec.specs.RuleFile.{noAlias, startOf, countOf, rulesIn, rising, rulesOf, ruleText, textOfRules, rowsOfRules}
+use Rattle.text.specs.Trailer.{startOf, countOf, trailed, rowArea}
+use Rattle.text.proofs.Trailer.{Trailed, part-rows, part-many}
+use Rattle.mitex_spec.specs.RuleFile.{noAlias, rulesIn, rising, rulesOf, ruleText, textOfRules, rowsOfRules}
 use Rattle.mitex_spec.specs.Index.{offsetsFrom, startsFrom, firstsAt, indexSize, firsts, accepted, indexed, ChecksRules, Numbered, Ready, SomeRules}
-use Rattle.mitex_spec.proofs.RuleFile.{ruleRow-reads, RulesTrailed, rulesRows, rules-whole, rules-broken, rows-long, file-rules}
+use Rattle.mitex_spec.proofs.RuleFile.{ruleRow-reads, rules-whole, rules-broken, file-rules}
 use Rattle.mitex_spec.proofs.Firsts.{length-firsts}
 
 -- ---- a run of stores
@@ -57,7 +59,7 @@ starts-offsets (r ∷ rs) at h =
 refused : (file index : List ℕ) → rulesOf file ≡ none → ChecksRules file index false index
 refused file index e = record { answer = sym (ap accepted e); fills = sym (ap (λ o. indexed o index) e) }
 
-pub checked-broken : (file index : List ℕ) → (RulesTrailed file → ⊥) → ChecksRules file index false index
+pub checked-broken : (file index : List ℕ) → trailed file ≡ false → ChecksRules file index false index
 checked-broken file index h = refused file index (rules-broken file h)
 
 accepted-none : (o : Option (List Rule)) → accepted o ≡ false → o ≡ none
@@ -75,27 +77,18 @@ pub record Begun (file index index′ : List ℕ) : Type 0 where
   pub begins : index′ ≡ sets index 0 (offsetsFrom 0 rules)
 
 -- the parts that the code takes are the rows and the text
-module _ (file : List ℕ) (w : RulesTrailed file) (start : ℕ) (e : start ≡ startOf file) where
+module _ (file : List ℕ) (w : Trailed file) (start : ℕ) (e : start ≡ startOf file) where
   abbrev rows : List ℕ
   rows = take (length file - 8 - start) (drop start file)
-
-  rows-are : rows ≡ rulesRows file
-  rows-are =
-      let sum = w .sum in
-      let many : length file - 8 - startOf file ≡ 8 * countOf file = omega arith in
-      ap (λ k. take (length file - 8 - k) (drop k file)) e ∙ ap (λ k. take k (drop (startOf file) file)) many
-
-  pub rows-many : length rows ≡ 8 * countOf file
-  rows-many = ap length rows-are ∙ rows-long file w
 
   abbrev Asks : Bool → Type 0
   Asks fit = (n : ℕ) → length rows ≡ 8 * n → fit ≡ accepted (rising (rulesIn n rows (take start file)))
 
   fit-whole : (fit : Bool) → Asks fit → fit ≡ accepted (rulesOf file)
   fit-whole fit asks =
-      asks (countOf file) rows-many
-      ∙ ap (λ l. accepted (rising (rulesIn (countOf file) l (take start file)))) rows-are
-      ∙ ap (λ k. accepted (rising (rulesIn (countOf file) (rulesRows file) (take k file)))) e
+      asks (countOf file) (part-many file w start e)
+      ∙ ap (λ l. accepted (rising (rulesIn (countOf file) l (take start file)))) (part-rows file w start e)
+      ∙ ap (λ k. accepted (rising (rulesIn (countOf file) (rowArea file) (take k file)))) e
       ∙ sym (ap accepted (rules-whole file w))
 
   pub checked-unfit : (index : List ℕ) (fit : Bool) → Asks fit → fit ≡ false → ChecksRules file index false index
@@ -107,15 +100,15 @@ module _ (file : List ℕ) (w : RulesTrailed file) (start : ℕ) (e : start ≡ 
   begun-fit index index′ fit by asks t fill =
       let s = accepted-some (rulesOf file) (sym (fit-whole fit asks) ∙ t) in
       let d = file-rules file (s .0) by (s .1) in
-      let start = d .start in
+      let at = d .start in
       let sum = w .sum in
-      let most = w .most in
+      let short = w .short in
       record {
         rules = s .0;
         decodes = s .1;
         begins =
-            fill (countOf file) rows-many
-            ∙ ap (λ l. sets index 0 (startsFrom 0 (countOf file) l)) (rows-are ∙ d .rows-are)
+            fill (countOf file) (part-many file w start e)
+            ∙ ap (λ l. sets index 0 (startsFrom 0 (countOf file) l)) (part-rows file w start e ∙ d .rows-are)
             ∙ ap (λ n. sets index 0 (startsFrom 0 n (rowsOfRules (s .0)))) (d .count)
             ∙ ap (sets index 0) (starts-offsets (s .0) 0 (omega arith));
       }
@@ -126,7 +119,7 @@ rules-few file rs by e =
     let d = file-rules file rs by e in
     let c = d .count in
     let sum = d .whole .sum in
-    let most = d .whole .most in
+    let short = d .whole .short in
     omega arith
 
 -- then the rules can be found by their numbers, and behind the offsets the table is filled

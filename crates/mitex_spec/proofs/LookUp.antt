@@ -17,7 +17,8 @@ use Rattle.text.specs.Compare.{same, precedes}
 use Rattle.text.proofs.Numbers.{twoAt-drop}
 use Rattle.text.proofs.Compare.{by-test, same-differ, precedes-trans, precedes-not-same}
 use Rattle.mitex_spec.specs.Rules.{Rule, rule, get, cmdMost, asCmd, asEnv, aliasOr, writtenName}
-use Rattle.mitex_spec.specs.RuleFile.{fileMost, noAlias, risesFrom, rises, startOf, rulesOf, aliasNumber, aliasText, ruleText, ruleRow, textOfRules, rowsOfRules, fileOfRules}
+use Rattle.text.specs.Trailer.{fileMost, startOf}
+use Rattle.mitex_spec.specs.RuleFile.{noAlias, risesFrom, rises, rulesOf, aliasNumber, aliasText, ruleText, ruleRow, textOfRules, rowsOfRules, fileOfRules}
 use Rattle.mitex_spec.specs.Index.{offsetsFrom, ruleNo, rankOf, SomeRule}
 use Rattle.mitex_spec.specs.LookUp.{aliasOf, ruleOf, endOf, isCmd, Finds}
 use Rattle.mitex_spec.specs.declared.Found.{Found}
@@ -42,15 +43,6 @@ rises-far (r ∷ rs) name (suc k) e h =
     precedes-trans name (r .name) (ruleNo rs k .name) (p .0) (rises-far rs (r .name) k (p .1) (omega arith))
 
 -- ---- the rank of a name
-
-pub rank-most : (rs : List Rule) (name : List ℕ) → rankOf rs name ≤ length rs
-unfolding rankOf
-rank-most [] name = omega arith
-rank-most (r ∷ rs) name =
-    let i = rank-most rs name in
-    by-test (precedes (r .name) name)
-    (λ e. let q = rank-cons r rs name true e in omega arith)
-    (λ e. let q = rank-cons r rs name false e in omega arith)
 
 -- a name that does not come before it has at most the names before it before it
 pub rank-low : (rs : List Rule) (name : List ℕ) (k : ℕ) → k < length rs → precedes (ruleNo rs k .name) name ≡ false → rankOf rs name ≤ k
@@ -241,7 +233,7 @@ module _ {file index : List ℕ} {k : ℕ} (s : SomeRule file index k) (by : Byt
       let d = file-rules file rs by e in
       let w = d .whole in
       let sum = w .sum in
-      let most = w .most in
+      let most = w .short in
       let n = d .count in
       let h = few in
       let o = offset in

@@ -8,7 +8,7 @@ use lib.ListN.{length}
 use Rattle.text.specs.Ascii.{ascii}
 use Rattle.text.specs.Numbers.{two, four}
 use Rattle.text.specs.Compare.{same, precedes}
-use Rattle.utf8.specs.Utf8.{run, valid}
+use Rattle.utf8.specs.Utf8.{charSteps, valid}
 use Rattle.mitex_spec.specs.Rules.{Rule, rule, get, getCmd, getEnv, writtenName}
 use Rattle.mitex_spec.specs.RuleFile.{risesFrom, ruleRowFits, rulesIn, rulesOf, rowsOfRules, textOfRules, fileOfRules}
 use Rattle.mitex_spec.specs.Index.{firstsBelow, accepted}
@@ -33,7 +33,7 @@ abbrev file : List ℕ
 file = text ++ (row 0 0 2 0 ++ (row 5 65535 0 0 ++ (row 6 3 5 0 ++ (row 4 9 1 0 ++ four 27 (four 4 [])))))
 
 reads : rulesOf file ≡ some rules
-unfolding rulesOf rulesIn ruleRowFits risesFrom valid run precedes
+unfolding rulesOf rulesIn ruleRowFits risesFrom valid charSteps precedes
 reads = refl
 
 writes : fileOfRules rules ≡ file
@@ -62,7 +62,7 @@ good =
     ∷ []
 
 all-good : map fits good ≡ true ∷ true ∷ true ∷ true ∷ []
-unfolding rulesOf rulesIn ruleRowFits risesFrom valid run precedes
+unfolding rulesOf rulesIn ruleRowFits risesFrom valid charSteps precedes
 all-good = refl
 
 abbrev zeros : ℕ → List ℕ
@@ -93,7 +93,7 @@ bad =
     ∷ []
 
 all-bad : map fits bad ≡ false ∷ false ∷ false ∷ false ∷ false ∷ false ∷ false ∷ false ∷ false ∷ false ∷ false ∷ false ∷ false ∷ []
-unfolding rulesOf rulesIn ruleRowFits risesFrom valid run precedes
+unfolding rulesOf rulesIn ruleRowFits risesFrom valid charSteps precedes
 all-bad = refl
 
 -- ---- look-ups

@@ -12,7 +12,7 @@ use lib.ListN.{length, take, drop, getD}
 use lib.Seq.{sets}
 use Rattle.text.specs.Compare.{precedes}
 use Rattle.mitex_spec.specs.Rules.{Rule, rule}
-use Rattle.mitex_spec.specs.RuleFile.{rulesOf, ruleText, taken}
+use Rattle.mitex_spec.specs.RuleFile.{rulesOf, ruleText, ruleTaken}
 
 -- where the names of rules begin whose texts stand from `at` on
 unfoldable pub offsetsFrom : ℕ → List Rule → List ℕ
@@ -22,7 +22,7 @@ offsetsFrom at (r ∷ rs) = at ∷ offsetsFrom (at + length (ruleText r)) rs
 -- the same by the rows
 unfoldable pub startsFrom : ℕ → ℕ → List ℕ → List ℕ
 startsFrom at zero rows = []
-startsFrom at (suc n) rows = at ∷ startsFrom (at + taken rows) n (drop 8 rows)
+startsFrom at (suc n) rows = at ∷ startsFrom (at + ruleTaken rows) n (drop 8 rows)
 
 -- where the table begins, past the offsets of the at most 8,191 rules of a file, and where it ends
 abbrev pub firstsAt : ℕ

@@ -1,25 +1,23 @@
--- The rule file: a text area, a row of 8 bytes for each rule, and a trailer of 8 bytes that says where the rows start and
--- how many they are. A row has the length of the rule's name (2 bytes), that of its alias (2; 65,535 is no alias), its
--- class (1) and three zeros. Names and aliases fill the text area in the order of the rows. `rulesOf` reads a file,
--- `fileOfRules` writes one; proofs/RuleFile.antt says that each undoes the other (`rules-file`, `file-rules`).
+-- The rule file, a file of rows (crate text, specs/Trailer.antt) with a row for each rule: the length of the rule's name (2 bytes),
+-- that of its alias (2; 65,535 is no alias), its class (1) and three zeros. Names and aliases fill the text area in the order of the
+-- rows. `rulesOf` reads a file, `fileOfRules` writes one; proofs/RuleFile.antt says that each undoes the other (`rules-file`,
+-- `file-rules`).
 use mathlib.Core.Bool.{Bool, true, _&&_, cond}
 use mathlib.Core.Option.{Option}
 use mathlib.Core.Option.Option.{none, some}
-use Prim.Native.Nat.{ℕ, zero, suc, _+_, _*_, _-_}
+use Prim.Native.Nat.{ℕ, zero, suc, _+_}
 use mathlib.Core.List.{List, [], _∷_, _++_}
 use lib.ListN.{length, take, drop, getD}
 use lib.Dec.{eqb, leb}
-use Rattle.text.specs.Numbers.{two, four, twoAt, fourAt}
+use Rattle.text.specs.Numbers.{two, four, twoAt}
 use Rattle.text.specs.Compare.{precedes}
+use Rattle.text.specs.Trailer.{countOf, trailed, textArea, rowArea, ahead}
 use Rattle.utf8.specs.Utf8.{valid}
 use Rattle.mitex_spec.specs.Rules.{Rule, rule}
 
 -- ---- what the rules of a file are
 
--- a file has at most so many bytes, and a class is at most so large
-abbrev pub fileMost : ℕ
-fileMost = 65536
-
+-- a class is at most so large
 abbrev pub classMost : ℕ
 classMost = 10
 
@@ -56,8 +54,8 @@ abbrev pub aliasLength : List ℕ → ℕ
 aliasLength rows = cond (eqb (twoAt 2 rows) noAlias) 0 (twoAt 2 rows)
 
 -- the bytes of text that a row takes
-abbrev pub taken : List ℕ → ℕ
-taken rows = nameLength rows + aliasLength rows
+abbrev pub ruleTaken : List ℕ → ℕ
+ruleTaken rows = nameLength rows + aliasLength rows
 
 abbrev pub aliasAt : ℕ → List ℕ → Option (List ℕ)
 aliasAt m text = cond (eqb m noAlias) none (some (take m text))
@@ -71,37 +69,22 @@ padded rows = eqb (getD rows 5 0) 0 && (eqb (getD rows 6 0) 0 && eqb (getD rows 
 
 -- so they are, the texts are there, and they make a rule
 unfoldable pub ruleRowFits : List ℕ → List ℕ → Bool
-ruleRowFits rows text = padded rows && (leb (taken rows) (length text) && ruleFits (ruleAt rows text))
-
-abbrev pub ahead : Rule → Option (List Rule) → Option (List Rule)
-ahead r none = none
-ahead r (some rs) = some (r ∷ rs)
+ruleRowFits rows text = padded rows && (leb (ruleTaken rows) (length text) && ruleFits (ruleAt rows text))
 
 -- as many rows as said, whose texts fill the text
 unfoldable pub rulesIn : ℕ → List ℕ → List ℕ → Option (List Rule)
 rulesIn zero rows [] = some []
 rulesIn zero rows (b ∷ text) = none
 rulesIn (suc n) rows text =
-    cond (ruleRowFits rows text) (ahead (ruleAt rows text) (rulesIn n (drop 8 rows) (drop (taken rows) text))) none
+    cond (ruleRowFits rows text) (ahead (ruleAt rows text) (rulesIn n (drop 8 rows) (drop (ruleTaken rows) text))) none
 
 abbrev pub rising : Option (List Rule) → Option (List Rule)
 rising none = none
 rising (some rs) = cond (rises rs) (some rs) none
 
--- where the rows start and how many they are, by the trailer
-abbrev pub startOf : List ℕ → ℕ
-startOf file = fourAt (length file - 8) file
-
-abbrev pub countOf : List ℕ → ℕ
-countOf file = fourAt (length file - 4) file
-
 -- the rules of a file; none where it breaks its layout
 unfoldable pub rulesOf : List ℕ → Option (List Rule)
-rulesOf file =
-    cond
-    (leb 8 (length file) && (leb (length file) fileMost && eqb (startOf file + 8 * countOf file + 8) (length file)))
-    (rising (rulesIn (countOf file) (take (8 * countOf file) (drop (startOf file) file)) (take (startOf file) file)))
-    none
+rulesOf file = cond (trailed file) (rising (rulesIn (countOf file) (rowArea file) (textArea file))) none
 
 -- ---- writing
 

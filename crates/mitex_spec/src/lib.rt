@@ -7,9 +7,10 @@ ghost use Prim.Native.Nat.{ℕ, _+_, _*_, _≤_, _<_};
 ghost use lib.ListN.{length, set};
 ghost use lib.Seq.{sets};
 ghost use Rattle.text.specs.Compare.{precedes};
+ghost use Rattle.text.specs.Trailer.{fileMost};
 ghost use Rattle.utf8.specs.Utf8.{oneByteEach};
 ghost use Rattle.mitex_spec.specs.Rules.{Rule, get, getCmd, getEnv, aliasOr};
-ghost use Rattle.mitex_spec.specs.RuleFile.{rulesOf, rulesIn, rising, padded, ruleRowFits, aliasLength, taken, fileMost, startOf, countOf};
+ghost use Rattle.mitex_spec.specs.RuleFile.{rulesOf, rulesIn, rising, padded, ruleRowFits, aliasLength, ruleTaken};
 ghost use Rattle.mitex_spec.specs.Index.{startsFrom, firstsAt, indexSize, firstOf, firstsBelow, firsts, accepted, ChecksRules, ruleNo, rankOf, Numbered, SomeRule, SomeRules};
 ghost use Rattle.mitex_spec.specs.LookUp.{aliasOf, endOf, isCmd, Finds, Answers};
 ghost use Rattle.mitex_spec.specs.declared.Found.the-variants.{Absent};
@@ -20,8 +21,6 @@ pub enum Found {
     Plain { class: u8 },
     Aliased { class: u8, at: usize, size: usize },
 }
-
-const FILE_MOST: usize = 65536;
 
 const NO_ALIAS: usize = 65535;
 
@@ -50,9 +49,9 @@ fn alias_length(rows: &[u8]) -> usize
 }
 
 // The bytes of text that the row that stands first takes.
-fn taken(rows: &[u8]) -> usize
+fn rule_taken(rows: &[u8]) -> usize
     requires { ⌜ 8 ≤ length (now rows) ⌝ }
-    ensures { λ r. ⌜ (r ≡ taken (now (rows .entry))) × (r < 131072) ⌝ }
+    ensures { λ r. ⌜ (r ≡ ruleTaken (now (rows .entry))) × (r < 131072) ⌝ }
 {
     text::read_u16(rows, 0) + alias_length(rows)
 }
@@ -73,14 +72,14 @@ fn padded(rows: &[u8]) -> bool
 
 // Whether the row that stands first is one, with its texts first in `text`.
 // `plain` says that the characters of the text have one byte each: then its name and alias are not looked at again.
-fn row_fits(rows: &[u8], text: &[u8], plain: bool) -> bool
+fn rule_row_fits(rows: &[u8], text: &[u8], plain: bool) -> bool
     requires { ⌜ (8 ≤ length (now rows)) × (plain ≡ true → oneByteEach (now text) ≡ true) ⌝ }
     ensures { λ r. ⌜ r ≡ ruleRowFits (now (rows .entry)) (now (text .entry)) ⌝ }
 {
     if !padded(rows) {
         return false;
     }
-    let end = taken(rows);
+    let end = rule_taken(rows);
     if text.len() < end {
         return false;
     }
@@ -117,14 +116,14 @@ fn rules_fit(rows: &[u8], text: &[u8]) -> bool
     let mut last = &text[..0];
     let mut first = true;
     while 8 <= l.len() {
-        if !row_fits(l, t, plain) {
+        if !rule_row_fits(l, t, plain) {
             return false;
         }
         let n = text::read_u16(l, 0);
         if !follows(first, last, &t[..n]) {
             return false;
         }
-        let m = taken(l);
+        let m = rule_taken(l);
         last = &t[..n];
         first = false;
         t = &t[m..];
@@ -153,26 +152,10 @@ fn fill_index(rows: &[u8], index: &mut [u32])
     let mut k: usize = 0;
     while 8 <= l.len() {
         store(index, k, at);
-        at += taken(l);
+        at += rule_taken(l);
         k += 1;
         l = &l[8..];
     }
-}
-
-// Where the rows start, by the trailer.
-fn start_of(file: &[u8]) -> usize
-    requires { ⌜ 8 ≤ length (now file) ⌝ }
-    ensures { λ r. ⌜ (r ≡ startOf (now (file .entry))) × (r < 4294967296) ⌝ }
-{
-    text::read_u32(file, file.len() - 8)
-}
-
-// How many rows there are, by the trailer.
-fn count_of(file: &[u8]) -> usize
-    requires { ⌜ 8 ≤ length (now file) ⌝ }
-    ensures { λ r. ⌜ (r ≡ countOf (now (file .entry))) × (r < 4294967296) ⌝ }
-{
-    text::read_u32(file, file.len() - 4)
 }
 
 // ---- the table of first bytes
@@ -189,7 +172,7 @@ fn name_at<'a, 'b>(file: &'a [u8], index: &'b [u32], k: usize) -> &'a [u8]
     ensures { λ r. ⌜ ((rs : List Rule) → rulesOf (now (file .entry)) ≡ some rs → now r ≡ ruleNo rs k .name) ⌝ }
 {
     let at = wide_u32(index[k]);
-    let row = start_of(file) + 8 * k;
+    let row = text::start_of(file) + 8 * k;
     let end = at + text::read_u16(file, row);
     &file[at..end]
 }
@@ -210,7 +193,7 @@ fn firsts_below(file: &[u8], index: &[u32], b: usize, from: usize) -> usize
     requires { ⌜ ((rs : List Rule) → rulesOf (now file) ≡ some rs → from ≤ firstsBelow b rs) ⌝ }
     ensures { λ r. ⌜ ((rs : List Rule) → rulesOf (now (file .entry)) ≡ some rs → r ≡ firstsBelow b rs) ⌝ }
 {
-    let count = count_of(file);
+    let count = text::count_of(file);
     let mut k = from;
     while k < count {
         if b <= first_byte(name_at(file, index, k)) {
@@ -240,16 +223,10 @@ pub fn check_rules(file: &[u8], index: &mut [u32]) -> bool
     requires { ⌜ indexSize ≤ length (now index) ⌝ }
     ensures { λ r. ⌜ ChecksRules (now (file .entry)) (now (index .entry)) r (now (index .exit)) ⌝ }
 {
-    if file.len() < 8 {
+    if !text::trailed(file) {
         return false;
     }
-    if FILE_MOST < file.len() {
-        return false;
-    }
-    let start = start_of(file);
-    if start + 8 * count_of(file) + 8 != file.len() {
-        return false;
-    }
+    let start = text::start_of(file);
     let end = file.len() - 8;
     if !rules_fit(&file[start..end], &file[..start]) {
         return false;
@@ -285,7 +262,7 @@ fn rule_at(file: &[u8], index: &[u32], k: usize) -> Found
     requires { ⌜ SomeRule (now file) (now index) k ⌝ }
     ensures { λ r. ⌜ ((rs : List Rule) → rulesOf (now (file .entry)) ≡ some rs → Finds (now (file .entry)) (ruleNo rs k .name) (some (ruleNo rs k)) r) ⌝ }
 {
-    let row = start_of(file) + 8 * k;
+    let row = text::start_of(file) + 8 * k;
     let class = file[row + 4];
     let size = text::read_u16(file, row + 2);
     if size == NO_ALIAS {
@@ -301,7 +278,7 @@ pub fn get(file: &[u8], index: &[u32], name: &[u8]) -> Found
     ensures { λ r. ⌜ Answers (now (file .entry)) (now (name .entry)) (λ rs. get rs (now (name .entry))) r ⌝ }
 {
     let k = rank(file, index, name);
-    if count_of(file) <= k {
+    if text::count_of(file) <= k {
         return Found::Absent;
     }
     if text::same(name_at(file, index, k), name) {

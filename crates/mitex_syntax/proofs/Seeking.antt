@@ -2,7 +2,6 @@
 -- from here on, and what is looked for among all is what is looked for among these.
 use mathlib.Core.Path.{_≡_, refl, sym, ap, _∙_}
 use mathlib.Core.Bool.{Bool, true, false, _&&_, not, cond}
-use mathlib.Core.Option.{Option}
 use mathlib.Core.Option.Option.{none as nothing, some}
 use mathlib.Core.List.{List, [], _++_, append-nil}
 use Prim.Native.Nat.{ℕ, _+_, _*_, _-_, _≤_, _<_}
@@ -13,12 +12,12 @@ use lib.Dec.{eqb}
 use lib.ListN.{length, take, drop, getD, length-append, length-drop}
 use lib.Seq.{drop-at, drop-drop, getD-drop, take-all}
 use Rattle.text.specs.Writing.{cap}
-use Rattle.mitex_syntax.specs.Syntax.{ClauseArgument, isTrivia}
+use Rattle.mitex_syntax.specs.Syntax.{ClauseArgument}
 use Rattle.mitex_syntax.specs.Tree.{Tree, Forest, size, sizes, rowsOf, rowsOfs, kindOf}
 use Rattle.mitex_syntax.specs.Tree.Tree.{token, node}
 use Rattle.mitex_syntax.specs.Tree.Forest.{none, more}
 use Rattle.mitex_syntax.specs.Rows.{extentOf, tokenSum}
-use Rattle.mitex_syntax.specs.Views.{firstBy, offsetBy, allBy, fromBy, isOf, isOther, isSolid, isNodeTree, isArgumentWith, firstNode, childrenOf, kindIn}
+use Rattle.mitex_syntax.specs.Views.{firstBy, offsetBy, allBy, fromBy, isOf, isOther, isNodeTree, isArgumentWith, firstNode, childrenOf, kindIn}
 use Rattle.mitex_syntax.specs.Spells.{Begins}
 use Rattle.mitex_syntax.specs.Places.{FirstAt}
 use Rattle.mitex_syntax.proofs.Trees.{length-rows, size-some, size-more, left, no-left, getD-here, Element, element, rows-e, text-n, part-spells, past}
@@ -126,12 +125,6 @@ module _ (t : Tree) (rows : List ℕ) (e : rows ≡ rowsOf t) where
   pub wanted-any-other : (k : ℕ) → not (eqb (getD rows 0 0) k) ≡ isOther k t
   wanted-any-other k = ap not (wanted-kind k)
 
-  pub wanted-solid : not (isTrivia (getD rows 0 0)) ≡ isSolid t
-  wanted-solid = ap (λ (n : ℕ). not (isTrivia n)) (kind-here rows 0 t [] (e ∙ sym (append-nil (rowsOf t))))
-
-  pub wanted-node : not (eqb (getD rows 1 0) 1) ≡ isNodeTree t
-  wanted-node = sym (mark-here rows 0 t [] (e ∙ sym (append-nil (rowsOf t))) refl)
-
   pub children-rows : take (length rows - 8) (drop 8 rows) ≡ rowsOfs (childrenOf t)
   children-rows = take-all (length rows - 8) (drop 8 rows) (simp length-drop (omega arith)) ∙ ap (drop 8) e ∙ rows-children t
 
@@ -142,26 +135,6 @@ module _ (t : Tree) (rows : List ℕ) (e : rows ≡ rowsOf t) where
 
   pub wanted-other : (k : ℕ) → (getD rows 0 0 ≡ ClauseArgument → ⊥) → false ≡ isArgumentWith k t
   wanted-other k h = ap (λ (b : Bool). b && eqb (kindIn (firstNode (childrenOf t))) k) (sym (ne-eqb _ _ h) ∙ wanted-kind ClauseArgument)
-
--- ---- where nothing was found
-
-none-some : (b : Bool) (t : Tree) (o : Option Tree) → cond b (some t) o ≡ nothing → (b ≡ false) × (o ≡ nothing)
-none-some true t o e = let z : _≡_ {A = ℕ} 0 1 = cc in absurd (omega arith)
-none-some false t o e = (refl, e)
-
-pub offset-none : (p : Tree → Bool) (f : Forest) → firstBy p f ≡ nothing → offsetBy p f ≡ sizes f
-unfolding firstBy offsetBy size
-offset-none p none e = refl
-offset-none p (more t f) e =
-    let h = none-some (p t) t (firstBy p f) e in
-    ap (λ (b : Bool). cond b 0 (size t + offsetBy p f)) (h .0) ∙ ap (λ (n : ℕ). size t + n) (offset-none p f (h .1))
-
-pub from-none : (p : Tree → Bool) (f : Forest) → firstBy p f ≡ nothing → fromBy p f ≡ none
-unfolding firstBy fromBy
-from-none p none e = refl
-from-none p (more t f) e =
-    let h = none-some (p t) t (firstBy p f) e in
-    ap (λ (b : Bool). cond b (more t f) (fromBy p f)) (h .0) ∙ from-none p f (h .1)
 
 -- ---- the loop over the children
 

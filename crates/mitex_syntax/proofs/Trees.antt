@@ -16,7 +16,7 @@ use Rattle.mitex_syntax.specs.Tree.Tree.{token, node}
 use Rattle.mitex_syntax.specs.Tree.Forest.{none, more}
 use Rattle.mitex_syntax.specs.Rows.{extentOf, tokenSum, Spans}
 use Rattle.mitex_syntax.specs.Views.{childrenOf}
-use Rattle.mitex_syntax.specs.Spells.{Sound, Sounds, Spells, SpellsAll, Begins, SomeTree, SomeNode}
+use Rattle.mitex_syntax.specs.Spells.{Sound, Spells, SpellsAll, Begins, SomeTree}
 use Rattle.mitex_syntax.proofs.Reading.{tokenSum-nil}
 
 -- ---- the rows of a tree
@@ -99,16 +99,6 @@ spells-alone {t} sp =
 pub all-begins : {f : Forest} {rows text : List ℕ} → SpellsAll f rows text → Begins f rows text
 all-begins {f} sp = record { rows-are = sp .rows-are; rest = []; text-is = sp .text-is ∙ sym (append-nil (textsOf f)); sound = sp .sound }
 
--- what is begun with is so in a longer text
-pub begins-longer : {f : Forest} {rows text : List ℕ} (more : List ℕ) → Begins f rows text → Begins f rows (text ++ more)
-begins-longer {f} m sp =
-    record {
-      rows-are = sp .rows-are;
-      rest = sp .rest ++ m;
-      text-is = ap (λ (l : List ℕ). l ++ m) (sp .text-is) ∙ append-assoc (textsOf f) (sp .rest) m;
-      sound = sp .sound;
-    }
-
 -- the children of a node begin at its second row
 pub under : {k : ℕ} {f : Forest} {rows text : List ℕ} → Spells (node k f) rows text → SpellsAll f (drop 8 rows) text
 unfolding rowsOf textOf Sound
@@ -124,22 +114,8 @@ children-begin (node k f) sp = all-begins (under sp)
 past-eight : (rows : List ℕ) → take (length rows - 8) (drop 8 rows) ≡ drop 8 rows
 past-eight rows = take-all (length rows - 8) (drop 8 rows) (simp length-drop (omega arith))
 
-pub under-part : {k : ℕ} {f : Forest} {rows text : List ℕ} → Spells (node k f) rows text → SpellsAll f (take (length rows - 8) (drop 8 rows)) text
-under-part {k} {f} {rows} {text} sp = subst (λ (R : List ℕ). SpellsAll f R text) (sym (past-eight rows)) (under sp)
-
 pub children-part : (t : Tree) {rows text : List ℕ} → Spells t rows text → Begins (childrenOf t) (take (length rows - 8) (drop 8 rows)) text
-children-part t {rows} {text} sp = subst (λ (R : List ℕ). Begins (childrenOf t) R text) (sym (past-eight rows)) (children-begin t sp)
-
--- ---- soundness goes down
-
-pub sound-children : (t : Tree) → Sound t → Sounds (childrenOf t)
-unfolding Sound
-sound-children (token k s) h = tt
-sound-children (node k f) h = h .1
-
-pub sounds-more : (t : Tree) (f : Forest) → Sounds (more t f) → Sound t × Sounds f
-unfolding Sound
-sounds-more t f h = h
+children-part t {rows} {text} sp = subst (λ (l : List ℕ). Begins (childrenOf t) l text) (sym (past-eight rows)) (children-begin t sp)
 
 -- ---- the first element of a forest
 
@@ -285,17 +261,6 @@ module _ {forest : Forest} {rows text : List ℕ} {i j : ℕ} (x : Element fores
   pub kind-at : getD rows i 0 ≡ kindOf (x .tree)
   kind-at = sym (getD-here rows i) ∙ sym (byte-at 0 (omega arith)) ∙ kind-spelt (x .tree) (x .first .first)
 
-  mark-at : getD (take (8 * size (x .tree)) (drop i rows)) 1 0 ≡ getD rows (i + 1) 0
-  mark-at = byte-at 1 (omega arith) ∙ getD-drop i rows 1 0
-
-  pub token-at : getD rows (i + 1) 0 ≡ 1 → x .tree ≡ token (kindOf (x .tree)) (textOf (x .tree))
-  token-at e =
-      let sp = x .first .first in
-      token-spelt (x .tree) sp (mark-at ∙ e) ∙ ap (token (kindOf (x .tree))) (sp .text-is)
-
-  pub node-at : (getD rows (i + 1) 0 ≡ 1 → ⊥) → x .tree ≡ node (kindOf (x .tree)) (childrenOf (x .tree))
-  node-at e = node-spelt (x .tree) (x .first .first) (λ q. e (sym mark-at ∙ q))
-
   -- the code has its bytes as e and n
   module _ (e n : ℕ) (is-e : e ≡ extentOf (drop i rows)) (is-n : n ≡ tokenSum (take (extentOf (drop i rows)) (drop i rows))) where
     pub rows-e : e ≡ 8 * size (x .tree)
@@ -334,14 +299,14 @@ module _ {forest : Forest} {rows text : List ℕ} {i j : ℕ} (x : Element fores
     -- the elements behind it
     pub past : Begins (x .others) (drop (i + e) rows) (drop (j + n) text)
     past =
-        subst (λ (R : List ℕ). Begins (x .others) R (drop (j + n) text)) rows-past
-        (subst (λ (T : List ℕ). Begins (x .others) (drop (8 * size (x .tree)) (drop i rows)) T) text-past (x .first .others))
+        subst (λ (l : List ℕ). Begins (x .others) l (drop (j + n) text)) rows-past
+        (subst (λ (s : List ℕ). Begins (x .others) (drop (8 * size (x .tree)) (drop i rows)) s) text-past (x .first .others))
 
     -- where all was spelt exactly they are so
     pub past-exact : SpellsAll forest (drop i rows) (drop j text) → SpellsAll (x .others) (drop (i + e) rows) (drop (j + n) text)
     past-exact sp =
-        subst (λ (R : List ℕ). SpellsAll (x .others) R (drop (j + n) text)) rows-past
-        (subst (λ (T : List ℕ). SpellsAll (x .others) (drop (8 * size (x .tree)) (drop i rows)) T) text-past
+        subst (λ (l : List ℕ). SpellsAll (x .others) l (drop (j + n) text)) rows-past
+        (subst (λ (s : List ℕ). SpellsAll (x .others) (drop (8 * size (x .tree)) (drop i rows)) s) text-past
         (others-exact (subst (λ (f : Forest). SpellsAll f (drop i rows) (drop j text)) (x .is) sp)))
 
 -- ---- a child, as code has it that takes the part of e bytes of rows and n bytes of text
@@ -374,9 +339,3 @@ child x e n is-e is-n =
       rows-long = part-length x e n is-e is-n;
       text-long = part-short x e n is-e is-n;
     }
-
--- a part whose first byte is the kind of no token is a node's
-pub node-given : {rows text : List ℕ} (k : ℕ) → SomeTree rows text → getD rows 0 0 ≡ k → isToken k ≡ false → SomeNode rows text
-node-given {rows} {text} k g e h =
-    let n = as-node (g .tree) k (g .spells) e h in
-    record { kind = k; forest = n .0; spells = subst (λ (t : Tree). Spells t rows text) (n .1) (g .spells) }

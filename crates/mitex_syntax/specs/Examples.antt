@@ -7,7 +7,7 @@ use mathlib.Core.List.{List, [], _∷_, _++_}
 use Prim.Native.Nat.{ℕ}
 use Rattle.text.specs.Ascii.{ascii}
 use Rattle.text.specs.Compare.{same}
-use Rattle.utf8.specs.Utf8.{valid, run}
+use Rattle.utf8.specs.Utf8.{valid, charSteps}
 use Rattle.mitex_syntax.specs.Syntax.{ClauseArgument, ItemText, ItemBracket, ItemCurly, ClauseCommandName, ItemBegin, TokenWord, TokenLBrace, TokenRBrace, TokenDollar, TokenBeginMath, TokenEndMath, TokenCommandSym, TokenError, ItemNewLine, isToken, isNode, isTrivia}
 use Rattle.mitex_syntax.specs.Tree.{Tree, Forest, size, rowsOf, textOf}
 use Rattle.mitex_syntax.specs.Tree.Tree.{token, node}
@@ -123,7 +123,7 @@ curly-says = (refl, refl, refl)
 
 -- the rows of two elements, and a text that begins with theirs and goes on
 begins-here : Begins (more word (more (curly word) none)) (rowsOf word ++ rowsOf (curly word)) (ascii "a{a}, more")
-unfolding curly word rowsOf size textOf Sound valid run
+unfolding curly word rowsOf size textOf Sound valid charSteps
 begins-here = record { rows-are = refl; rest = ascii ", more"; text-is = refl; sound = (tt, ((tt, (tt, (tt, (tt, tt)))), tt)) }
 
 -- kinds: an ItemNewLine is a token and trivia, a TokenError token or node, 0 and 46 are none

@@ -10,12 +10,12 @@ use lib.ListN.{length, take, drop}
 use Rattle.mitex_syntax.specs.Tree.{Tree, Forest, size, sizes}
 use Rattle.mitex_syntax.specs.Tree.Forest.{more}
 use Rattle.mitex_syntax.specs.Rows.{extentOf, tokenSum}
-use Rattle.mitex_syntax.specs.Views.{firstBy, offsetBy, allBy, fromBy, isOf, isOther, isSolid, isNodeTree, isArgumentWith, kindIn, textIn}
+use Rattle.mitex_syntax.specs.Views.{firstBy, offsetBy, allBy, fromBy, isOf, isOther, isArgumentWith, kindIn, textIn}
 use Rattle.mitex_syntax.specs.Spells.{Spells, Begins}
 use Rattle.mitex_syntax.specs.declared.Place.{Place}
 use Rattle.mitex_syntax.specs.declared.Place.the-variants.{Nowhere, At}
 use Rattle.mitex_syntax.specs.declared.Wanted.{Wanted}
-use Rattle.mitex_syntax.specs.declared.Wanted.the-variants.{Kind, Node, ArgumentWith, Other, Solid}
+use Rattle.mitex_syntax.specs.declared.Wanted.the-variants.{Kind, ArgumentWith, Other}
 use Rattle.mitex_syntax.specs.declared.Token.{Token}
 use Rattle.mitex_syntax.specs.declared.Span.{Span}
 
@@ -24,10 +24,8 @@ use Rattle.mitex_syntax.specs.declared.Span.{Span}
 -- the test that a wish stands for
 abbrev pub picks : Wanted → Tree → Bool
 picks (Kind k) = isOf k
-picks Node = isNodeTree
 picks (ArgumentWith k) = isArgumentWith k
 picks (Other k) = isOther k
-picks Solid = isSolid
 
 -- of the elements f, which begin at row byte i, the first that the test picks has the rows from a to b and the text from c to d,
 -- and the others behind it begin where it ends

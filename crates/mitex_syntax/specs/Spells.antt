@@ -51,12 +51,6 @@ pub record SomeTree (rows text : List ℕ) : Type 0 where
   pub tree : Tree
   pub spells : Spells tree rows text
 
--- some node is spelt
-pub record SomeNode (rows text : List ℕ) : Type 0 where
-  pub kind : ℕ
-  pub forest : Forest
-  pub spells : Spells (node kind forest) rows text
-
 -- the rows are those of some elements side by side, and of some element
 pub record SomeRows (rows : List ℕ) : Type 0 where
   pub forest : Forest

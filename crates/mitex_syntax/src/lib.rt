@@ -6,10 +6,10 @@ ghost use Prim.Native.Nat.{_+_, _-_, _%_, _≤_, _<_};
 ghost use lib.ListN.{length, take, drop};
 ghost use Rattle.text.specs.Writing.{cap};
 ghost use Rattle.utf8.specs.Trim.{trim};
-ghost use Rattle.mitex_syntax.specs.Syntax.{ClauseArgument, ItemBegin, isTrivia, isToken, isNode};
+ghost use Rattle.mitex_syntax.specs.Syntax.{ItemBegin, isTrivia, isToken, isNode};
 ghost use Rattle.mitex_syntax.specs.Tree.{Tree, Forest, rowsOf, rowsOfs};
 ghost use Rattle.mitex_syntax.specs.Rows.{numOf, extentOf, tokenAt, tokenSum, Spans};
-ghost use Rattle.mitex_syntax.specs.Views.{isOf, isNodeTree, isArgumentWith, firstNode, kindIn, cmdName, firstTokens, lastTokens, envName, isTokenOf, isInline, isPair, dollarEnds, mathEnds, isValid, inner};
+ghost use Rattle.mitex_syntax.specs.Views.{isOf, isArgumentWith, firstNode, kindIn, cmdName, firstTokens, lastTokens, envName, isTokenOf, isInline, isPair, dollarEnds, mathEnds, isValid, inner};
 ghost use Rattle.mitex_syntax.specs.Spells.{Begins, SomeRows, SomeElement, SomeForest};
 ghost use Rattle.mitex_syntax.specs.Places.{picks, FindsPlace, InText, partAt, TokenIs, TokenInText, Hops};
 
@@ -236,14 +236,11 @@ pub struct Cursor {
     pub text: usize,
 }
 
-// What is looked for: a child of a kind, a node, an argument whose first node is of a kind, a child of any other kind, one that is no
-// trivia.
+// What is looked for: a child of a kind, an argument whose first node is of a kind, or a child of any other kind.
 pub enum Wanted {
     Kind(u8),
-    Node,
     ArgumentWith(u8),
     Other(u8),
-    Solid,
 }
 
 // A token: its kind, and its text from `from` to `to`; kind 0 and no text where there is none.
@@ -286,10 +283,8 @@ fn is_wanted(rows: &[u8], wanted: Wanted) -> bool
 {
     match wanted {
         Wanted::Kind(k) => rows[0] == k,
-        Wanted::Node => rows[1] != 1,
         Wanted::ArgumentWith(k) => is_argument_with(rows, k),
         Wanted::Other(k) => rows[0] != k,
-        Wanted::Solid => !is_trivia(rows[0]),
     }
 }
 
@@ -326,14 +321,6 @@ pub fn find_kind(rows: &[u8], text: &[u8], kind: u8) -> Place
     find(rows, text, Cursor { row: 0, text: 0 }, Wanted::Kind(kind))
 }
 
-// The next argument from a cursor on; the one after it is found from its `end` and `to` on.
-pub fn next_argument(rows: &[u8], text: &[u8], at: Cursor) -> Place
-    requires { ⌜ SomeForest (now rows) (now text) (at .row) (at .text) ⌝ }
-    ensures { λ r. ⌜ FindsPlace (isOf ClauseArgument) (now (rows .entry)) (now (text .entry)) (at .row) (at .text) r ⌝ }
-{
-    find(rows, text, at, Wanted::Kind(CLAUSE_ARGUMENT))
-}
-
 // The first argument whose first node is of a kind.
 pub fn argument_with(rows: &[u8], text: &[u8], kind: u8) -> Place
     requires { ⌜ SomeForest (now rows) (now text) 0 0 ⌝ }
@@ -345,14 +332,6 @@ pub fn argument_with(rows: &[u8], text: &[u8], kind: u8) -> Place
         Cursor { row: 0, text: 0 },
         Wanted::ArgumentWith(kind),
     )
-}
-
-// The first child that is a node.
-pub fn first_node(rows: &[u8], text: &[u8]) -> Place
-    requires { ⌜ SomeForest (now rows) (now text) 0 0 ⌝ }
-    ensures { λ r. ⌜ FindsPlace isNodeTree (now (rows .entry)) (now (text .entry)) 0 0 r ⌝ }
-{
-    find(rows, text, Cursor { row: 0, text: 0 }, Wanted::Node)
 }
 
 // The text at a place; none where nothing was found.

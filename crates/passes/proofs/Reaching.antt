@@ -11,7 +11,7 @@ use Rattle.mitex_syntax.specs.Tree.Forest.{none, more}
 use Rattle.mitex_syntax.specs.Spells.{SpellsAll}
 use Rattle.mitex_syntax.specs.Rows.{extentOf, tokenSum, Spans}
 use Rattle.mitex_syntax.proofs.Trees.{Element, element, all-begins, spans, rows-e, text-n, past-exact, length-rowss, size-some, size-more}
-use Rattle.tree_file.specs.Layout.{fileMost}
+use Rattle.text.specs.Trailer.{fileMost}
 use Rattle.mitex_meaning.specs.Contract.{Went}
 use Rattle.mitex_meaning.specs.declared.Converter.{Converter}
 use Rattle.edit_meaning.specs.Walk.{rowsAll}

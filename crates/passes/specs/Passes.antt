@@ -13,7 +13,8 @@ use Rattle.mitex_spec.specs.Index.{Ready}
 use Rattle.mitex_syntax.specs.Tree.{Tree, Forest, size, count}
 use Rattle.mitex_syntax.specs.Tree.Forest.{more}
 use Rattle.mitex_syntax.specs.Spells.{SpellsAll}
-use Rattle.tree_file.specs.Layout.{fileMost, blocksMost}
+use Rattle.text.specs.Trailer.{fileMost}
+use Rattle.tree_file.specs.Layout.{blocksMost}
 use Rattle.mitex_meaning.specs.Outcome.{Carry, labelMost}
 use Rattle.mitex_meaning.specs.Outcome.Outcome.{done}
 use Rattle.mitex_meaning.specs.State.{carryOf}

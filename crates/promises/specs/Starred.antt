@@ -12,7 +12,7 @@ use lib.ListN.{length, take, replicate}
 use Rattle.text.specs.Ascii.{ascii}
 use Rattle.text.specs.Numbers.{four}
 use Rattle.text.specs.Compare.{precedes}
-use Rattle.utf8.specs.Utf8.{run, valid}
+use Rattle.utf8.specs.Utf8.{charSteps, valid}
 use Rattle.mitex_spec.specs.RuleFile.{risesFrom, ruleRowFits, rulesIn, rulesOf, textOfRules, rowsOfRules, fileOfRules}
 use Rattle.mitex_syntax.specs.Syntax.{ClauseArgument, ScopeRoot, ItemFormula, ItemCurly, ItemAttachComponent, ClauseCommandName}
 use Rattle.mitex_syntax.specs.Syntax.{ItemBegin, ItemEnd, TokenWord, TokenLBrace, TokenRBrace, TokenDollar, TokenWhiteSpace}
@@ -40,7 +40,7 @@ pub data Call : Type 0 where
 
 -- what it answers and leaves; whoever unfolds this unfolds all that a call computes by, of which `hold` has the conversion's part
 unfoldable pub result : Call → Result
-unfolding rulesOf rulesIn ruleRowFits risesFrom valid run precedes checkTree decode lines rowAt grow split count depth lowest hold
+unfolding rulesOf rulesIn ruleRowFits risesFrom valid charSteps precedes checkTree decode lines rowAt grow split count depth lowest hold
     walk walkUntil conversion convertDocument settle room roomForText edit editFits again write textAfter ledgerAfter
     encodeRow encodeCarry decodeRow fits rowFits marksFit allZero moveRow sameCarry
 result (converts mode rules tree text ledger) = convertDocument (manuscript mode rules) tree text ledger

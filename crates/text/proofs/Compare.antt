@@ -1,7 +1,7 @@
--- The tests on bytes decide what they say: `same` equality, `precedes` a strict order in which any two texts are comparable.
+-- The tests on bytes decide what they say: `same` equality, `precedes` a strict order.
 -- The loops go along both texts together, so each test has a law that takes it from a place to the next.
 use mathlib.Core.Path.{_≡_, refl, sym, ap, _∙_}
-use mathlib.Core.Bool.{Bool, true, false, _&&_, _||_, cond, Bool·beq, true≢false, false≢true, and-eq-true-iff, or-false}
+use mathlib.Core.Bool.{Bool, true, false, _&&_, _||_, cond, Bool·beq, false≢true, and-eq-true-iff, or-false}
 use mathlib.Core.Logic.{_⊎_, inl, inr, ⊎-elim}
 use mathlib.Core.List.{List, [], _∷_}
 use Prim.Native.Nat.{ℕ, _+_, _-_, _≤_, _<_, min}
@@ -9,7 +9,7 @@ use native.Mathlib.Decide.{decLe}
 use native.Mathlib.Numerals.{add-one}
 use native.Mathlib.Omega.{arith}
 use lib.Dec.{eqb, ltb}
-use borrow.Author.Tests.{ltb-true, ltb-false, eqb-true, lt-ltb, le-ltb, le-leb, lt-leb, eq-eqb, ne-eqb}
+use borrow.Author.Tests.{ltb-true, eqb-true, lt-ltb, le-ltb, le-leb, lt-leb, eq-eqb, ne-eqb}
 use lib.ListN.{length, take, drop, getD, drop-of-length-le}
 use lib.Seq.{drop-cons}
 use Rattle.text.specs.Compare.{same, precedes, startsWith, endsWith, indexOf}
@@ -40,23 +40,11 @@ same-true (x ∷ a) [] e = absurd (false≢true e)
 same-true (x ∷ a) (y ∷ b) e =
     let p = and-eq-true-iff (eqb x y) (same a b) .0 e in cc (eqb-true x y (p .0), same-true a b (p .1))
 
-pub same-false : (a b : List ℕ) → same a b ≡ false → a ≡ b → ⊥
-same-false a b e q = true≢false (sym (same-refl a) ∙ ap (same a) q ∙ e)
-
-pub same-equal : (a b : List ℕ) → a ≡ b → same a b ≡ true
-same-equal a b q = sym (ap (same a) q) ∙ same-refl a
-
 pub same-differ : (a b : List ℕ) → (a ≡ b → ⊥) → same a b ≡ false
 same-differ a b h = by-test (same a b) (λ e. absurd (h (same-true a b e))) (λ e. e)
 
 pub same-lengths : (a b : List ℕ) → (length a ≡ length b → ⊥) → false ≡ same a b
 same-lengths a b h = sym (same-differ a b (λ q. h (ap length q)))
-
-pub same-sym : (a b : List ℕ) → same a b ≡ same b a
-same-sym a b =
-    by-test (same a b)
-    (λ e. e ∙ sym (same-equal b a (sym (same-true a b e))))
-    (λ e. e ∙ sym (same-differ b a (λ q. same-false a b e (sym q))))
 
 -- at a place of both
 same-at :
@@ -131,25 +119,9 @@ precedes-trans (x ∷ a) (y ∷ b) (z ∷ c) p q =
     (step-says y z _ q))
     (step-says x y _ p)
 
--- of two different texts one precedes the other
-pub precedes-total : (a b : List ℕ) → precedes a b ≡ false → precedes b a ≡ false → a ≡ b
-unfolding precedes
-precedes-total [] [] p q = refl
-precedes-total [] (y ∷ b) p q = absurd (true≢false p)
-precedes-total (x ∷ a) [] p q = absurd (true≢false q)
-precedes-total (x ∷ a) (y ∷ b) p q =
-    let le : (x y : ℕ) (t : Bool) → (ltb x y || (eqb x y && t)) ≡ false → y ≤ x
-    = λ x y t e. by-test (ltb x y) (λ l. absurd (true≢false (sym (step-less x y t (ltb-true x y l)) ∙ e))) (λ l. ltb-false x y l) in
-    let e : x ≡ y = omega (arith, le x y _ p, le y x _ q) in
-    cc (precedes-total a b (sym (step-equal x y _ e) ∙ p) (sym (step-equal y x _ (sym e)) ∙ q))
-
 -- what precedes another neither is it nor follows it
 pub precedes-not-same : (a b : List ℕ) → precedes a b ≡ true → a ≡ b → ⊥
 precedes-not-same a b p e = false≢true (sym (precedes-self a) ∙ ap (precedes a) e ∙ p)
-
-pub precedes-not-back : (a b : List ℕ) → precedes a b ≡ true → precedes b a ≡ false
-precedes-not-back a b p =
-    by-test (precedes b a) (λ q. absurd (false≢true (sym (precedes-self a) ∙ precedes-trans a b a p q))) (λ q. q)
 
 -- at a place of both
 precedes-at :

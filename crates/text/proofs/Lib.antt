@@ -1,4 +1,5 @@
 pub mod Numbers
+pub mod Trailer
 pub mod Compare
 pub mod Writing
 pub mod Decimal

@@ -40,9 +40,6 @@ pub four-says :
     (n : ℕ) → n < 4294967296 → n % 256 + 256 * (n / 256 % 256) + 65536 * (n / 256 / 256 % 256) + 16777216 * (n / 256 / 256 / 256 % 256) ≡ n
 four-says n h = omega arith
 
-pub twoAt-two : (n : ℕ) (l : List ℕ) → n < 65536 → twoAt 0 (two n l) ≡ n
-twoAt-two n l h = two-says n h
-
 pub fourAt-four : (n : ℕ) (l : List ℕ) → n < 4294967296 → fourAt 0 (four n l) ≡ n
 fourAt-four n l h = four-says n h
 
@@ -73,10 +70,6 @@ first-two : (l : List ℕ) → 2 ≤ length l → l ≡ getD l 0 0 ∷ getD l 1 
 first-two [] h = absurd (omega arith)
 first-two (a ∷ []) h = absurd (omega arith)
 first-two (a ∷ b ∷ l) h = refl
-
--- what begins with two bytes begins with the bytes of their number
-pub two-twoAt : (l : List ℕ) → Bytes l → 2 ≤ length l → l ≡ two (twoAt 0 l) (drop 2 l)
-two-twoAt l by h = first-two l h ∙ sym (two-of (getD l 0 0) (getD l 1 0) (drop 2 l) (by 0) (by 1))
 
 -- and so with four
 pub four-fourAt : (l : List ℕ) → Bytes l → 4 ≤ length l → l ≡ four (fourAt 0 l) (drop 4 l)

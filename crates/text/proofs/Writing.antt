@@ -83,9 +83,6 @@ rest-length s k = ap length (part-rest s k) ∙ length-drop k s
 pub take-more : (s : List ℕ) (i : ℕ) → i < length s → take (i + 1) s ≡ take i s ++ (getD s i 0 ∷ [])
 take-more s i h = ap (λ k. take k s) (add-one i) ∙ take-suc s i 0 h
 
-pub spaces-more : (i : ℕ) → spaces (i + 1) ≡ spaces i ++ (32 ∷ [])
-spaces-more i = sym (replicate-append-replicate i 1 32)
-
 pub sets-more :
     (s out₀ out : List ℕ) (at i : ℕ) → i < length s → out ≡ sets out₀ at (take i s)
     → set out (at + i) (getD s i 0) ≡ sets out₀ at (take (i + 1) s)

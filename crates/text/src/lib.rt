@@ -8,6 +8,7 @@ ghost use lib.Seq.{sets};
 ghost use Rattle.text.specs.Numbers.{four, twoAt, fourAt};
 ghost use Rattle.text.specs.Compare.{same, precedes, startsWith, endsWith, indexOf};
 ghost use Rattle.text.specs.Writing.{cap, Wrote, spaces, decimal};
+ghost use Rattle.text.specs.Trailer.{startOf, countOf, trailed};
 
 // ---- numbers
 
@@ -56,6 +57,40 @@ pub fn write_u32(out: &mut [u8], i: usize, n: usize)
     out[i + 1] = low_byte(n / 256);
     out[i + 2] = low_byte(n / 256 / 256);
     out[i + 3] = low_byte(n / 256 / 256 / 256);
+}
+
+// ---- files of rows
+
+// No file has more bytes.
+pub const FILE_MOST: usize = 65536;
+
+// Where the rows start, by the trailer.
+pub fn start_of(file: &[u8]) -> usize
+    requires { ⌜ 8 ≤ length (now file) ⌝ }
+    ensures { λ r. ⌜ (r ≡ startOf (now (file .entry))) × (r < 4294967296) ⌝ }
+{
+    read_u32(file, file.len() - 8)
+}
+
+// How many rows there are, by the trailer.
+pub fn count_of(file: &[u8]) -> usize
+    requires { ⌜ 8 ≤ length (now file) ⌝ }
+    ensures { λ r. ⌜ (r ≡ countOf (now (file .entry))) × (r < 4294967296) ⌝ }
+{
+    read_u32(file, file.len() - 4)
+}
+
+// Whether the length of a file is in its bounds and the one that the trailer says.
+pub fn trailed(file: &[u8]) -> bool
+    ensures { λ r. ⌜ r ≡ trailed (now (file .entry)) ⌝ }
+{
+    if file.len() < 8 {
+        return false;
+    }
+    if FILE_MOST < file.len() {
+        return false;
+    }
+    start_of(file) + 8 * count_of(file) + 8 == file.len()
 }
 
 // ---- comparing and finding

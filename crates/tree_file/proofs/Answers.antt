@@ -4,20 +4,21 @@ use mathlib.Core.Bool.{Bool, true, false, _&&_, cond, true≢false}
 use mathlib.Core.Option.{Option}
 use mathlib.Core.Option.Option.{none as nothing, some}
 use mathlib.Core.List.{List, [], append-nil}
-use Prim.Native.Nat.{ℕ, _+_, _*_, _-_, _/_, _≤_, _<_}
+use Prim.Native.Nat.{ℕ, _*_, _-_, _/_, _≤_, _<_}
 use native.Mathlib.Omega.{arith}
 use lib.Dec.{eqb, leb}
 use borrow.Author.Tests.{le-leb, lt-leb}
-use lib.ListN.{length, take, drop, length-drop, length-take}
-use Rattle.text.specs.Numbers.{Bytes, fourAt}
-use Rattle.text.proofs.Numbers.{fourAt-drop}
+use lib.ListN.{length, take, drop}
+use Rattle.text.specs.Numbers.{Bytes}
 use Rattle.mitex_syntax.specs.Syntax.{ScopeRoot}
 use Rattle.mitex_syntax.specs.Tree.{Tree, Forest, size, rowsOf, rowsOfs, textOf, count}
 use Rattle.mitex_syntax.specs.Tree.Tree.{token, node}
 use Rattle.mitex_syntax.specs.Tree.Forest.{none, more}
 use Rattle.mitex_syntax.specs.Spells.{Sound, Spells, SpellsAll}
 use Rattle.mitex_syntax.proofs.Trees.{length-rows}
-use Rattle.tree_file.specs.Layout.{fileMost, blocksMost, Line, lines, grow, grows, root, startOf, countOf, rowArea}
+use Rattle.text.specs.Trailer.{startOf, countOf, trailed, rowArea}
+use Rattle.text.proofs.Trailer.{Trailed, part-rows, part-many}
+use Rattle.tree_file.specs.Layout.{blocksMost, Line, lines, grow, grows, root}
 use Rattle.tree_file.specs.Depth.{depth, depths, depthMost}
 use Rattle.tree_file.specs.Shape.{isSome, lowest}
 use Rattle.tree_file.specs.Check.{blocksOf, byDepth, byShape, checkTree, checkedAnswer}
@@ -31,7 +32,7 @@ use Rattle.tree_file.specs.declared.Checked.{Checked}
 use Rattle.tree_file.specs.declared.Checked.the-variants.{Whole, Refused}
 use Rattle.tree_file.proofs.Grow.{grow-sound, linesOfs}
 use Rattle.tree_file.proofs.Rows.{Read, lines-sound}
-use Rattle.tree_file.proofs.Decode.{Trailed, decode-by, decode-not, bytes-all, text-all, sound-forest}
+use Rattle.tree_file.proofs.Decode.{decode-by, decode-not, bytes-all, text-all, sound-forest}
 use Rattle.tree_file.proofs.Shapes.{shape-breaks, shape-right}
 
 pub is-some : {A : Type 0} (o : Option A) (b : Bool) → b ≡ isSome o → b ≡ true → (a : A) × (o ≡ some a)
@@ -163,41 +164,18 @@ module _ {f : Forest} {b : ℕ} (a : Rooted-as f b) where
 
 -- ---- the trailer
 
-start-is : (b : List ℕ) (s : ℕ) → s ≡ fourAt (length b - 8) b → s ≡ startOf b
-start-is b s e = e ∙ sym (fourAt-drop (length b - 8) 0 b ∙ ap (λ k. fourAt k b) (let q : length b - 8 + 0 ≡ length b - 8 = omega arith in q))
-
-count-is : (b : List ℕ) (c : ℕ) → c ≡ fourAt (length b - 8 + 4) b → c ≡ countOf b
-count-is b c e = e ∙ sym (fourAt-drop (length b - 8) 4 b)
-
-pub check-not : (b : List ℕ) → (Trailed b → ⊥) → Refused 3 0 ≡ checkedAnswer (checkTree b)
+pub check-not : (b : List ℕ) → trailed b ≡ false → Refused 3 0 ≡ checkedAnswer (checkTree b)
 unfolding checkTree
 check-not b h = sym (ap (λ o. checkedAnswer (byDepth o)) (decode-not b h))
 
-pub check-unequal : (b : List ℕ) (s c : ℕ) → s ≡ fourAt (length b - 8) b → c ≡ fourAt (length b - 8 + 4) b → (s + 8 * c + 8 ≡ length b → ⊥)
-    → Refused 3 0 ≡ checkedAnswer (checkTree b)
-check-unequal b s c p q ne = check-not b (λ h. ne (let x = start-is b s p in let y = count-is b c q in let z = h .sum in omega arith))
-
 -- the parts that are handed on
-module _ (b : List ℕ) (s c : ℕ) (p : s ≡ fourAt (length b - 8) b) (q : c ≡ fourAt (length b - 8 + 4) b)
-    (long : 8 ≤ length b) (short : length b ≤ fileMost) (sum : s + 8 * c + 8 ≡ length b) where
-  pub rows-long : length (take (length b - 8 - s) (drop s b)) ≡ 8 * c
-  rows-long = length-take (length b - 8 - s) (drop s b) ∙ omega (arith, length-drop s b)
-
-  pub text-long : length (take s b) ≡ s
-  text-long = length-take s b ∙ omega arith
-
-  pub check-is :
-      (r : Checked) → ((n : ℕ) → length (take (length b - 8 - s) (drop s b)) ≡ 8 * n → r ≡ answerTo (grows (lines n (take (length b - 8 - s) (drop s b)) (take s b))))
-      → r ≡ checkedAnswer (checkTree b)
-  unfolding checkTree
-  check-is r f =
-      let x = start-is b s p in
-      let y = count-is b c q in
-      let h : Trailed b = record { long = long; short = short; sum = omega arith } in
-      let ra : take (length b - 8 - s) (drop s b) ≡ rowArea b =
-      ap (λ k. take k (drop s b)) (let z : length b - 8 - s ≡ 8 * countOf b = omega arith in z) ∙ ap (λ k. take (8 * countOf b) (drop k b)) x in
-      f c rows-long
-      ∙ ap (λ k. answerTo (grows (lines k (take (length b - 8 - s) (drop s b)) (take s b)))) y
-      ∙ ap (λ k. answerTo (grows (lines (countOf b) k (take s b)))) ra
-      ∙ ap (λ k. answerTo (grows (lines (countOf b) (rowArea b) (take k b)))) x
-      ∙ sym (ap (λ o. checkedAnswer (byDepth o)) (decode-by b h))
+pub check-is :
+    (b : List ℕ) (w : Trailed b) (s : ℕ) → s ≡ startOf b → (r : Checked)
+    → ((n : ℕ) → length (take (length b - 8 - s) (drop s b)) ≡ 8 * n → r ≡ answerTo (grows (lines n (take (length b - 8 - s) (drop s b)) (take s b))))
+    → r ≡ checkedAnswer (checkTree b)
+unfolding checkTree
+check-is b w s e r f =
+    f (countOf b) (part-many b w s e)
+    ∙ ap (λ k. answerTo (grows (lines (countOf b) k (take s b)))) (part-rows b w s e)
+    ∙ ap (λ k. answerTo (grows (lines (countOf b) (rowArea b) (take k b)))) e
+    ∙ sym (ap (λ o. checkedAnswer (byDepth o)) (decode-by b w))

@@ -1,11 +1,10 @@
 -- What an answer of the check says of the file, for the layers above: an accepted file is that of one tree, whose rows and text
--- are the parts that the answer names, and whose blocks are spelt by the rows after the first. And rows and text spell one tree
--- only, so blocks are compared by their trees.
+-- are the parts that the answer names, and whose blocks are spelt by the rows after the first.
 use mathlib.Core.Path.{_≡_, refl, sym, ap, subst, _∙_}
 use mathlib.Core.Bool.{Bool, true, false, cond}
 use mathlib.Core.Option.{Option}
 use mathlib.Core.Option.Option.{none as nothing, some}
-use mathlib.Core.List.{List, [], append-nil}
+use mathlib.Core.List.{List, []}
 use Prim.Native.Nat.{ℕ, _+_, _*_, _-_, _≤_, _<_}
 use native.Mathlib.Omega.{arith}
 use lib.Dec.{leb}
@@ -13,23 +12,19 @@ use borrow.Author.Tests.{leb-true, le-leb, lt-leb}
 use lib.ListN.{length, take, drop, length-drop}
 use lib.Seq.{drop-drop, take-add, drop-at, length-take-le}
 use Rattle.text.specs.Numbers.{Bytes}
-use Rattle.text.specs.Writing.{cap}
 use Rattle.mitex_syntax.specs.Syntax.{ScopeRoot}
-use Rattle.mitex_syntax.specs.Tree.{Tree, Forest, size, rowsOf, textOf, count}
+use Rattle.mitex_syntax.specs.Tree.{Tree, size, textOf, count}
 use Rattle.mitex_syntax.specs.Tree.Tree.{token, node}
-use Rattle.mitex_syntax.specs.Tree.Forest.{none, more}
-use Rattle.mitex_syntax.specs.Spells.{Sound, Spells, SpellsAll}
-use Rattle.mitex_syntax.proofs.Trees.{length-rowss, size-node, under, spells-alone}
-use Rattle.tree_file.specs.Layout.{fileMost, blocksMost, lines, grow, decode, Laid, Rooted, startOf}
+use Rattle.mitex_syntax.specs.Spells.{Spells, SpellsAll}
+use Rattle.mitex_syntax.proofs.Trees.{size-node, under}
+use Rattle.text.specs.Trailer.{fileMost, startOf}
+use Rattle.tree_file.specs.Layout.{blocksMost, decode, Laid, Rooted}
 use Rattle.tree_file.specs.Depth.{depth, depthMost}
 use Rattle.tree_file.specs.Shape.{lowest, Shaped, ShapedAll}
 use Rattle.tree_file.specs.Check.{Verdict, byDepth, byShape, checkTree, blocksOf, checkedAnswer}
 use Rattle.tree_file.specs.Check.Verdict.{refused, accepted}
-use Rattle.tree_file.specs.Parts.{bytesOf, LinesFit}
-use Rattle.tree_file.specs.declared.Checked.the-variants.{Whole, Refused}
-use Rattle.tree_file.proofs.Grow.{linesOfs, grow-complete, length-liness}
-use Rattle.tree_file.proofs.Rows.{lines-complete}
-use Rattle.tree_file.proofs.Decode.{decoded, decode-sound, decode-complete, bytes-all, text-all, fits-forest}
+use Rattle.tree_file.specs.declared.Checked.the-variants.{Whole}
+use Rattle.tree_file.proofs.Decode.{decoded, decode-sound, decode-complete}
 use Rattle.tree_file.proofs.Shaped.{lowest-shaped, shaped-lowest, shaped-under}
 
 -- ---- a file that is accepted
@@ -126,14 +121,6 @@ answered b start rows blocks e = go (checkTree b) refl e
     go (refused n r) p q = absurd (let z : _≡_ {A = ℕ} 0 1 = cc in omega arith)
     go (accepted t) p q = record { tree = t; is = p; start-is = cc; rows-are = cc; blocks-are = cc }
 
--- an answer `Refused` is the definition's
-pub answered-refused : (b : List ℕ) (n r : ℕ) → checkedAnswer (checkTree b) ≡ Refused n r → checkTree b ≡ refused n r
-answered-refused b n r e = go (checkTree b) refl e
-  where
-    go : (v : Verdict) → checkTree b ≡ v → checkedAnswer v ≡ Refused n r → checkTree b ≡ refused n r
-    go (refused m s) p q = p ∙ (let x : m ≡ n = cc in let y : s ≡ r = cc in ap (λ k. refused k s) x ∙ ap (refused n) y)
-    go (accepted t) p q = absurd (let z : _≡_ {A = ℕ} 0 1 = cc in omega arith)
-
 -- ---- the blocks
 
 -- the parts that a caller hands on: the text area, and the rows after the root's, which end where the trailer begins
@@ -184,39 +171,3 @@ answer-blocks b by start rows blocks w end e =
     let sum = a .whole in
     let s = w .start-is in
     accepted-blocks b (w .tree) a start end s (omega arith)
-
--- ---- rows and text spell one tree only
-
-module _ {rows text : List ℕ} (few : length rows < cap) (short : length text < cap) where
-  read-again : (f : Forest) → SpellsAll f rows text → lines (length (linesOfs f)) rows text ≡ some (linesOfs f)
-  unfolding LinesFit
-  read-again f sp =
-      let n = ap length (sp .rows-are) ∙ length-rowss f in
-      let m = ap length (sp .text-is) in
-      let fit : LinesFit (linesOfs f) = subst LinesFit (append-nil (linesOfs f)) (fits-forest f [] (sp .sound) (omega arith) (omega arith) tt) in
-      ap (λ r. lines (length (linesOfs f)) r text) (sp .rows-are ∙ sym (bytes-all f))
-      ∙ ap (lines (length (linesOfs f)) (bytesOf (linesOfs f))) (sp .text-is ∙ sym (text-all f))
-      ∙ lines-complete (linesOfs f) fit
-
-  pub spelt-once : (f g : Forest) → SpellsAll f rows text → SpellsAll g rows text → f ≡ g
-  spelt-once f g p q =
-      let n : length (linesOfs f) ≡ length (linesOfs g) =
-      let x = ap length (p .rows-are) ∙ length-rowss f in
-      let y = ap length (q .rows-are) ∙ length-rowss g in
-      omega (arith, length-liness f, length-liness g) in
-      let e : some (linesOfs f) ≡ some (linesOfs g) = sym (read-again f p) ∙ ap (λ k. lines k rows text) n ∙ read-again g q in
-      let ls : linesOfs f ≡ linesOfs g = cc in
-      let s : some f ≡ some g = sym (grow-complete f) ∙ ap grow ls ∙ grow-complete g in
-      cc
-
-  pub spelt-one : (t u : Tree) → Spells t rows text → Spells u rows text → t ≡ u
-  spelt-one t u p q = let e = spelt-once (more t none) (more u none) (spells-alone p) (spells-alone q) in cc
-
--- a file is that of one tree only
-pub laid-once : (b : List ℕ) (t u : Tree) → Laid t b → Laid u b → t ≡ u
-laid-once b t u p q = let e : some t ≡ some u = sym (decode-complete b t p) ∙ decode-complete b u q in cc
-
--- two elements are the same exactly where their rows and their texts are
-pub same-tree : (t u : Tree) → Sound t → Sound u → length (rowsOf t) < cap → length (textOf t) < cap → rowsOf t ≡ rowsOf u → textOf t ≡ textOf u → t ≡ u
-same-tree t u st su few short r x =
-    spelt-one few short t u (record { rows-are = refl; text-is = refl; sound = st }) (record { rows-are = r; text-is = x; sound = su })

@@ -5,22 +5,22 @@ use mathlib.Core.Bool.{Bool, true, false, _&&_, cond, and-eq-true-iff}
 use mathlib.Core.Option.{Option}
 use mathlib.Core.Option.Option.{none as nothing, some}
 use mathlib.Core.List.{List, [], _∷_, _++_, append-assoc, append-nil}
-use Prim.Native.Nat.{ℕ, _+_, _*_, _-_, _≤_, _<_}
+use Prim.Native.Nat.{ℕ, _*_, _≤_, _<_}
 use native.Mathlib.Omega.{arith}
 use lib.Dec.{eqb, leb}
 use borrow.Author.Tests.{eq-eqb, le-leb, eqb-true, leb-true}
-use lib.ListN.{length, take, drop, length-append, length-drop, take-append-drop, length-take}
-use lib.Seq.{take-at, drop-at, take-append-seam, drop-append-seam, drop-drop}
-use Rattle.text.specs.Numbers.{Bytes, four, fourAt}
+use lib.ListN.{length, length-append}
+use Rattle.text.specs.Numbers.{Bytes, four}
 use Rattle.text.specs.Writing.{cap}
-use Rattle.text.proofs.Numbers.{bytes-take, bytes-drop, four-says, eight-fours}
 use Rattle.mitex_syntax.specs.Syntax.{ScopeRoot}
 use Rattle.mitex_syntax.specs.Tree.{Tree, Forest, size, sizes, rowsOf, rowsOfs, textOf, textsOf, count, fileOf}
 use Rattle.mitex_syntax.specs.Tree.Tree.{token, node}
 use Rattle.mitex_syntax.specs.Tree.Forest.{none, more}
 use Rattle.mitex_syntax.specs.Spells.{Sound, Sounds, Spells}
 use Rattle.mitex_syntax.proofs.Trees.{length-rows}
-use Rattle.tree_file.specs.Layout.{fileMost, blocksMost, Line, lines, grow, grows, root, decode, Rooted, Laid, trailed, startOf, countOf, textArea, rowArea}
+use Rattle.text.specs.Trailer.{fileMost, trailed, startOf, countOf, textArea, rowArea}
+use Rattle.text.proofs.Trailer.{Trailed, trailed-says, trailed-is, areas, length-textArea, length-rowArea, bytes-rowArea, laid-length, laid-count, laid-trailed, laid-text, laid-rows}
+use Rattle.tree_file.specs.Layout.{blocksMost, Line, lines, grow, grows, root, decode, Rooted, Laid}
 use Rattle.tree_file.specs.Parts.{bytesOf, textsIn, LinesFit}
 use Rattle.tree_file.proofs.Grow.{no-some, linesOf, linesOfs, grow-sound, grow-complete, length-lines}
 use Rattle.tree_file.proofs.Rows.{Read, lines-sound, lines-complete}
@@ -105,60 +105,21 @@ pub root-complete : (t : Tree) → Rooted t → root (some (more t none)) ≡ so
 root-complete (token k s) h = absurd h
 root-complete (node k f) h = let a = eq-eqb k ScopeRoot (h .0) in let b = le-leb (count f) blocksMost (h .1) in rw (a, b)
 
--- the trailer
-pub record Trailed (b : List ℕ) : Type 0 where
-  pub long : 8 ≤ length b
-  pub short : length b ≤ fileMost
-  pub sum : startOf b + 8 * countOf b + 8 ≡ length b
-
-trailed-sound : (b : List ℕ) → trailed b ≡ true → Trailed b
-trailed-sound b e =
-    let w = and-eq-true-iff (leb 8 (length b)) (leb (length b) fileMost && eqb (startOf b + 8 * countOf b + 8) (length b)) .0 e in
-    let v = and-eq-true-iff (leb (length b) fileMost) (eqb (startOf b + 8 * countOf b + 8) (length b)) .0 (w .1) in
-    record { long = leb-true 8 (length b) (w .0); short = leb-true (length b) fileMost (v .0); sum = eqb-true (startOf b + 8 * countOf b + 8) (length b) (v .1) }
-
-trailed-complete : (b : List ℕ) → Trailed b → trailed b ≡ true
-trailed-complete b h =
-    let x = le-leb 8 (length b) (h .long) in
-    let y = le-leb (length b) fileMost (h .short) in
-    let z = eq-eqb (startOf b + 8 * countOf b + 8) (length b) (h .sum) in
-    rw (x, y, z)
-
+-- the trailer decides
 pub decode-by : (b : List ℕ) → Trailed b → decode b ≡ root (grows (lines (countOf b) (rowArea b) (textArea b)))
 unfolding decode
-decode-by b h = ap (λ x. cond x (root (grows (lines (countOf b) (rowArea b) (textArea b)))) nothing) (trailed-complete b h)
+decode-by b h = ap (λ x. cond x (root (grows (lines (countOf b) (rowArea b) (textArea b)))) nothing) (trailed-is b h)
 
-pub decode-not : (b : List ℕ) → (Trailed b → ⊥) → decode b ≡ nothing
+pub decode-not : (b : List ℕ) → trailed b ≡ false → decode b ≡ nothing
 unfolding decode
-decode-not b h =
-    let go : (x : Bool) → trailed b ≡ x → cond x (root (grows (lines (countOf b) (rowArea b) (textArea b)))) nothing ≡ nothing = λ x. elim x
-    [ true ↦ λ e. absurd (h (trailed-sound b e)) | false ↦ λ e. refl ] in
-    go (trailed b) refl
+decode-not b h = ap (λ x. cond x (root (grows (lines (countOf b) (rowArea b) (textArea b)))) nothing) h
 
 decode-some : (b : List ℕ) (t : Tree) → decode b ≡ some t → Trailed b
 unfolding decode
 decode-some b t e =
     let go : (x : Bool) → trailed b ≡ x → cond x (root (grows (lines (countOf b) (rowArea b) (textArea b)))) nothing ≡ some t → Trailed b = λ x. elim x
-    [ true ↦ λ p q. trailed-sound b p | false ↦ λ p q. absurd (no-some q) ] in
+    [ true ↦ λ p q. trailed-says b p | false ↦ λ p q. absurd (no-some q) ] in
     go (trailed b) refl e
-
-pub areas : (b : List ℕ) → Bytes b → Trailed b → b ≡ textArea b ++ (rowArea b ++ four (startOf b) (four (countOf b) []))
-areas b by h =
-    let s = startOf b in let c = countOf b in
-    let sm = h .sum in
-    let d : drop (8 * c) (drop s b) ≡ drop (length b - 8) b = drop-drop (8 * c) s b ∙ ap (λ n. drop n b) (let e : s + 8 * c ≡ length b - 8 = omega arith in e) in
-    let l8 : length (drop (length b - 8) b) ≡ 8 = length-drop (length b - 8) b ∙ (let q = h .long in omega arith) in
-    sym (take-append-drop s b)
-    ∙ ap (λ x. textArea b ++ x) (sym (take-append-drop (8 * c) (drop s b)) ∙ ap (λ x. rowArea b ++ x) (d ∙ eight-fours (drop (length b - 8) b) (bytes-drop (length b - 8) b by) l8))
-
-pub length-rowArea : (b : List ℕ) → Trailed b → length (rowArea b) ≡ 8 * countOf b
-length-rowArea b h = length-take (8 * countOf b) (drop (startOf b) b) ∙ (let q = h .sum in omega (arith, length-drop (startOf b) b))
-
-pub length-textArea : (b : List ℕ) → Trailed b → length (textArea b) ≡ startOf b
-length-textArea b h = length-take (startOf b) b ∙ (let q = h .sum in omega arith)
-
-pub bytes-rows : (b : List ℕ) → Bytes b → Bytes (rowArea b)
-bytes-rows b by = bytes-take (8 * countOf b) (drop (startOf b) b) (bytes-drop (startOf b) b by)
 
 pub read-tree : (t : Tree) (rows text : List ℕ) (ls : List Line) → Read rows text ls → ls ≡ linesOfs (more t none) → Spells t rows text
 unfolding rowsOf textOf Sound
@@ -186,7 +147,7 @@ decoded b by t e =
     let h = decode-some b t e in
     let r = root-sound (grows (lines (countOf b) (rowArea b) (textArea b))) t (sym (decode-by b h) ∙ e) in
     let w = grows-some (lines (countOf b) (rowArea b) (textArea b)) (more t none) (r .0) in
-    let rd = lines-sound (countOf b) (rowArea b) (textArea b) (w .0) (bytes-rows b by) (length-rowArea b h) (w .1 .0) in
+    let rd = lines-sound (countOf b) (rowArea b) (textArea b) (w .0) (bytes-rowArea b by) (length-rowArea b h) (w .1 .0) in
     let sp = read-tree t (rowArea b) (textArea b) (w .0) rd (grow-sound (w .0) (more t none) (w .1 .1)) in
     record {
       trailer = h;
@@ -201,7 +162,7 @@ unfolding fileOf
 decode-sound b by t e =
     let d = decoded b by t e in
     record {
-      bytes = areas b by (d .trailer)
+      bytes = areas b (d .trailer) by
           ∙ ap (λ x. x ++ (rowArea b ++ four (startOf b) (four (countOf b) []))) (d .spells .text-is)
           ∙ ap (λ x. textOf t ++ (x ++ four (startOf b) (four (countOf b) []))) (d .spells .rows-are)
           ∙ ap (λ x. textOf t ++ (rowsOf t ++ four x (four (countOf b) []))) (d .start)
@@ -215,25 +176,19 @@ decode-file : (t : Tree) → length (fileOf t) ≤ fileMost → Sound t → Root
 unfolding fileOf rowsOf linesOf LinesFit bytesOf textsIn
 decode-file t short sd rt =
     let b = fileOf t in
-    let tr = four (length (textOf t)) (four (size t) []) in
-    let la : length b ≡ length (textOf t) + (8 * size t + 8) = length-append (textOf t) (rowsOf t ++ tr) ∙ omega (arith, length-append (rowsOf t) tr, length-rows t) in
-    let td : drop (length b - 8) b ≡ tr =
-    ap (drop (length b - 8)) (sym (append-assoc (textOf t) (rowsOf t) tr)) ∙ drop-at (textOf t ++ rowsOf t) tr (length b - 8) (length-append (textOf t) (rowsOf t) ∙ omega (arith, length-rows t)) in
-    let st : startOf b ≡ length (textOf t) = ap (fourAt 0) td ∙ four-says (length (textOf t)) (omega arith) in
-    let ct : countOf b ≡ size t = ap (fourAt 4) td ∙ four-says (size t) (omega arith) in
-    let ta : textArea b ≡ textOf t = ap (λ n. take n b) st ∙ take-append-seam (textOf t) (rowsOf t ++ tr) in
-    let ra : rowArea b ≡ rowsOf t =
-    ap (λ n. take (8 * countOf b) (drop n b)) st
-    ∙ ap (take (8 * countOf b)) (drop-append-seam (textOf t) (rowsOf t ++ tr))
-    ∙ take-at (rowsOf t) tr (8 * countOf b) (length-rows t ∙ omega arith) in
-    let h : Trailed b = record { long = omega arith; short = short; sum = omega arith } in
-    let ft : LinesFit (linesOf t ++ []) = fits-tree t [] sd (omega arith) (omega arith) tt in
+    let n = size t in
+    let l = length-rows t in
+    let all = laid-length n (textOf t) (rowsOf t) l short in
+    let ta = laid-text n (textOf t) (rowsOf t) l short in
+    let ra = laid-rows n (textOf t) (rowsOf t) l short in
+    let ct = laid-count n (textOf t) (rowsOf t) l short in
+    let fit : LinesFit (linesOf t ++ []) = fits-tree t [] sd (omega arith) (omega arith) tt in
     let ls = linesOf t ++ [] in
-    decode-by b h
+    decode-by b (laid-trailed n (textOf t) (rowsOf t) l short)
     ∙ ap (λ x. root (grows (lines (countOf b) x (textArea b)))) (ra ∙ sym (append-nil (rowsOf t)) ∙ sym (bytes-tree t []))
     ∙ ap (λ x. root (grows (lines (countOf b) (bytesOf ls) x))) (ta ∙ sym (append-nil (textOf t)) ∙ sym (text-tree t []))
     ∙ ap (λ x. root (grows (lines x (bytesOf ls) (textsIn ls)))) (ct ∙ sym (ap length (append-nil (linesOf t)) ∙ length-lines t))
-    ∙ ap (λ x. root (grows x)) (lines-complete ls ft)
+    ∙ ap (λ x. root (grows x)) (lines-complete ls fit)
     ∙ ap root (grow-complete (more t none))
     ∙ root-complete t rt
 

@@ -15,7 +15,7 @@ use Rattle.mitex_syntax.specs.Tree.{Tree, Forest, size, sizes}
 use Rattle.mitex_syntax.specs.Tree.Tree.{token, node}
 use Rattle.mitex_syntax.specs.Tree.Forest.{none, more}
 use Rattle.mitex_syntax.proofs.Trees.{size-some}
-use Rattle.tree_file.specs.Layout.{Line, grow, split, over, closed, splits, first, Cut}
+use Rattle.tree_file.specs.Layout.{Line, grow, split, over, closed, splits, cutWith, Cut}
 use Rattle.tree_file.specs.Layout.Line.{tok, nod}
 use Rattle.tree_file.specs.Layout.Cut.{cut}
 
@@ -88,7 +88,7 @@ pub record Split (n : ℕ) (f g h : Forest) : Type 0 where
   pub whole : f ≡ join g h
   pub so-many : sizes g ≡ n
 
-first-some : (t : Tree) (o : Option Cut) (g h : Forest) → first t o ≡ some (cut g h) → (g′ : Forest) × ((o ≡ some (cut g′ h)) × (g ≡ more t g′))
+first-some : (t : Tree) (o : Option Cut) (g h : Forest) → cutWith t o ≡ some (cut g h) → (g′ : Forest) × ((o ≡ some (cut g′ h)) × (g ≡ more t g′))
 first-some t nothing g h e = absurd (no-some e)
 first-some t (some (cut a b)) g h e = (a, (cc, cc))
 
@@ -105,7 +105,7 @@ split-none n g h false z e = absurd (no-some e)
 
 split-more : (t : Tree) (f : Forest) (n : ℕ) (g h : Forest) (b d : Bool) → eqb n 0 ≡ b → leb (size t) n ≡ d
     → ((g h : Forest) → split (n - size t) f ≡ some (cut g h) → Split (n - size t) f g h)
-    → cond b (some (cut none (more t f))) (cond d (first t (split (n - size t) f)) nothing) ≡ some (cut g h) → Split n (more t f) g h
+    → cond b (some (cut none (more t f))) (cond d (cutWith t (split (n - size t) f)) nothing) ≡ some (cut g h) → Split n (more t f) g h
 unfolding join size
 split-more t f n g h true d z l i e = split-at-none (more t f) n g h (eqb-true n 0 z) e
 split-more t f n g h false false z l i e = absurd (no-some e)

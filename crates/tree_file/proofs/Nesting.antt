@@ -17,7 +17,7 @@ use Rattle.text.proofs.Numbers.{four-says}
 use Rattle.mitex_syntax.specs.Tree.{Tree, Forest, size, sizes}
 use Rattle.mitex_syntax.specs.Tree.Tree.{token, node}
 use Rattle.mitex_syntax.specs.Tree.Forest.{none, more}
-use Rattle.tree_file.specs.Layout.{Line, grow, split, over, closed, splits, first, Cut}
+use Rattle.tree_file.specs.Layout.{Line, grow, split, over, closed, splits, cutWith, Cut}
 use Rattle.tree_file.specs.Layout.Line.{tok, nod}
 use Rattle.tree_file.specs.Layout.Cut.{cut}
 use Rattle.tree_file.specs.Depth.{depth, depths}
@@ -335,7 +335,7 @@ pub record Hop (n : ℕ) (f : Forest) (left : ℕ) (rest : List ℕ) : Type 0 wh
   pub grown : grow ms ≡ some g
   pub same : isSome (split n f) ≡ isSome (split left g)
 
-isSome-first : (t : Tree) (c : Option Cut) → isSome (first t c) ≡ isSome c
+isSome-first : (t : Tree) (c : Option Cut) → isSome (cutWith t c) ≡ isSome c
 isSome-first t nothing = refl
 isSome-first t (some (cut g h)) = refl
 

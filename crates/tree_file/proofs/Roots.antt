@@ -13,7 +13,8 @@ use Rattle.mitex_syntax.specs.Tree.Tree.{token, node}
 use Rattle.mitex_syntax.specs.Tree.Forest.{none, more}
 use Rattle.mitex_syntax.specs.Rows.{extentOf}
 use Rattle.mitex_syntax.proofs.Trees.{length-rows, size-some, extent-tree}
-use Rattle.tree_file.specs.Layout.{fileMost, blocksMost}
+use Rattle.text.specs.Trailer.{fileMost}
+use Rattle.tree_file.specs.Layout.{blocksMost}
 use Rattle.tree_file.specs.Parts.{rootBlocks}
 use Rattle.tree_file.specs.declared.Blocks.the-variants.{Amiss, Are}
 

@@ -2,8 +2,7 @@
 -- rows that fit are read as these.
 use mathlib.Core.Path.{_≡_, refl, sym, ap, subst, _∙_}
 use mathlib.Core.Bool.{Bool, true, false, _&&_, cond, and-eq-true-iff}
-use mathlib.Core.Option.{Option}
-use mathlib.Core.Option.Option.{none as nothing, some}
+use mathlib.Core.Option.Option.{some}
 use mathlib.Core.List.{List, [], _∷_, _++_}
 use Prim.Native.Nat.{ℕ, zero, suc, _+_, _*_, _≤_, _<_}
 use native.Mathlib.Omega.{arith}
@@ -16,7 +15,9 @@ use Rattle.text.specs.Writing.{cap}
 use Rattle.text.proofs.Numbers.{eight, bytes-drop, four-says, four-of}
 use Rattle.mitex_syntax.specs.Syntax.{isNode}
 use Rattle.mitex_syntax.specs.Spells.{tokenFits}
-use Rattle.tree_file.specs.Layout.{Line, lines, rowAt, ahead, after, taken}
+use Rattle.text.specs.Trailer.{ahead}
+use Rattle.text.proofs.Trailer.{ahead-some}
+use Rattle.tree_file.specs.Layout.{Line, lines, rowAt, after, rowTaken}
 use Rattle.tree_file.specs.Layout.Line.{tok, nod}
 use Rattle.tree_file.specs.Parts.{bytesOf, textsIn, LinesFit}
 use Rattle.tree_file.specs.declared.Row.{Row}
@@ -81,10 +82,6 @@ pub record Read (rows text : List ℕ) (ls : List Line) : Type 0 where
   pub text-is : text ≡ textsIn ls
   pub fit : LinesFit ls
 
-ahead-some : (l : Line) (o : Option (List Line)) (ls : List Line) → ahead l o ≡ some ls → (ms : List Line) × ((o ≡ some ms) × (l ∷ ms ≡ ls))
-ahead-some l nothing ls e = absurd (no-some e)
-ahead-some l (some ms) ls e = (ms, (refl, cc))
-
 same-rows : (rows : List ℕ) (m n : ℕ) (r : List ℕ) → Bytes rows → 8 ≤ length rows → getD rows 1 0 ≡ m → getD rows 2 0 ≡ 0 → getD rows 3 0 ≡ 0 → n ≡ fourAt 4 rows → drop 8 rows ≡ r
     → rows ≡ getD rows 0 0 ∷ m ∷ 0 ∷ 0 ∷ four n r
 same-rows rows m n r by h a b c d e =
@@ -129,7 +126,7 @@ nil-rows (r ∷ rows) text ls h e = absurd (omega arith)
 
 rows-by : (n : ℕ) (rows text : List ℕ) (ls : List Line) → Bytes rows → 8 ≤ length rows
     → ((text : List ℕ) (ls : List Line) → lines n (drop 8 rows) text ≡ some ls → Read (drop 8 rows) text ls)
-    → (r : Row) → RowSays rows text r → after r rows text (lines n (drop 8 rows) (drop (taken r) text)) ≡ some ls → Read rows text ls
+    → (r : Row) → RowSays rows text r → after r rows text (lines n (drop 8 rows) (drop (rowTaken r) text)) ≡ some ls → Read rows text ls
 rows-by n rows text ls by h i Bad says e = absurd (no-some e)
 rows-by n rows text ls by h i (Token m) says e =
     let w = ahead-some _ _ _ e in
@@ -171,11 +168,11 @@ unfolding lines bytesOf textsIn LinesFit
 lines-complete [] h = refl
 lines-complete (tok k s ∷ ls) h =
     let rows = bytesOf (tok k s ∷ ls) in let text = s ++ textsIn ls in
-    ap (λ r. after r rows text (lines (length ls) (bytesOf ls) (drop (taken r) text))) (row-of-token k s (bytesOf ls) (textsIn ls) (h .0) (h .1))
+    ap (λ r. after r rows text (lines (length ls) (bytesOf ls) (drop (rowTaken r) text))) (row-of-token k s (bytesOf ls) (textsIn ls) (h .0) (h .1))
     ∙ ap (λ x. ahead (tok k x) (lines (length ls) (bytesOf ls) (drop (length s) text))) (take-append-seam s (textsIn ls))
     ∙ ap (λ x. ahead (tok k s) (lines (length ls) (bytesOf ls) x)) (drop-append-seam s (textsIn ls))
     ∙ ap (ahead (tok k s)) (lines-complete ls (h .2))
 lines-complete (nod k n ∷ ls) h =
     let rows = bytesOf (nod k n ∷ ls) in let text = textsIn ls in
-    ap (λ r. after r rows text (lines (length ls) (bytesOf ls) (drop (taken r) text))) (row-of-node k n (bytesOf ls) text (h .0) (h .1))
+    ap (λ r. after r rows text (lines (length ls) (bytesOf ls) (drop (rowTaken r) text))) (row-of-node k n (bytesOf ls) text (h .0) (h .1))
     ∙ ap (ahead (nod k n)) (lines-complete ls (h .2))

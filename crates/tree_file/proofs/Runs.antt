@@ -10,7 +10,8 @@ use lib.Dec.{eqb}
 use Rattle.text.proofs.Writing.{part-rest}
 use borrow.Author.Tests.{ne-eqb}
 use lib.ListN.{length, take, drop, length-drop}
-use Rattle.tree_file.specs.Layout.{Line, rowAt, taken, ahead, after, lines}
+use Rattle.text.specs.Trailer.{ahead}
+use Rattle.tree_file.specs.Layout.{Line, rowAt, rowTaken, after, lines}
 use Rattle.tree_file.specs.Shape.{isSome}
 use Rattle.tree_file.specs.Parts.{isBad}
 use Rattle.tree_file.specs.declared.Row.{Row}
@@ -45,21 +46,21 @@ unfolding lines
 left-bad {n} {rows} {text} {l} {t} w h b =
     let go : (m : ℕ) → length l ≡ 8 * m → isSome (lines m l t) ≡ false = λ m. elim m [
       | zero ↦ λ e. absurd (omega arith)
-      | suc k ↦ λ e. isSome-bad (rowAt l t) l t (lines k (drop 8 l) (drop (taken (rowAt l t)) t)) b
+      | suc k ↦ λ e. isSome-bad (rowAt l t) l t (lines k (drop 8 l) (drop (rowTaken (rowAt l t)) t)) b
     ] in
     sym (w .same ∙ go (w .rest) (w .so-many))
 
 pub left-next : {n : ℕ} {rows text l t : List ℕ} → LinesLeft n rows text l t → 8 ≤ length l → (r : Row) → r ≡ rowAt l t → isBad r ≡ false
-    → (x : ℕ) → x ≡ taken r → LinesLeft n rows text (take (length l - 8) (drop 8 l)) (take (length t - x) (drop x t))
+    → (x : ℕ) → x ≡ rowTaken r → LinesLeft n rows text (take (length l - 8) (drop 8 l)) (take (length t - x) (drop x t))
 unfolding lines
 left-next {n} {rows} {text} {l} {t} w h r e b x ex =
-    let go : (m : ℕ) → length l ≡ 8 * m → isSome (lines n rows text) ≡ isSome (lines m l t) → LinesLeft n rows text (drop 8 l) (drop (taken r) t) = λ m. elim m [
+    let go : (m : ℕ) → length l ≡ 8 * m → isSome (lines n rows text) ≡ isSome (lines m l t) → LinesLeft n rows text (drop 8 l) (drop (rowTaken r) t) = λ m. elim m [
       | zero ↦ λ p q. absurd (omega arith)
       | suc k ↦ λ p q. record {
         rest = k;
         so-many = length-drop 8 l ∙ omega arith;
-        same = q ∙ isSome-after (rowAt l t) l t (lines k (drop 8 l) (drop (taken (rowAt l t)) t)) (ap isBad (sym e) ∙ b)
-            ∙ ap (λ x. isSome (lines k (drop 8 l) (drop (taken x) t))) (sym e);
+        same = q ∙ isSome-after (rowAt l t) l t (lines k (drop 8 l) (drop (rowTaken (rowAt l t)) t)) (ap isBad (sym e) ∙ b)
+            ∙ ap (λ x. isSome (lines k (drop 8 l) (drop (rowTaken x) t))) (sym e);
       }
     ] in
     subst (λ y. LinesLeft n rows text y (take (length t - x) (drop x t))) (sym (part-rest l 8))
@@ -75,8 +76,8 @@ left-end {n} {rows} {text} {l} {t} w h =
     nil t ∙ ap (λ m. isSome (lines m l t)) (sym z) ∙ sym (w .same)
 
 -- a row takes no more text than there is
-pub taken-room : (rows text : List ℕ) (r : Row) → r ≡ rowAt rows text → taken r ≤ length text
+pub taken-room : (rows text : List ℕ) (r : Row) → r ≡ rowAt rows text → rowTaken r ≤ length text
 taken-room rows text r e =
-    let go : (r : Row) → RowSays rows text r → taken r ≤ length text = λ r. elim r
+    let go : (r : Row) → RowSays rows text r → rowTaken r ≤ length text = λ r. elim r
     [ Bad ↦ λ s. omega arith | Token m ↦ λ s. s .room | Node m ↦ λ s. omega arith ] in
     go r (row-says rows text r (sym e))

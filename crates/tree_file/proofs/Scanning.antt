@@ -24,7 +24,7 @@ use Rattle.utf8.specs.Utf8.{valid}
 use Rattle.mitex_syntax.specs.Spells.{tokenFits, Sound, Sounds, Spells, SpellsAll, Begins}
 use Rattle.mitex_syntax.proofs.Trees.{length-rowss, four-says, size-some, left, no-left, First, first-spelt, all-begins, others-exact, spells-alone}
 use Rattle.tree_file.specs.Shape.{slashed, backslash, symFits, unless, orElse, lowest, lowests}
-use Rattle.tree_file.specs.Layout.{fileMost}
+use Rattle.text.specs.Trailer.{fileMost}
 use Rattle.tree_file.specs.Parts.{shapeOf, isFrame, isRuled, firstFits, LowestFrom, PassSays, Scannable, Checkable}
 use Rattle.tree_file.specs.declared.Pass.{Pass}
 use Rattle.tree_file.specs.declared.Pass.the-variants.{Broke, Past}

@@ -1,24 +1,17 @@
--- No row breaks a rule exactly where the rules hold throughout; and what the rules say of each element, for the walks that come
--- after the check.
+-- No row breaks a rule exactly where the rules hold throughout; a row that breaks one is one of the tree's.
 use mathlib.Core.Path.{_≡_, refl, sym, ap, _∙_}
 use mathlib.Core.Logic.{_⊎_, inl, inr}
-use mathlib.Core.Bool.{Bool, true, false, _&&_, and-eq-true-iff}
+use mathlib.Core.Bool.{Bool, true, false}
 use mathlib.Core.Option.{Option}
 use mathlib.Core.Option.Option.{none as nothing, some}
-use mathlib.Core.List.{List}
 use Prim.Native.Nat.{ℕ, _+_, _≤_, _<_}
 use native.Mathlib.Omega.{arith}
 use lib.Dec.{T}
-use borrow.Author.Tests.{ne-eqb, eqb-true}
-use Rattle.text.specs.Compare.{same}
-use Rattle.mitex_syntax.specs.Syntax.{ItemBracket, ItemCurly, ClauseArgument, ClauseLR, ItemBegin, ItemEnd, TokenCommandSym, ItemCmd, ItemEnv}
 use Rattle.mitex_syntax.specs.Tree.{Tree, Forest, size, sizes}
 use Rattle.mitex_syntax.specs.Tree.Tree.{token, node}
 use Rattle.mitex_syntax.specs.Tree.Forest.{none, more}
-use Rattle.mitex_syntax.specs.Views.{firstOf, kindIn, textIn, cmdName, beginOf, firstTokens, argumentWith, goodEnds}
-use Rattle.tree_file.specs.Shape.{slashed, labelName, includegraphicsName, colorName, symFits, lrFits, isSome, allNodes, endsIn, imageFits, argumentsFit, nodeFits, orElse, unless, lowest, lowests, Shaped, ShapedAll}
+use Rattle.tree_file.specs.Shape.{symFits, nodeFits, orElse, unless, lowest, lowests, Shaped, ShapedAll}
 use Rattle.tree_file.proofs.Grow.{no-some}
-use Rattle.tree_file.proofs.Rows.{T-is}
 
 -- ---- no row breaks a rule
 
@@ -97,67 +90,8 @@ mutual
         | inr h ↦ let x = lowests-inside up (row + size t) f r h in record { low = omega (arith, x .low); high = omega (arith, x .high) }
       ]
 
--- ---- elements side by side, and those under a node
-
-pub shaped-first : (up : ℕ) (t : Tree) (f : Forest) → ShapedAll up (more t f) → Shaped up t
-unfolding Shaped
-shaped-first up t f h = h .0
-
-pub shaped-others : (up : ℕ) (t : Tree) (f : Forest) → ShapedAll up (more t f) → ShapedAll up f
-unfolding Shaped
-shaped-others up t f h = h .1
+-- ---- elements under a node
 
 pub shaped-under : (up k : ℕ) (f : Forest) → Shaped up (node k f) → ShapedAll k f
 unfolding Shaped
 shaped-under up k f h = h .1
-
-pub shaped-node : (up k : ℕ) (f : Forest) → Shaped up (node k f) → nodeFits k f ≡ true
-unfolding Shaped
-shaped-node up k f h = T-is (nodeFits k f) (h .0)
-
--- ---- what the rules say of each
-
--- a TokenCommandSym elsewhere than directly under ItemBegin or ItemEnd begins with a backslash
-pub sym-shaped : (up : ℕ) (s : List ℕ) → Shaped up (token TokenCommandSym s) → (up ≡ ItemBegin → ⊥) → (up ≡ ItemEnd → ⊥) → slashed s ≡ true
-unfolding Shaped
-sym-shaped up s h b e = sym (rw (ne-eqb up ItemBegin b, ne-eqb up ItemEnd e)) ∙ T-is (symFits up TokenCommandSym s) h
-
--- a ClauseLR's first child is a token that begins with one
-pub record FirstSlashed (f : Forest) : Type 0 where
-  pub kind : ℕ
-  pub text : List ℕ
-  pub others : Forest
-  pub is : f ≡ more (token kind text) others
-  pub begins : slashed text ≡ true
-
-lr-first : (f : Forest) → lrFits f ≡ true → FirstSlashed f
-lr-first none e = absurd (let z : _≡_ {A = ℕ} 0 1 = cc in omega arith)
-lr-first (more (token k s) f) e = record { kind = k; text = s; others = f; is = refl; begins = e }
-lr-first (more (node k g) f) e = absurd (let z : _≡_ {A = ℕ} 0 1 = cc in omega arith)
-
-pub lr-shaped : (up : ℕ) (f : Forest) → Shaped up (node ClauseLR f) → FirstSlashed f
-lr-shaped up f h = lr-first f (shaped-node up ClauseLR f h)
-
--- a command has a name that begins with a backslash
-pub cmd-shaped : (up : ℕ) (f : Forest) → Shaped up (node ItemCmd f) → (slashed (cmdName f) ≡ true) × (argumentsFit (cmdName f) f ≡ true)
-cmd-shaped up f h = and-eq-true-iff (slashed (cmdName f)) (argumentsFit (cmdName f) f) .0 (shaped-node up ItemCmd f h)
-
-module _ (up : ℕ) (f : Forest) (h : Shaped up (node ItemCmd f)) where
-  pub label-shaped : same (cmdName f) labelName ≡ true → goodEnds (textIn (firstOf ClauseArgument f)) ≡ true
-  label-shaped e = sym (rw e) ∙ cmd-shaped up f h .1
-
-  pub image-shaped : same (cmdName f) labelName ≡ false → same (cmdName f) includegraphicsName ≡ true
-      → (allNodes f ≡ true) × (goodEnds (textIn (argumentWith ItemCurly f)) ≡ true) × (endsIn (argumentWith ItemBracket f) ≡ true)
-  image-shaped a e =
-      let i : imageFits f ≡ true = sym (rw (a, e)) ∙ cmd-shaped up f h .1 in
-      let w = and-eq-true-iff (allNodes f) (goodEnds (textIn (argumentWith ItemCurly f)) && endsIn (argumentWith ItemBracket f)) .0 i in
-      let v = and-eq-true-iff (goodEnds (textIn (argumentWith ItemCurly f))) (endsIn (argumentWith ItemBracket f)) .0 (w .1) in
-      (w .0, v .0, v .1)
-
-  pub color-shaped : same (cmdName f) labelName ≡ false → same (cmdName f) includegraphicsName ≡ false → same (cmdName f) colorName ≡ true
-      → isSome (firstOf ClauseArgument f) ≡ true
-  color-shaped a b e = sym (rw (a, b, e)) ∙ cmd-shaped up f h .1
-
--- an environment's name is a TokenCommandSym
-pub env-shaped : (up : ℕ) (f : Forest) → Shaped up (node ItemEnv f) → kindIn (firstTokens (beginOf f)) ≡ TokenCommandSym
-env-shaped up f h = eqb-true (kindIn (firstTokens (beginOf f))) TokenCommandSym (shaped-node up ItemEnv f h)

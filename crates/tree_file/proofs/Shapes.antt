@@ -63,9 +63,9 @@ pub lr-token : (f : Forest) (rows text : List ℕ) → Begins f rows text → 8 
 unfolding rowsOf textOf Sound
 lr-token none rows text sp h mark = absurd (omega (arith, ap length (sp .rows-are)))
 lr-token (more (token m s) u) rows text sp h mark =
-    let some = token-some m s (sp .sound .0) in
+    let long = token-some m s (sp .sound .0) in
     ap slashed (sp .text-is ∙ append-assoc s (textsOf u) (sp .rest))
-    ∙ ap (λ b. eqb b backslash) (List·getD-append s (textsOf u ++ sp .rest) 0 0 some)
+    ∙ ap (λ b. eqb b backslash) (List·getD-append s (textsOf u ++ sp .rest) 0 0 long)
 lr-token (more (node m c) u) rows text sp h mark =
     absurd (let z : _≡_ {A = ℕ} 0 1 = sym (ap (λ x. getD x 1 0) (sp .rows-are)) ∙ mark in omega arith)
 
@@ -152,6 +152,18 @@ pub record ShapeLoop (rows text : List ℕ) (up row k i j at : ℕ) : Type 0 whe
   pub place : 8 * at ≡ 8 * row + i
   pub walk : (t : Tree) → Spells t rows text → ShapeWalk t up row k rows text i j at
 
+-- this is the answer for the element that the rows and the text spell
+abbrev pub ShapeSays : Shape → List ℕ → List ℕ → ℕ → ℕ → Type 0
+ShapeSays a rows text up row = (t : Tree) → Spells t rows text → a ≡ shapeOf (lowest up row t)
+
+-- the child at which the loop stands has e bytes of rows and n of text: a call for it may be made, and its answer is that for the whole,
+-- or the loop goes on past the child
+pub record ChildStands (rows text : List ℕ) (up row k i j at e n : ℕ) : Type 0 where
+  pub child : Child rows text i j e n
+  pub asks : Checkable (part rows i e) (part text j n) at
+  pub breaks : (a : Shape) → ShapeSays a (part rows i e) (part text j n) k at → (r : ℕ) → a ≡ Breaks r → ShapeSays (Breaks r) rows text up row
+  pub next : (a : Shape) → ShapeSays a (part rows i e) (part text j n) k at → a ≡ Right → ShapeLoop rows text up row k (i + e) (j + n) (at + e / 8)
+
 -- the children of the element that is given
 pub asked-forest : {rows text : List ℕ} {row : ℕ} → Checkable rows text row → SomeForest (take (length rows - 8) (drop 8 rows)) text 0 0
 asked-forest a =
@@ -177,41 +189,41 @@ module _ {rows text : List ℕ} {up row k i j at : ℕ} (s : ShapeLoop rows text
       spans here (omega arith) (omega arith)
 
   module _ (e n : ℕ) (is-e : e ≡ extentOf (drop i rows)) (is-n : n ≡ tokenSum (take (extentOf (drop i rows)) (drop i rows))) where
-    pub stands-child : Child rows text i j e n
-    stands-child = child here e n is-e is-n
+    child-here : Child rows text i j e n
+    child-here = child here e n is-e is-n
 
-    pub stands-asks : Checkable (part rows i e) (part text j n) at
-    stands-asks =
-        let c = stands-child in
+    asks-here : Checkable (part rows i e) (part text j n) at
+    asks-here =
         let few = s .asked .few in
         let short = s .asked .short in
         let low = s .asked .low in
         let place = s .place in
         record {
-          given = c .given;
-          few = omega (arith, c .rows-long, c .end);
-          short = omega (arith, c .text-long, c .stop);
-          low = omega (arith, c .rows-long, c .end);
+          given = child-here .given;
+          few = omega (arith, child-here .rows-long, child-here .end);
+          short = omega (arith, child-here .text-long, child-here .stop);
+          low = omega (arith, child-here .rows-long, child-here .end);
         }
 
-    -- what the answer for the child says of the whole
-    module _ (a : Shape) (says : (u : Tree) → Spells u (part rows i e) (part text j n) → a ≡ shapeOf (lowest k at u)) where
+    module _ (a : Shape) (says : ShapeSays a (part rows i e) (part text j n) k at) where
       says-here : (t : Tree) (sp : Spells t rows text) → a ≡ shapeOf (lowest k at (stands-at t sp .tree))
       says-here t sp = says (stands-at t sp .tree) (part-spells (stands-at t sp) e n is-e is-n)
 
-      pub stands-breaks : (r : ℕ) → a ≡ Breaks r → (t : Tree) → Spells t rows text → Breaks r ≡ shapeOf (lowest up row t)
-      stands-breaks r b t sp = walk-breaks (s .walk t sp) (stands-at t sp) a r (says-here t sp) b
+      breaks-here : (r : ℕ) → a ≡ Breaks r → ShapeSays (Breaks r) rows text up row
+      breaks-here r b t sp = walk-breaks (s .walk t sp) (stands-at t sp) a r (says-here t sp) b
 
-      pub stands-next : a ≡ Right → ShapeLoop rows text up row k (i + e) (j + n) (at + e / 8)
-      stands-next b =
-          let c = stands-child in
+      next-here : a ≡ Right → ShapeLoop rows text up row k (i + e) (j + n) (at + e / 8)
+      next-here b =
           let place = s .place in
           let whole = rows-e here e n is-e is-n in
           record {
             asked = s .asked;
             past = let past = s .past in omega arith;
-            low = c .end;
-            begun = c .stop;
+            low = child-here .end;
+            begun = child-here .stop;
             place = omega arith;
             walk = λ t sp. walk-next (s .walk t sp) (stands-at t sp) e n is-e is-n a (says-here t sp) b;
           }
+
+    pub child-stands : ChildStands rows text up row k i j at e n
+    child-stands = record { child = child-here; asks = asks-here; breaks = breaks-here; next = next-here }

@@ -6,7 +6,7 @@ use lib.ListN.{replicate}
 use Rattle.text.specs.Ascii.{ascii}
 use Rattle.text.specs.Compare.{same}
 use Rattle.text.specs.Numbers.{four}
-use Rattle.utf8.specs.Utf8.{run, valid}
+use Rattle.utf8.specs.Utf8.{charSteps, valid}
 use Rattle.mitex_syntax.specs.Syntax.{ClauseArgument, ScopeRoot, ItemBracket, ItemCurly, ClauseLR, ClauseCommandName, ItemBegin, ItemEnd, TokenWord, ItemBlockComment, TokenCommandSym, ItemCmd, ItemEnv}
 use Rattle.mitex_syntax.specs.Tree.{Tree, Forest, size, rowsOf, textOf, fileOf, count}
 use Rattle.mitex_syntax.specs.Tree.Tree.{token, node}
@@ -53,7 +53,7 @@ abbrev checked : Tree → Checked
 checked t = checkedAnswer (checkTree (fileOf t))
 
 decoded : checkTree (fileOf (doc (word (ascii "c")))) ≡ accepted (doc (word (ascii "c")))
-unfolding checkTree decode fileOf rowsOf textOf size lines rowAt grow split valid run count depth lowest
+unfolding checkTree decode fileOf rowsOf textOf size lines rowAt grow split valid charSteps count depth lowest
 decoded = refl
 
 -- a ClauseLR, symbols, commands and environments
@@ -96,7 +96,7 @@ shapes :
     ∷ Refused 5 2
     ∷ []
     )
-unfolding checkTree decode fileOf rowsOf textOf size lines rowAt grow split valid run count depth lowest firstBy firstToken same
+unfolding checkTree decode fileOf rowsOf textOf size lines rowAt grow split valid charSteps count depth lowest firstBy firstToken same
 shapes = refl
 
 -- the arguments of `\label`, `\includegraphics` and `\color`
@@ -135,7 +135,7 @@ arguments-fit :
     ∷ Whole 12 4 2
     ∷ []
     )
-unfolding checkTree decode fileOf rowsOf textOf size lines rowAt grow split valid run count depth lowest firstBy firstToken same
+unfolding checkTree decode fileOf rowsOf textOf size lines rowAt grow split valid charSteps count depth lowest firstBy firstToken same
 arguments-fit = refl
 
 -- ---- bytes
@@ -158,7 +158,7 @@ files-fit :
     ∷ []
     )
     ≡ (Whole 1 2 1 ∷ Whole 0 1 0 ∷ Whole 1 4 1 ∷ [])
-unfolding checkTree decode rowsOf textOf size lines rowAt grow split valid run count depth lowest
+unfolding checkTree decode rowsOf textOf size lines rowAt grow split valid charSteps count depth lowest
 files-fit = refl
 
 -- no trailer or no rows; a root that is none, or not over all rows; text left over; a wrong count; kinds, marks and zero bytes; a
@@ -187,7 +187,7 @@ files-break :
     ∷ []
     )
     ≡ replicate 19 (Refused 3 0)
-unfolding checkTree decode rowsOf textOf size lines rowAt grow split valid run count depth lowest
+unfolding checkTree decode rowsOf textOf size lines rowAt grow split valid charSteps count depth lowest
 files-break = refl
 
 -- ---- limits
@@ -201,5 +201,5 @@ limits :
     doc (nest 62 (word (ascii "a"))) ∷ doc (nest 63 (word (ascii "a"))) ∷ node ScopeRoot (flat 512) ∷ node ScopeRoot (flat 513) ∷ []
     )
     ≡ (Whole 3 65 2 ∷ Refused 4 0 ∷ Whole 512 513 512 ∷ Refused 3 0 ∷ [])
-unfolding checkTree decode fileOf rowsOf textOf size lines rowAt grow split valid run count depth lowest
+unfolding checkTree decode fileOf rowsOf textOf size lines rowAt grow split valid charSteps count depth lowest
 limits = refl

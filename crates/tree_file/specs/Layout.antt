@@ -1,15 +1,16 @@
--- The layout of a tree file (refusal 3): the trailer, the rows one by one while their token texts fill the text area, the
--- nesting of the rows, and the root over its blocks. `decode` gives the tree of a file that is laid out right; `decode-sound`
+-- The layout of a tree file (refusal 3): the trailer (crate text, specs/Trailer.antt), the rows one by one while their token texts
+-- fill the text area, the nesting of the rows, and the root over its blocks. `decode` gives the tree of a file that is laid out right; `decode-sound`
 -- and `decode-complete` (proofs/Decode.antt) say that these are the files of trees within the limits, and no others.
-use mathlib.Core.Bool.{Bool, _&&_, cond}
+use mathlib.Core.Bool.{_&&_, cond}
 use mathlib.Core.Path.{_≡_}
 use mathlib.Core.Option.{Option}
 use mathlib.Core.Option.Option.{none as nothing, some}
-use Prim.Native.Nat.{ℕ, zero, suc, _+_, _*_, _-_, _≤_}
+use Prim.Native.Nat.{ℕ, zero, suc, _-_, _≤_}
 use mathlib.Core.List.{List, [], _∷_}
 use lib.ListN.{length, getD, take, drop}
 use lib.Dec.{eqb, leb}
 use Rattle.text.specs.Numbers.{fourAt}
+use Rattle.text.specs.Trailer.{fileMost, countOf, trailed, textArea, rowArea, ahead}
 use Rattle.mitex_syntax.specs.Syntax.{ScopeRoot, isNode}
 use Rattle.mitex_syntax.specs.Tree.{Tree, Forest, size, count, fileOf}
 use Rattle.mitex_syntax.specs.Tree.Tree.{token, node}
@@ -18,31 +19,9 @@ use Rattle.mitex_syntax.specs.Spells.{tokenFits, Sound}
 use Rattle.tree_file.specs.declared.Row.{Row}
 use Rattle.tree_file.specs.declared.Row.the-variants.{Bad, Token, Node}
 
--- each file is at most 65,536 bytes
-abbrev pub fileMost : ℕ
-fileMost = 65536
-
 -- the blocks are at most 512
 abbrev pub blocksMost : ℕ
 blocksMost = 512
-
--- ---- the trailer: where the rows start, and how many they are
-
-abbrev pub startOf : List ℕ → ℕ
-startOf b = fourAt 0 (drop (length b - 8) b)
-
-abbrev pub countOf : List ℕ → ℕ
-countOf b = fourAt 4 (drop (length b - 8) b)
-
--- start + 8 × count + 8 equals the file's length
-abbrev pub trailed : List ℕ → Bool
-trailed b = leb 8 (length b) && (leb (length b) fileMost && eqb (startOf b + 8 * countOf b + 8) (length b))
-
-abbrev pub textArea : List ℕ → List ℕ
-textArea b = take (startOf b) b
-
-abbrev pub rowArea : List ℕ → List ℕ
-rowArea b = take (8 * countOf b) (drop (startOf b) b)
 
 -- ---- the rows
 
@@ -66,14 +45,10 @@ pub data Line : Type 0 where
   nod : ℕ → ℕ → Line
 
 -- the bytes of text that a row takes
-abbrev pub taken : Row → ℕ
-taken Bad = 0
-taken (Token m) = m
-taken (Node m) = 0
-
-abbrev pub ahead : Line → Option (List Line) → Option (List Line)
-ahead l nothing = nothing
-ahead l (some ls) = some (l ∷ ls)
+abbrev pub rowTaken : Row → ℕ
+rowTaken Bad = 0
+rowTaken (Token m) = m
+rowTaken (Node m) = 0
 
 -- a row before those that come after it
 abbrev pub after : Row → List ℕ → List ℕ → Option (List Line) → Option (List Line)
@@ -85,22 +60,22 @@ after (Node m) rows text o = ahead (nod (getD rows 0 0) m) o
 unfoldable pub lines : ℕ → List ℕ → List ℕ → Option (List Line)
 lines zero rows [] = some []
 lines zero rows (b ∷ s) = nothing
-lines (suc n) rows text = after (rowAt rows text) rows text (lines n (drop 8 rows) (drop (taken (rowAt rows text)) text))
+lines (suc n) rows text = after (rowAt rows text) rows text (lines n (drop 8 rows) (drop (rowTaken (rowAt rows text)) text))
 
 -- ---- rows in preorder: a child's rows end no later than its parent's
 
 pub data Cut : Type 0 where
   cut : Forest → Forest → Cut
 
-abbrev pub first : Tree → Option Cut → Option Cut
-first t nothing = nothing
-first t (some (cut g h)) = some (cut (more t g) h)
+abbrev pub cutWith : Tree → Option Cut → Option Cut
+cutWith t nothing = nothing
+cutWith t (some (cut g h)) = some (cut (more t g) h)
 
 -- the first trees, which have n rows together, and the others
 unfoldable pub split : ℕ → Forest → Option Cut
 split n none = cond (eqb n 0) (some (cut none none)) nothing
 split n (more t f) =
-    cond (eqb n 0) (some (cut none (more t f))) (cond (leb (size t) n) (first t (split (n - size t) f)) nothing)
+    cond (eqb n 0) (some (cut none (more t f))) (cond (leb (size t) n) (cutWith t (split (n - size t) f)) nothing)
 
 abbrev pub over : Tree → Option Forest → Option Forest
 over t nothing = nothing

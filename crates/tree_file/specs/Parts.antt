@@ -9,6 +9,7 @@ use lib.ListN.{length, drop, getD}
 use lib.Dec.{T, eqb, leb}
 use Rattle.text.specs.Numbers.{four, fourAt}
 use Rattle.text.specs.Writing.{cap}
+use Rattle.text.specs.Trailer.{fileMost}
 use Rattle.mitex_syntax.specs.Syntax.{ClauseLR, ScopeRoot, ItemBegin, ItemEnd, TokenCommandSym, ItemEnv, isNode}
 use Rattle.mitex_syntax.specs.Tree.{Tree, Forest, rowsOfs, count}
 use Rattle.mitex_syntax.specs.Tree.Tree.{token, node}
@@ -16,7 +17,7 @@ use Rattle.mitex_syntax.specs.Tree.Forest.{none, more}
 use Rattle.mitex_syntax.specs.Spells.{tokenFits, SpellsAll, SomeTree}
 use Rattle.mitex_syntax.specs.declared.Place.{Place}
 use Rattle.mitex_syntax.specs.declared.Place.the-variants.{Nowhere, At}
-use Rattle.tree_file.specs.Layout.{fileMost, blocksMost, Line, root}
+use Rattle.tree_file.specs.Layout.{blocksMost, Line, root}
 use Rattle.tree_file.specs.Layout.Line.{tok, nod}
 use Rattle.tree_file.specs.Depth.{depths, depthMost}
 use Rattle.tree_file.specs.Shape.{symFits, nodeFits, lowests}

@@ -6,13 +6,14 @@ ghost use mathlib.Core.List.{List};
 ghost use Prim.Native.Nat.{ℕ, _*_, _≤_, _<_};
 ghost use lib.ListN.{length};
 ghost use Rattle.text.specs.Writing.{cap};
+ghost use Rattle.text.specs.Trailer.{fileMost};
 ghost use Rattle.utf8.specs.Utf8.{oneByteEach};
 ghost use Rattle.mitex_syntax.specs.Tree.{Tree, Forest, rowsOfs, count};
 ghost use Rattle.mitex_syntax.specs.Tree.Forest.{more};
 ghost use Rattle.mitex_syntax.specs.Syntax.{ItemCurly, ItemBracket};
 ghost use Rattle.mitex_syntax.specs.Views.{textIn, argumentWith, goodEnds};
 ghost use Rattle.mitex_syntax.specs.Spells.{tokenFits, Spells, SpellsAll, Begins, SomeForest};
-ghost use Rattle.tree_file.specs.Layout.{fileMost, Line, tokenRow, nodeRow, rowAt, taken as takenOf, lines, split, grow, grows};
+ghost use Rattle.tree_file.specs.Layout.{Line, tokenRow, nodeRow, rowAt, rowTaken, lines, split, grow, grows};
 ghost use Rattle.tree_file.specs.Depth.{depths, depthMost};
 ghost use Rattle.tree_file.specs.Shape.{isSome, slashed, symFits, lrFits, labelFits, endsIn, imageFits, colorFits, argumentsFit, cmdFits, envFits, nodeFits, unless, lowest};
 ghost use Rattle.tree_file.specs.Check.{checkTree, checkedAnswer};
@@ -36,9 +37,6 @@ const BAD_LAYOUT: u8 = 3;
 const TOO_DEEP: u8 = 4;
 
 const BAD_SHAPE: u8 = 5;
-
-// A file is at most so many bytes.
-const FILE_MOST: usize = 65536;
 
 // No row lies deeper.
 const DEPTH_MOST: usize = 64;
@@ -172,8 +170,8 @@ fn is_bad(r: Row) -> bool
 }
 
 // The bytes of text that a row takes.
-fn taken(r: Row) -> usize
-    ensures { λ n. ⌜ n ≡ takenOf r ⌝ }
+fn row_taken(r: Row) -> usize
+    ensures { λ n. ⌜ n ≡ rowTaken r ⌝ }
 {
     match r {
         Row::Bad => 0,
@@ -194,7 +192,7 @@ fn lines_fit(rows: &[u8], text: &[u8]) -> bool
         if is_bad(row) {
             return false;
         }
-        let n = taken(row);
+        let n = row_taken(row);
         t = &t[n..];
         l = &l[8..];
     }
@@ -704,27 +702,13 @@ fn check_areas(rows: &[u8], text: &[u8]) -> Checked
 pub fn check_tree(file: &[u8]) -> Checked
     ensures { λ r. ⌜ r ≡ checkedAnswer (checkTree (now (file .entry))) ⌝ }
 {
-    let len = file.len();
-    if len < 8 {
+    if !text::trailed(file) {
         return Checked::Refused {
             number: BAD_LAYOUT,
             row: 0,
         };
     }
-    if FILE_MOST < len {
-        return Checked::Refused {
-            number: BAD_LAYOUT,
-            row: 0,
-        };
-    }
-    let end = len - 8;
-    let start = text::read_u32(file, end);
-    let count = text::read_u32(file, end + 4);
-    if start + 8 * count + 8 != len {
-        return Checked::Refused {
-            number: BAD_LAYOUT,
-            row: 0,
-        };
-    }
+    let start = text::start_of(file);
+    let end = file.len() - 8;
     check_areas(&file[start..end], &file[..start])
 }

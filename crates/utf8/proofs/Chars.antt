@@ -8,7 +8,7 @@ use native.Mathlib.Omega.{arith}
 use native.Mathlib.Numerals.{add-one}
 use lib.ListN.{length, take, drop, getD, length-append, drop-of-length-le, take-append-drop}
 use lib.Seq.{drop-cons}
-use Rattle.utf8.specs.Chars.{continues, goesOn, joined, chars, concat, first, charLen, LastAt}
+use Rattle.utf8.specs.Chars.{continues, goesOn, joined, chars, concat, firstChar, charLen, LastAt}
 
 concat-joined : (g : Bool) (b : ℕ) (cs : List (List ℕ)) → concat (joined g b cs) ≡ b ∷ concat cs
 unfolding concat
@@ -28,7 +28,7 @@ concat-append (c ∷ a) b = ap (λ (l : List ℕ). c ++ l) (concat-append a b) �
 
 -- ---- the first character
 
-first-on : (b : ℕ) (cs : List (List ℕ)) → length (first (joined true b cs)) ≡ suc (length (first cs))
+first-on : (b : ℕ) (cs : List (List ℕ)) → length (firstChar (joined true b cs)) ≡ suc (length (firstChar cs))
 first-on b [] = refl
 first-on b (c ∷ cs) = refl
 
@@ -51,7 +51,7 @@ chars-unroll b (c ∷ s) =
     ] in
     by (goesOn (c ∷ s)) refl
 
-first-le : (cs : List (List ℕ)) → length (first cs) ≤ length (concat cs)
+first-le : (cs : List (List ℕ)) → length (firstChar cs) ≤ length (concat cs)
 unfolding concat
 first-le [] = omega arith
 first-le (c ∷ cs) = simp length-append (omega arith)

@@ -10,10 +10,10 @@ use native.Mathlib.Decide.{decLe}
 use lib.Dec.{eqb, leb}
 use borrow.Author.Tests.{ne-eqb, le-leb, lt-leb, leb-true, eqb-true, eqb-false}
 use Rattle.utf8.specs.declared.State.{State}
-use Rattle.utf8.specs.Utf8.{Between, Tail, Char, Text, lengthBy, secondLow, secondHigh, state, whole, dead, begun, step, run, valid}
+use Rattle.utf8.specs.Utf8.{Between, Tail, Char, Text, lengthBy, secondLow, secondHigh, state, whole, dead, begun, charStep, charSteps, valid}
 use Rattle.utf8.specs.Utf8.Char.{one, two, three-e0, three-e1, three-ed, three-ee, four-f0, four-f1, four-f4}
 use Rattle.utf8.specs.Utf8.Text.{end, then}
-use Rattle.utf8.proofs.Run.{run-append}
+use Rattle.utf8.proofs.Steps.{steps-append}
 
 -- ---- the first byte: which line of the grammar it begins
 
@@ -77,41 +77,41 @@ pub begun-leads : {b n lo hi : ℕ} → Leads b n lo hi → begun b ≡ state n 
 begun-leads {b} {n} w = rw (w .by, w .from, w .to, ne-eqb (suc n) 0 (omega arith), less-one n)
 
 -- a byte within its bounds
-step-on : {m lo hi b : ℕ} → Between lo hi b → step (state (suc m) lo hi) b ≡ state m 0x80 0xBF
+step-on : {m lo hi b : ℕ} → Between lo hi b → charStep (state (suc m) lo hi) b ≡ state m 0x80 0xBF
 step-on {m} {lo} {hi} {b} w =
     let l = w .low in let h = w .high in
     rw (ne-eqb (suc m) 0 (omega arith), le-leb lo b, le-leb b hi, less-one m)
 
 -- characters of two, three and four bytes
 module _ {a lo hi b : ℕ} (w : Between lo hi b) where
-  run-2 : Leads a 1 lo hi → run whole (a ∷ b ∷ []) ≡ whole
-  unfolding run
-  run-2 l = rw (begun-leads l, step-on {m = 0} w)
+  steps-2 : Leads a 1 lo hi → charSteps whole (a ∷ b ∷ []) ≡ whole
+  unfolding charSteps
+  steps-2 l = rw (begun-leads l, step-on {m = 0} w)
 
-  run-3 : {c : ℕ} → Leads a 2 lo hi → Tail c → run whole (a ∷ b ∷ c ∷ []) ≡ whole
-  unfolding run
-  run-3 l t = rw (begun-leads l, step-on {m = 1} w, step-on {m = 0} t)
+  steps-3 : {c : ℕ} → Leads a 2 lo hi → Tail c → charSteps whole (a ∷ b ∷ c ∷ []) ≡ whole
+  unfolding charSteps
+  steps-3 l t = rw (begun-leads l, step-on {m = 1} w, step-on {m = 0} t)
 
-  run-4 : {c d : ℕ} → Leads a 3 lo hi → Tail c → Tail d → run whole (a ∷ b ∷ c ∷ d ∷ []) ≡ whole
-  unfolding run
-  run-4 l t v = rw (begun-leads l, step-on {m = 2} w, step-on {m = 1} t, step-on {m = 0} v)
+  steps-4 : {c d : ℕ} → Leads a 3 lo hi → Tail c → Tail d → charSteps whole (a ∷ b ∷ c ∷ d ∷ []) ≡ whole
+  unfolding charSteps
+  steps-4 l t v = rw (begun-leads l, step-on {m = 2} w, step-on {m = 1} t, step-on {m = 0} v)
 
-run-char : {c : List ℕ} → Char c → run whole c ≡ whole
-unfolding run
-run-char (one w) = begun-leads (leads-1 w)
-run-char (two w t) = run-2 t (leads-2 w)
-run-char (three-e0 w t) = run-3 w leads-e0 t
-run-char (three-e1 w t v) = run-3 t (leads-e1 w) v
-run-char (three-ed w t) = run-3 w leads-ed t
-run-char (three-ee w t v) = run-3 t (leads-ee w) v
-run-char (four-f0 w t v) = run-4 w leads-f0 t v
-run-char (four-f1 w t v x) = run-4 t (leads-f1 w) v x
-run-char (four-f4 w t v) = run-4 w leads-f4 t v
+steps-char : {c : List ℕ} → Char c → charSteps whole c ≡ whole
+unfolding charSteps
+steps-char (one w) = begun-leads (leads-1 w)
+steps-char (two w t) = steps-2 t (leads-2 w)
+steps-char (three-e0 w t) = steps-3 w leads-e0 t
+steps-char (three-e1 w t v) = steps-3 t (leads-e1 w) v
+steps-char (three-ed w t) = steps-3 w leads-ed t
+steps-char (three-ee w t v) = steps-3 t (leads-ee w) v
+steps-char (four-f0 w t v) = steps-4 w leads-f0 t v
+steps-char (four-f1 w t v x) = steps-4 t (leads-f1 w) v x
+steps-char (four-f4 w t v) = steps-4 w leads-f4 t v
 
-pub text-run : {s : List ℕ} → Text s → run whole s ≡ whole
-unfolding run
-text-run end = refl
-text-run (then {c} {s} w t) = run-append whole c s ∙ ap (λ (u : State). run u s) (run-char w) ∙ text-run t
+pub text-steps : {s : List ℕ} → Text s → charSteps whole s ≡ whole
+unfolding charSteps
+text-steps end = refl
+text-steps (then {c} {s} w t) = steps-append whole c s ∙ ap (λ (u : State). charSteps u s) (steps-char w) ∙ text-steps t
 
 -- ---- from the test to the grammar
 
@@ -184,26 +184,26 @@ completes-text {a} s (line-f1 w) z e = ends-4 a (λ b c d t v x. four-f1 w t v x
 completes-text s line-f4 z e = ends-4 0xF4 (λ b c d w t v. four-f4 w t v) s e
 completes-text s (line-none n) z e = absurd (z n)
 
-step-dead : (b : ℕ) → step dead b ≡ dead
+step-dead : (b : ℕ) → charStep dead b ≡ dead
 step-dead zero = refl
 step-dead (suc b) = rw (le-leb 1 (suc b) (omega arith), lt-leb (suc b) 0 (omega arith))
 
-run-dead : (s : List ℕ) → run dead s ≡ dead
-unfolding run
-run-dead [] = refl
-run-dead (b ∷ s) = ap (λ (u : State). run u s) (step-dead b) ∙ run-dead s
+steps-dead : (s : List ℕ) → charSteps dead s ≡ dead
+unfolding charSteps
+steps-dead [] = refl
+steps-dead (b ∷ s) = ap (λ (u : State). charSteps u s) (step-dead b) ∙ steps-dead s
 
-module _ (s : List ℕ) (u v : State) (d : u ≡ v) (e : run u s .more ≡ 0) where
-  accepted : run v s .more ≡ 0
-  accepted = subst (λ (w : State). run w s .more ≡ 0) d e
+module _ (s : List ℕ) (u v : State) (d : u ≡ v) (e : charSteps u s .more ≡ 0) where
+  accepted : charSteps v s .more ≡ 0
+  accepted = subst (λ (w : State). charSteps w s .more ≡ 0) d e
 
-dead-no : {A : Type 0} (s : List ℕ) (u : State) → u ≡ dead → run u s .more ≡ 0 → A
+dead-no : {A : Type 0} (s : List ℕ) (u : State) → u ≡ dead → charSteps u s .more ≡ 0 → A
 dead-no s u d e =
-    let z : _≡_ {A = ℕ} 1 0 = ap (λ (v : State). v .more) (sym (run-dead s)) ∙ accepted s u dead d e in
+    let z : _≡_ {A = ℕ} 1 0 = ap (λ (v : State). v .more) (sym (steps-dead s)) ∙ accepted s u dead d e in
     absurd (omega arith)
 
-complete : (s : List ℕ) (m lo hi : ℕ) → run (state m lo hi) s .more ≡ 0 → Completes m lo hi s
-unfolding run
+complete : (s : List ℕ) (m lo hi : ℕ) → charSteps (state m lo hi) s .more ≡ 0 → Completes m lo hi s
+unfolding charSteps
 complete [] zero lo hi e = end
 complete [] (suc m) lo hi e = absurd (omega arith)
 complete (b ∷ s) zero lo hi e =
@@ -216,7 +216,7 @@ complete (b ∷ s) zero lo hi e =
     by (eqb (lengthBy b) 0) refl
 complete (b ∷ s) (suc m) lo hi e =
     let n = ne-eqb (suc m) 0 (omega arith) in
-    let here = step (state (suc m) lo hi) b in
+    let here = charStep (state (suc m) lo hi) b in
     let by : (t v : Bool) → leb lo b ≡ t → leb b hi ≡ v → Completes (suc m) lo hi (b ∷ s) = λ t v. elim t [
       | false ↦ λ p q. dead-no s here (rw (n, p)) e
       | true ↦ elim v [
@@ -230,4 +230,4 @@ complete (b ∷ s) (suc m) lo hi e =
 
 pub valid-text : (s : List ℕ) → (valid s ≡ true) ↔ Text s
 unfolding valid
-valid-text s = (λ e. complete s 0 0x80 0xBF (eqb-true (run whole s .more) 0 e), λ t. rw (text-run t))
+valid-text s = (λ e. complete s 0 0x80 0xBF (eqb-true (charSteps whole s .more) 0 e), λ t. rw (text-steps t))

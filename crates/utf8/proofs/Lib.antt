@@ -1,4 +1,4 @@
-pub mod Run
+pub mod Steps
 pub mod White
 pub mod Chars
 pub mod Trimming

@@ -1,25 +1,25 @@
--- Valid text by its characters: it is made of the RFC's characters, which are those of `chars`. So it stays valid where it
--- is put together, cut before a byte that continues none, and cut at one-byte ends.
-use mathlib.Core.Path.{_≡_, refl, sym, ap, subst, _∙_}
+-- Valid text by its characters: it is made of the RFC's characters, which are those of `chars`. Text of one-byte characters is
+-- valid, and so are its parts.
+use mathlib.Core.Path.{_≡_, refl, sym, ap, _∙_}
 use mathlib.Core.Bool.{Bool, true, false, _&&_, and-false, cond, and-eq-true-iff}
 use mathlib.Core.List.{List, [], _∷_, _++_}
-use Prim.Native.Nat.{ℕ, zero, suc, _+_, _-_, _≤_, _<_}
+use Prim.Native.Nat.{ℕ, zero, suc, _+_, _≤_, _<_}
 use native.Mathlib.Omega.{arith}
 use native.Mathlib.Decide.{decLe, decLt}
 use mathlib.Core.Logic.{dite}
 use native.Mathlib.Numerals.{add-one}
 use lib.Dec.{eqb, leb, ltb}
 use borrow.Author.Tests.{le-leb, lt-leb, lt-ltb, le-ltb, leb-true}
-use lib.ListN.{length, take, drop, getD, take-append-drop, drop-of-length-le}
+use lib.ListN.{length, take, drop, getD, drop-of-length-le}
 use lib.Seq.{drop-cons}
 use Rattle.utf8.specs.declared.State.{State}
-use Rattle.utf8.specs.Utf8.{Between, Tail, Char, Text, lengthBy, whole, run, oneByteEach, valid}
+use Rattle.utf8.specs.Utf8.{Between, Tail, Char, Text, lengthBy, whole, charSteps, oneByteEach, valid}
 use Rattle.utf8.specs.Utf8.Char.{one, two, three-e0, three-e1, three-ed, three-ee, four-f0, four-f1, four-f4}
 use Rattle.utf8.specs.Utf8.Text.{end, then}
-use Rattle.utf8.specs.Chars.{continues, goesOn, chars, concat, first, charLen, AllChar}
-use Rattle.utf8.proofs.Run.{run-append}
-use Rattle.utf8.proofs.Chars.{concat-chars, chars-append}
-use Rattle.utf8.proofs.Grammar.{leads-1, leads-2, leads-e1, leads-ee, leads-f1, text-run, valid-text}
+use Rattle.utf8.specs.Chars.{continues, goesOn, chars, firstChar, charLen, AllChar}
+use Rattle.utf8.proofs.Steps.{steps-append}
+use Rattle.utf8.proofs.Chars.{chars-append}
+use Rattle.utf8.proofs.Grammar.{leads-1, leads-2, leads-e1, leads-ee, leads-f1, text-steps, valid-text}
 
 -- ---- the RFC's characters are characters of `chars`
 
@@ -99,65 +99,23 @@ unfolding chars
 chars-text end = tt
 chars-text (then w t) = rw (chars-then w t) (w, chars-text t)
 
-pub all-text : (cs : List (List ℕ)) → AllChar cs → Text (concat cs)
-unfolding concat
-all-text [] w = end
-all-text (c ∷ cs) w = then (w .0) (all-text cs (w .1))
-
--- a text that is put together of characters has just those
-pub chars-concat : (cs : List (List ℕ)) → AllChar cs → chars (concat cs) ≡ cs
-unfolding chars concat
-chars-concat [] w = refl
-chars-concat (c ∷ cs) w = chars-then (w .0) (all-text cs (w .1)) ∙ ap (λ (l : List (List ℕ)). c ∷ l) (chars-concat cs (w .1))
-
-pub valid-chars : (s : List ℕ) → valid s ≡ true → AllChar (chars s)
-valid-chars s e = chars-text (valid-text s .0 e)
-
-pub chars-valid : (cs : List (List ℕ)) → AllChar cs → valid (concat cs) ≡ true
-chars-valid cs w = valid-text (concat cs) .1 (all-text cs w)
-
 -- the first character of valid text has the length that its first byte says
 text-first : {s : List ℕ} → Text s → 0 < length s → charLen s ≡ lengthBy (getD s 0 0)
 text-first end h = absurd (omega arith)
-text-first (then {c} {s} w t) h = ap (λ (l : List (List ℕ)). length (first l)) (chars-then w t) ∙ char-length s w
+text-first (then {c} {s} w t) h = ap (λ (l : List (List ℕ)). length (firstChar l)) (chars-then w t) ∙ char-length s w
 
 pub charLen-valid : (s : List ℕ) → valid s ≡ true → 0 < length s → charLen s ≡ lengthBy (getD s 0 0)
 charLen-valid s e h = text-first (valid-text s .0 e) h
 
--- ---- putting together and cutting
+-- ---- putting together
 
 pub valid-append : (a b : List ℕ) → valid a ≡ true → valid (a ++ b) ≡ valid b
 unfolding valid
-valid-append a b e = ap (λ (u : State). eqb (u .more) 0) (run-append whole a b ∙ ap (λ (u : State). run u b) (text-run (valid-text a .0 e)))
-
-pub all-append : (a b : List (List ℕ)) → AllChar a → AllChar b → AllChar (a ++ b)
-all-append [] b v w = w
-all-append (c ∷ a) b v w = (v .0, all-append a b (v .1) w)
-
-pub all-split : (a b : List (List ℕ)) → AllChar (a ++ b) → AllChar a × AllChar b
-all-split [] b w = (tt, w)
-all-split (c ∷ a) b w = let r = all-split a b (w .1) in ((w .0, r .0), r .1)
-
--- a cut before a byte that continues no character
-pub valid-split : (a b : List ℕ) → goesOn b ≡ false → valid (a ++ b) ≡ true → (valid a ≡ true) × (valid b ≡ true)
-valid-split a b g e =
-    let r = all-split (chars a) (chars b) (rw (chars-append a b g) at (valid-chars (a ++ b) e)) in
-    (rw concat-chars at (chars-valid (chars a) (r .0)), rw concat-chars at (chars-valid (chars b) (r .1)))
+valid-append a b e = ap (λ (u : State). eqb (u .more) 0) (steps-append whole a b ∙ ap (λ (u : State). charSteps u b) (text-steps (valid-text a .0 e)))
 
 -- a one-byte character in front
 pub valid-one : (a : ℕ) (s : List ℕ) → a ≤ 0x7F → valid (a ∷ s) ≡ valid s
 valid-one a s h = valid-append (a ∷ []) s (valid-text (a ∷ []) .1 (then (one (record { low = omega arith; high = h })) end))
-
--- what stands between two one-byte ends
-pub valid-inside : (s : List ℕ) (n : ℕ) → n + 2 ≡ length s → getD s 0 0 ≤ 0x7F → getD s (length s - 1) 0 ≤ 0x7F → valid s ≡ true → valid (take n (drop 1 s)) ≡ true
-valid-inside [] n l a z e = absurd (omega arith)
-valid-inside (x ∷ s) n l a z e =
-    let k : n < length s = omega arith in
-    let at : length (x ∷ s) - 1 ≡ suc n = omega arith in
-    let last : getD s n 0 ≤ 0x7F = subst (λ (m : ℕ). getD (x ∷ s) m 0 ≤ 0x7F) at z in
-    let g : goesOn (drop n s) ≡ false = rw (drop-cons s n 0) (low-starts last) in
-    let v : valid (take n s ++ drop n s) ≡ true = rw take-append-drop (sym (valid-one x s a) ∙ e) in
-    valid-split (take n s) (drop n s) g v .0
 
 -- ---- characters of one byte
 

@@ -1,16 +1,14 @@
--- Laws on trimming: one step of it at either end, and what it keeps.
-use mathlib.Core.Path.{_≡_, refl, sym, ap, subst, _∙_}
+-- Trimming by steps at either end; what it leaves is a part of the text.
+use mathlib.Core.Path.{_≡_, refl, sym, ap, _∙_}
 use mathlib.Core.Bool.{Bool, true, false, cond}
-use mathlib.Core.List.{List, [], _∷_, _++_, reverse, reverse-cons, reverse-append, reverse-reverse}
+use mathlib.Core.List.{List, [], _∷_, _++_, reverse, reverse-append, reverse-reverse}
 use Prim.Native.Nat.{ℕ, _-_, _≤_, _<_}
 use native.Mathlib.Omega.{arith}
 use lib.ListN.{length, take, drop, length-append, length-drop}
 use Rattle.text.proofs.Writing.{part-rest}
-use Rattle.utf8.specs.Utf8.{valid}
-use Rattle.utf8.specs.Chars.{chars, concat, LastAt, AllChar, isWhite}
+use Rattle.utf8.specs.Chars.{chars, concat, LastAt, isWhite}
 use Rattle.utf8.specs.Trim.{skipWhite, trimStart, trimEnd, trim}
 use Rattle.utf8.proofs.Chars.{concat-chars, concat-append, FirstLen}
-use Rattle.utf8.proofs.Texts.{all-append, all-split, valid-chars, chars-valid}
 
 pub left-less : (t : List ℕ) (n : ℕ) → 1 ≤ n → n ≤ length t → length (take (length t - n) (drop n t)) < length t
 left-less t n h k = rw (part-rest, length-drop) (omega arith)
@@ -83,24 +81,3 @@ trimEnd-length s = let r = trimEnd-split s in omega (arith, simp length-append a
 pub trim-length : (s : List ℕ) → length (trim s) ≤ length s
 unfolding trim
 trim-length s = omega (arith, trimStart-length s, trimEnd-length (trimStart s))
-
-skip-all : (cs : List (List ℕ)) → AllChar cs → AllChar (skipWhite cs)
-skip-all cs w = let r = skip-split cs in all-split (r .0) (skipWhite cs) (subst AllChar (sym (r .1)) w) .1
-
-all-reverse : (cs : List (List ℕ)) → AllChar cs → AllChar (reverse cs)
-all-reverse [] w = tt
-all-reverse (c ∷ cs) w = rw (reverse-cons c cs) (all-append (reverse cs) (c ∷ []) (all-reverse cs (w .1)) (w .0, tt))
-
-pub trimStart-valid : (s : List ℕ) → valid s ≡ true → valid (trimStart s) ≡ true
-unfolding trimStart
-trimStart-valid s e = chars-valid (skipWhite (chars s)) (skip-all (chars s) (valid-chars s e))
-
-pub trimEnd-valid : (s : List ℕ) → valid s ≡ true → valid (trimEnd s) ≡ true
-unfolding trimEnd
-trimEnd-valid s e =
-    chars-valid (reverse (skipWhite (reverse (chars s))))
-    (all-reverse (skipWhite (reverse (chars s))) (skip-all (reverse (chars s)) (all-reverse (chars s) (valid-chars s e))))
-
-pub trim-valid : (s : List ℕ) → valid s ≡ true → valid (trim s) ≡ true
-unfolding trim
-trim-valid s e = trimEnd-valid (trimStart s) (trimStart-valid s e)

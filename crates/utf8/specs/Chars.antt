@@ -35,13 +35,13 @@ concat [] = []
 concat (c ∷ cs) = c ++ concat cs
 
 -- the first of some characters, no bytes where there is none
-abbrev pub first : List (List ℕ) → List ℕ
-first [] = []
-first (c ∷ cs) = c
+abbrev pub firstChar : List (List ℕ) → List ℕ
+firstChar [] = []
+firstChar (c ∷ cs) = c
 
 -- how many bytes the first character of a text has
 abbrev pub charLen : List ℕ → ℕ
-charLen s = length (first (chars s))
+charLen s = length (firstChar (chars s))
 
 -- the last character of a text begins at k
 pub record LastAt (s : List ℕ) (k : ℕ) : Type 0 where

@@ -7,7 +7,7 @@ use Prim.Native.Nat.{ℕ}
 use lib.ListN.{length}
 use Rattle.text.specs.Ascii.{ascii}
 use Rattle.text.specs.Compare.{same}
-use Rattle.utf8.specs.Utf8.{lengthBy, run, valid}
+use Rattle.utf8.specs.Utf8.{lengthBy, charSteps, valid}
 use Rattle.utf8.specs.Chars.{chars, concat, charLen, whiteSpace, encode, isWhite}
 use Rattle.utf8.specs.Trim.{skipWhite, trimStart, trimEnd, trim}
 
@@ -38,7 +38,7 @@ samples =
     ∷ []
 
 samples-valid : every (λ x. valid (x .bytes)) samples ≡ true
-unfolding valid run
+unfolding valid charSteps
 samples-valid = refl
 
 samples-chars : map (λ x. chars (x .bytes)) samples ≡ map (λ x. map encode (x .points)) samples
@@ -57,7 +57,7 @@ abbrev valids : List (List ℕ)
 valids = [] ∷ map encode (0x0 ∷ 0x7F ∷ 0x80 ∷ 0x7FF ∷ 0x800 ∷ 0xD7FF ∷ 0xE000 ∷ 0xFFFF ∷ 0x10000 ∷ 0x10FFFF ∷ [])
 
 are-valid : every valid valids ≡ true
-unfolding valid run
+unfolding valid charSteps
 are-valid = refl
 
 abbrev invalids : List (List ℕ)
@@ -87,7 +87,7 @@ invalids =
     ∷ []
 
 are-invalid : map valid invalids ≡ map (λ s. false) invalids
-unfolding valid run
+unfolding valid charSteps
 are-invalid = refl
 
 -- ---- characters

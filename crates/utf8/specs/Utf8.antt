@@ -68,16 +68,16 @@ abbrev pub begun : ℕ → State
 begun b = cond (eqb (lengthBy b) 0) dead (state (lengthBy b - 1) (secondLow b) (secondHigh b))
 
 -- after one byte more
-abbrev pub step : State → ℕ → State
-step u b = cond (eqb (u .more) 0) (begun b) (cond (leb (u .low) b && leb b (u .high)) (plain (u .more - 1)) dead)
+abbrev pub charStep : State → ℕ → State
+charStep u b = cond (eqb (u .more) 0) (begun b) (cond (leb (u .low) b && leb b (u .high)) (plain (u .more - 1)) dead)
 
-unfoldable pub run : State → List ℕ → State
-run u [] = u
-run u (b ∷ s) = run (step u b) s
+unfoldable pub charSteps : State → List ℕ → State
+charSteps u [] = u
+charSteps u (b ∷ s) = charSteps (charStep u b) s
 
 -- the bytes are whole characters
 unfoldable pub valid : List ℕ → Bool
-valid s = eqb (run whole s .more) 0
+valid s = eqb (charSteps whole s .more) 0
 
 -- each character has one byte
 unfoldable pub oneByteEach : List ℕ → Bool

@@ -7,7 +7,7 @@ ghost use mathlib.Core.List.{[], _∷_};
 ghost use Prim.Native.Nat.{_<_};
 ghost use lib.Dec.{eqb, ltb};
 ghost use lib.ListN.{length};
-ghost use Rattle.utf8.specs.Utf8.{lengthBy, secondLow, secondHigh, plain, dead, begun, step, oneByteEach, valid};
+ghost use Rattle.utf8.specs.Utf8.{lengthBy, secondLow, secondHigh, plain, dead, begun, charStep, oneByteEach, valid};
 ghost use Rattle.utf8.specs.Chars.{continues, charLen, LastAt, isWhite};
 ghost use Rattle.utf8.specs.Trim.{trimStart, trimEnd, trim};
 
@@ -90,7 +90,7 @@ fn dead() -> State
 }
 
 // The state after a first byte. One-byte characters are told apart first, since most texts have few others.
-fn begin(b: u8) -> State
+fn char_begin(b: u8) -> State
     ensures { λ r. ⌜ r ≡ begun b ⌝ }
 {
     if b <= 0x7F {
@@ -108,11 +108,11 @@ fn begin(b: u8) -> State
 }
 
 // The state after one byte more.
-fn step(u: State, b: u8) -> State
-    ensures { λ r. ⌜ r ≡ step u b ⌝ }
+fn char_step(u: State, b: u8) -> State
+    ensures { λ r. ⌜ r ≡ charStep u b ⌝ }
 {
     if u.more == 0 {
-        return begin(b);
+        return char_begin(b);
     }
     if b < u.low {
         return dead();
@@ -156,7 +156,7 @@ pub fn valid(s: &[u8]) -> bool
     let mut u = plain(0);
     let mut i = 0;
     while i < s.len() {
-        u = step(u, s[i]);
+        u = char_step(u, s[i]);
         i += 1;
     }
     u.more == 0

@@ -1,4 +1,4 @@
--- The parts before and behind the first space are read; without a space the second number lacks.
+-- The parts before and after the first space are read; without a space the second number lacks.
 use mathlib.Core.Path.{sym, _∙_}
 use native.Mathlib.Omega.{arith}
 use lib.Seq.{length-take-le}
@@ -12,8 +12,8 @@ returns c =
     let a = c .before .before .before .args in
     numbers-lack (a .mode) (a .rest .now) (omega (arith, c .before .index-of .ensures, c .if1 .taken))
 
-slice-aggregate-number : tie.Need-slice-aggregate-number
-slice-aggregate-number c = sym (length-take-le _ _ (omega (arith, c .before .if1 .left)))
+slice-aggregate-number-spelt : tie.Need-slice-aggregate-number-spelt
+slice-aggregate-number-spelt c = sym (length-take-le _ _ (omega (arith, c .before .if1 .left)))
 
 returns-2 : tie.Need-returns-2
 returns-2 c =
@@ -21,7 +21,7 @@ returns-2 c =
     let e = d .before .before .before in
     let a = e .before .before .args in
     c .both .ensures
-    ∙ numbers-are (a .mode) (a .rest .now) (e .index-of .ensures) (d .number .ensures) (c .before .number2 .ensures)
+    ∙ numbers-are (a .mode) (a .rest .now) (e .index-of .ensures) (d .number-spelt .ensures) (c .before .number-spelt2 .ensures)
 
 pub numbers-spec : {M : Type 1} → statement M
 numbers-spec =
@@ -30,7 +30,7 @@ numbers-spec =
     (λ c κs. search needs)
     returns
     (λ c. search needs)
-    slice-aggregate-number
+    slice-aggregate-number-spelt
     (λ c κs. search needs)
     (λ c. search needs)
     (λ c. search needs)

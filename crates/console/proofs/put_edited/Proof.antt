@@ -28,9 +28,9 @@ returns c =
     let w₄ = wrote-then h (wrote-then h w₂ (between .put-byte .ensures)) (growth .put-difference .ensures) in
     let w₆ = wrote-then h (wrote-then h w₄ (space .put-byte2 .ensures)) (count .put-decimal2 .ensures) in
     line-written long
-    (seven-parts (ascii "ok ") (decimal (a .length)) (ascii " ") (difference (a .length) (a .kept)) (ascii " ") (decimal (a .count))
+    (seven-parts (ascii "ok ") (decimal (a .size)) (ascii " ") (difference (a .size) (a .kept)) (ascii " ") (decimal (a .count))
     (ascii "\n"))
-    (edited-most (a .length) (a .kept) (a .count)) (wrote-then h w₆ (c .put-byte3 .ensures))
+    (edited-most (a .size) (a .kept) (a .count)) (wrote-then h w₆ (c .put-byte3 .ensures))
 
 pub put-edited-spec : {M : Type 1} → statement M
 put-edited-spec =

@@ -1,74 +1,97 @@
--- Past the tests of lengths the file is `RulesTrailed`, and the loops decide (`checked-unfit`), fill the offsets (`begun-fit`) and the table (`checked-fit`).
-use Rattle.mitex_spec.proofs.RuleFile.{RulesTrailed}
+-- Past the test of the trailer the file is `Trailed`, and the loops decide (`checked-unfit`), fill the offsets (`begun-fit`) and the
+-- table (`checked-fit`).
+use mathlib.Core.Path.{sym, _∙_}
+use mathlib.Core.List.{List}
+use Prim.Native.Nat.{ℕ, _-_, _≤_}
 use native.Mathlib.Omega.{arith}
-use mathlib.Core.Path.{sym}
-use borrow.Author.Tests.{not-true, not-false}
-use lib.Seq.{length-take-le}
-use Rattle.mitex_spec.proofs.Index.{Begun, checked-broken, checked-unfit, begun-fit, begun-numbered, checked-fit}
 use borrow.Author.Needs.{needs}
+use borrow.Author.Tests.{not-true, not-false}
+use lib.ListN.{length}
+use Rattle.text.specs.Numbers.{Bytes}
+use Rattle.text.proofs.Trailer.{Trailed, trailed-says, start-inside, part-text, part-many}
+use Rattle.mitex_spec.proofs.Index.{Begun, checked-broken, checked-unfit, begun-fit, begun-numbered, checked-fit}
 use Rattle.mitex_spec.proofs.check_rules.Statement.{statement}
 use Rattle.mitex_spec.proofs.check_rules.Tie as tie
 
-abbrev entry : tie.Else3 → tie.Start
-entry c = let a = c .before .before .before .before in a .before .before .before
+abbrev entry : tie.Else1 → tie.Start
+entry c = c .before .before .before .before
 
--- past the three tests of lengths
-whole : (c : tie.Else3) → RulesTrailed (entry c .args .file .now)
-whole c =
-    let s = c .before .before .start-of .ensures .0 in
-    let n = c .before .count-of .ensures .0 in
-    let e = c .if3 .left in
-    record { low = c .before .before .before .before .if1 .left; most = c .before .before .before .if2 .left; sum = omega arith }
+abbrev fileAt : tie.Else1 → List ℕ
+fileAt c = entry c .args .file .now
 
-abbrev tests : tie.After-fill-index → tie.Else3
-tests c = let fit = c .before .before .before .before in fit .before .before .before
+whole : (c : tie.Else1) → Trailed (fileAt c)
+whole c = trailed-says (fileAt c) (sym (c .before .trailed .ensures) ∙ not-false _ (c .if1 .left))
 
--- past the loop that fills the offsets
-begun : (c : tie.After-fill-index) → Begun (entry (tests c) .args .file .now) (entry (tests c) .args .index .now) (c .fill-index .last .1 .0)
+bytes : (c : tie.Else1) → Bytes (fileAt c)
+bytes c i = omega (arith, c .before .before .before .shared-slice-known .given i)
+
+-- where the rows start
+inside : (c : tie.After-start-of) → c .start-of .result ≤ length (fileAt (c .before)) - 8
+inside c = start-inside (fileAt (c .before)) (whole (c .before)) (c .start-of .result) (c .start-of .ensures .0)
+
+abbrev found : tie.Else2 → tie.After-start-of
+found c = c .before .before .before .before
+
+-- the offsets were filled in
+begun : (c : tie.After-fill-index) → let past = found (c .before .before .before) .before in
+    Begun (fileAt past) (entry past .args .index .now) (c .fill-index .last .1 .0)
 begun c =
-    let else4 = c .before .before .before in
-    let fit = else4 .before .rules-fit in
-    let start = tests c .before .before .start-of in
-    let known = tests c .before .before .before .before .before .before .shared-slice-known .given in
-    begun-fit (entry (tests c) .args .file .now) (whole (tests c)) (start .result) (start .ensures .0) (entry (tests c) .args .index .now) _ (fit .result) (λ i. omega (arith, known i)) (fit .ensures) (not-false _ (else4 .if4 .left)) (c .fill-index .ensures)
+    let fits = c .before .before .before in
+    let at = found fits in
+    let past = at .before in
+    begun-fit (fileAt past) (whole past) (at .start-of .result) (at .start-of .ensures .0) (entry past .args .index .now) _
+    (fits .before .rules-fit .result) (bytes past) (fits .before .rules-fit .ensures) (not-false _ (fits .if2 .left)) (c .fill-index .ensures)
 
 returns : tie.Need-returns
-returns c = checked-broken (c .before .before .before .args .file .now) (c .before .before .before .args .index .now) (λ w. omega (arith, w .low, c .if1 .taken))
+returns c =
+    let start = c .before .before .before .before in
+    checked-broken (start .args .file .now) (start .args .index .now) (sym (c .before .trailed .ensures) ∙ not-true _ (c .if1 .taken))
 
-returns-2 : tie.Need-returns-2
-returns-2 c =
-    let c₁ = c .before .before .before .before in
-    checked-broken (c₁ .args .file .now) (c₁ .args .index .now) (λ w. omega (arith, w .most, c .if2 .taken))
+start-of-requires : tie.Need-start-of-requires
+start-of-requires c κs = whole c .long
 
-returns-3 : tie.Need-returns-3
-returns-3 c =
-    let c₁ = c .before in
-    let c₂ = c₁ .before in
-    let c₃ = c₂ .before .before .before .before .before in
-    checked-broken (c₃ .args .file .now) (c₃ .args .index .now) (λ w. c .if3 .taken (let s = c₂ .start-of .ensures .0 in let n = c₁ .count-of .ensures .0 in let e = w .sum in omega arith))
+sub-end : tie.Need-sub-end
+sub-end c = whole (c .before) .long
+
+sub-rules-fit : tie.Need-sub-rules-fit
+sub-rules-fit c = inside c
+
+part-rules-fit-start : tie.Need-part-rules-fit-start
+part-rules-fit-start c = inside c
 
 slice-aggregate-rules-fit : tie.Need-slice-aggregate-rules-fit
 slice-aggregate-rules-fit c =
-    let c₁ = c .before .before in
-    let c₂ = c₁ .before .before in
-    let w = whole c₁ in let e = w .sum in let s = c₂ .start-of .ensures .0 in sym (length-take-le _ _ (omega arith))
+    let at = c .before .before in
+    sym (part-text (fileAt (at .before)) (whole (at .before)) (at .start-of .result) (at .start-of .ensures .0))
 
-returns-4 : tie.Need-returns-4
-returns-4 c =
-    let c₁ = c .before in
-    let c₂ = c₁ .before .before .before in
-    let c₃ = c₂ .before .before in
-    let c₄ = c₃ .before .before .before .before .before in
-    checked-unfit (c₄ .args .file .now) (whole c₂) (c₃ .start-of .result) (c₃ .start-of .ensures .0) (c₄ .args .index .now) (c₁ .rules-fit .result) (c₁ .rules-fit .ensures) (not-true _ (c .if4 .taken))
+returns-2 : tie.Need-returns-2
+returns-2 c =
+    let fit = c .before in
+    let at = fit .before .before .before in
+    let past = at .before in
+    checked-unfit (fileAt past) (whole past) (at .start-of .result) (at .start-of .ensures .0) (entry past .args .index .now)
+    (fit .rules-fit .result) (fit .rules-fit .ensures) (not-true _ (c .if2 .taken))
+
+sub-fill-index : tie.Need-sub-fill-index
+sub-fill-index c = inside (found c)
+
+part-fill-index-start : tie.Need-part-fill-index-start
+part-fill-index-start c = inside (found c)
+
+fill-index-requires : tie.Need-fill-index-requires
+fill-index-requires c κs =
+    let at = found (c .before .before) in
+    let w = whole (at .before) in
+    omega (arith, part-many (fileAt (at .before)) w (at .start-of .result) (at .start-of .ensures .0), w .sum, w .short)
 
 fill-firsts-requires : tie.Need-fill-firsts-requires
 fill-firsts-requires c κs =
     let filled = c .before .before .before in
-    let known = tests filled .before .before .before .before .before .before .shared-slice-known .given in
-    begun-numbered (begun filled) (λ i. omega (arith, known i)) (entry (tests filled) .pre)
+    let past = found (filled .before .before .before) .before in
+    begun-numbered (begun filled) (bytes past) (entry past .pre)
 
-returns-5 : tie.Need-returns-5
-returns-5 c =
+returns-3 : tie.Need-returns-3
+returns-3 c =
     let table = c .before .before in
     checked-fit (begun (table .before .before .before .before)) (table .fill-firsts .ensures)
 
@@ -76,25 +99,20 @@ pub check-rules-spec : {M : Type 1} → statement M
 check-rules-spec =
     tie.close
     (tie.spec
+    (λ c κs. search needs)
     returns
-    returns-2
-    (λ c κs. search needs)
-    (λ c κs. search needs)
-    (λ c. search needs)
-    (λ c. search needs)
-    (λ c. search needs)
-    returns-3
-    (λ c. search needs)
-    (λ c. search needs)
-    (λ c. search needs)
+    start-of-requires
+    sub-end
+    sub-rules-fit
+    part-rules-fit-start
     (λ c. search needs)
     slice-aggregate-rules-fit
     (λ c κs. search needs)
-    returns-4
+    returns-2
+    sub-fill-index
+    part-fill-index-start
     (λ c. search needs)
-    (λ c. search needs)
-    (λ c. search needs)
-    (λ c κs. search needs)
+    fill-index-requires
     fill-firsts-requires
     (λ c. search needs)
-    returns-5)
+    returns-3)

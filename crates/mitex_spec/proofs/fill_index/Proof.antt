@@ -17,8 +17,8 @@ abbrev μ-loop : tie.MeasureT-loop
 loop-holds : tie.Need-loop-holds Inv-loop μ-loop
 loop-holds c = (omega arith, omega arith, refl, λ n e. filled-start n _ _ e)
 
-taken-requires : tie.Need-taken-requires Inv-loop μ-loop
-taken-requires c κs =
+rule-taken-requires : tie.Need-rule-taken-requires Inv-loop μ-loop
+rule-taken-requires c κs =
     let c₁ = c .before .before .before .before in
     c₁ .loop-test .taken
 
@@ -36,9 +36,13 @@ loop-again c =
     let c₄ = c₃ .before in
     let loop = c₄ .loop in
     let store = c₂ .store in
-    let taken = c₁ .taken in
-    let n = rest-length (loop .l .now) 8 in
-    (omega arith, omega arith, ap length (store .ensures) ∙ length-set (loop .index) (loop .k) (loop .at) ∙ loop .inv .2, λ n e. filled-next (loop .inv .3 n e) _ (taken .result) (c₃ .loop-test .taken) (store .ensures) (taken .ensures .0))
+    let taken = c₁ .rule-taken in
+    let n = rest-length (loop .l .now) 8 in (
+      omega arith,
+      omega arith,
+      ap length (store .ensures) ∙ length-set (loop .index) (loop .k) (loop .at) ∙ loop .inv .2,
+      λ n e. filled-next (loop .inv .3 n e) _ (taken .result) (c₃ .loop-test .taken) (store .ensures) (taken .ensures .0),
+    )
 
 same-length : tie.Need-same-length Inv-loop μ-loop
 same-length c = c .before .loop .inv .2
@@ -54,7 +58,7 @@ fill-index-spec =
     μ-loop
     loop-holds
     (λ c κs. omega arith)
-    taken-requires
+    rule-taken-requires
     (λ c. omega arith)
     (λ c. omega arith)
     (λ c. omega arith)

@@ -38,7 +38,7 @@ first : (c : tie.After-first-byte Inv-loop μ-loop) (rs : List Rule) → Rules (
 first c rs e = c .first-byte .ensures .0 ∙ ap firstOf (c .before .name-at .ensures rs e)
 
 count-of-requires : tie.Need-count-of-requires Inv-loop μ-loop
-count-of-requires c κs = rules-tested _ _ (c .before .before .pre .0 .decodes) .low
+count-of-requires c κs = rules-tested _ _ (c .before .before .pre .0 .decodes) .long
 
 loop-holds : tie.Need-loop-holds Inv-loop μ-loop
 loop-holds c = c .before .before .before .pre .1

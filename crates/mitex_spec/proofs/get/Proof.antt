@@ -26,7 +26,7 @@ few c =
 count-of-requires : tie.Need-count-of-requires
 count-of-requires c κs =
     let c₁ = c .before .before .before .before in
-    rules-tested _ _ (c₁ .pre .ready .decodes) .low
+    rules-tested _ _ (c₁ .pre .ready .decodes) .long
 
 returns : tie.Need-returns
 returns c =

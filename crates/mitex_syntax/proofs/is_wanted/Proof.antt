@@ -1,12 +1,11 @@
 -- `is_wanted`: each wish is its test (`picks`).
 use Prim.Native.Nat.{_≤_}
 use lib.ListN.{length}
-use mathlib.Core.Bool.{not}
 use mathlib.Core.Path.{sym, ap, _∙_}
 use native.Mathlib.Omega.{arith}
 use Rattle.mitex_syntax.specs.Places.{picks}
 use Rattle.mitex_syntax.specs.declared.Wanted.{Wanted}
-use Rattle.mitex_syntax.proofs.Seeking.{rows-eight, wanted-kind, wanted-node, wanted-any-other, wanted-solid}
+use Rattle.mitex_syntax.proofs.Seeking.{rows-eight, wanted-kind, wanted-any-other}
 use borrow.Author.Needs.{needs}
 use Rattle.mitex_syntax.proofs.is_wanted.Statement.{statement}
 use Rattle.mitex_syntax.proofs.is_wanted.Tie as tie
@@ -18,29 +17,16 @@ shared-slice-read-result : tie.Need-shared-slice-read-result
 shared-slice-read-result c = omega (arith, eight (c .before .before .before .before .before))
 
 shared-slice-read-result-2 : tie.Need-shared-slice-read-result-2
-shared-slice-read-result-2 c = omega (arith, eight (c .before .before .before .before))
-
-shared-slice-read-result-3 : tie.Need-shared-slice-read-result-3
-shared-slice-read-result-3 c = omega (arith, eight (c .before .before .before .before .before))
-
-shared-slice-read-is-trivia : tie.Need-shared-slice-read-is-trivia
-shared-slice-read-is-trivia c = omega (arith, eight (c .before .before .before .before))
+shared-slice-read-result-2 c = omega (arith, eight (c .before .before .before .before .before))
 
 returns : tie.Need-returns
 returns c = λ t e. wanted-kind t _ e _ ∙ ap (λ (w : Wanted). picks w t) (sym (c .before .before .wanted .given .1))
 
 returns-2 : tie.Need-returns-2
-returns-2 c = λ t e. wanted-node t _ e ∙ ap (λ (w : Wanted). picks w t) (sym (c .before .enum-told .given .1))
+returns-2 c = λ t e. c .is-argument-with .ensures t e ∙ ap (λ (w : Wanted). picks w t) (sym (c .before .before .wanted2 .given .1))
 
 returns-3 : tie.Need-returns-3
-returns-3 c = λ t e. c .is-argument-with .ensures t e ∙ ap (λ (w : Wanted). picks w t) (sym (c .before .before .wanted2 .given .1))
-
-returns-4 : tie.Need-returns-4
-returns-4 c = λ t e. wanted-any-other t _ e _ ∙ ap (λ (w : Wanted). picks w t) (sym (c .before .before .wanted3 .given .1))
-
-returns-5 : tie.Need-returns-5
-returns-5 c =
-    λ t e. ap not (c .is-trivia .ensures) ∙ wanted-solid t _ e ∙ ap (λ (w : Wanted). picks w t) (sym (c .before .before .enum-told2 .given .1))
+returns-3 c = λ t e. wanted-any-other t _ e _ ∙ ap (λ (w : Wanted). picks w t) (sym (c .before .before .wanted3 .given .1))
 
 pub is-wanted-spec : {M : Type 1} → statement M
 is-wanted-spec =
@@ -49,16 +35,9 @@ is-wanted-spec =
     (λ c. search needs)
     shared-slice-read-result
     (λ c. search needs)
+    (λ c κs. search needs)
+    (λ c. search needs)
     shared-slice-read-result-2
-    (λ c. search needs)
-    (λ c κs. search needs)
-    (λ c. search needs)
-    shared-slice-read-result-3
-    (λ c. search needs)
-    shared-slice-read-is-trivia
-    (λ c κs. search needs)
     returns
     returns-2
-    returns-3
-    returns-4
-    returns-5)
+    returns-3)

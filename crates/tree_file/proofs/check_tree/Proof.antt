@@ -1,81 +1,72 @@
 -- The trailer decides, then the areas that it points at.
 use borrow.Author.Needs.{needs}
+use borrow.Author.Tests.{not-true, not-false}
 use native.Mathlib.Omega.{arith}
-use mathlib.Core.Path.{_≡_, sym}
+use mathlib.Core.Path.{sym, _∙_}
 use mathlib.Core.List.{List}
-use lib.ListN.{length, take, drop}
-use Prim.Native.Nat.{ℕ, _*_, _-_}
-use Rattle.tree_file.proofs.Answers.{check-not, check-unequal, rows-long, text-long, check-is}
+use lib.ListN.{length}
+use Prim.Native.Nat.{ℕ, _-_, _≤_}
+use Rattle.text.specs.Trailer.{countOf}
+use Rattle.text.proofs.Trailer.{Trailed, trailed-says, start-inside, part-text, part-many}
+use Rattle.tree_file.proofs.Answers.{check-not, check-is}
 use Rattle.tree_file.proofs.check_tree.Statement.{statement}
 use Rattle.tree_file.proofs.check_tree.Tie as tie
 
-abbrev file : (c : tie.After-read-u322) → List ℕ
-file c = c .before .before .before .before .before .args .file .now
+abbrev fileAt : tie.Else1 → List ℕ
+fileAt c = c .before .before .before .args .file .now
 
-abbrev numbers : (c : tie.Else3) → tie.After-read-u322
-numbers c = c .before
+whole : (c : tie.Else1) → Trailed (fileAt c)
+whole c = trailed-says (fileAt c) (sym (c .before .trailed .ensures) ∙ not-false _ (c .if1 .left))
 
--- how long the areas are
-rows-here : (c : tie.Else3) → length (take (length (file (numbers c)) - 8 - numbers c .before .read-u32 .result) (drop (numbers c .before .read-u32 .result) (file (numbers c)))) ≡ 8 * numbers c .read-u322 .result
-rows-here c =
-    let at = numbers c in
-    let start = at .before in
-    rows-long (file at) (start .read-u32 .result) (at .read-u322 .result) (start .read-u32 .ensures .0) (at .read-u322 .ensures .0)
-    (start .before .before .if1 .left) (start .before .if2 .left) (c .if3 .left)
-
-text-here : (c : tie.Else3) → length (take (numbers c .before .read-u32 .result) (file (numbers c))) ≡ numbers c .before .read-u32 .result
-text-here c =
-    let at = numbers c in
-    let start = at .before in
-    text-long (file at) (start .read-u32 .result) (at .read-u322 .result) (start .read-u32 .ensures .0) (at .read-u322 .ensures .0)
-    (start .before .before .if1 .left) (start .before .if2 .left) (c .if3 .left)
+inside : (c : tie.After-start-of) → c .start-of .result ≤ length (fileAt (c .before)) - 8
+inside c = start-inside (fileAt (c .before)) (whole (c .before)) (c .start-of .result) (c .start-of .ensures .0)
 
 returns : tie.Need-returns
-returns c = check-not (c .before .before .args .file .now) (λ h. omega (arith, h .long, c .if1 .taken))
+returns c = check-not (c .before .before .before .args .file .now) (sym (c .before .trailed .ensures) ∙ not-true _ (c .if1 .taken))
 
-returns-2 : tie.Need-returns-2
-returns-2 c = check-not (c .before .before .before .args .file .now) (λ h. omega (arith, h .short, c .if2 .taken))
+start-of-requires : tie.Need-start-of-requires
+start-of-requires c κs = whole c .long
 
-returns-3 : tie.Need-returns-3
-returns-3 c =
-    let at = c .before in
-    check-unequal (file at) (at .before .read-u32 .result) (at .read-u322 .result) (at .before .read-u32 .ensures .0) (at .read-u322 .ensures .0) (c .if3 .taken)
+sub-end : tie.Need-sub-end
+sub-end c = whole (c .before) .long
+
+sub-check-areas : tie.Need-sub-check-areas
+sub-check-areas c = inside c
+
+part-check-areas-start : tie.Need-part-check-areas-start
+part-check-areas-start c = inside c
 
 slice-aggregate-check-areas : tie.Need-slice-aggregate-check-areas
-slice-aggregate-check-areas c = let here = c .before .before in sym (text-here here)
+slice-aggregate-check-areas c =
+    let at = c .before .before in
+    sym (part-text (fileAt (at .before)) (whole (at .before)) (at .start-of .result) (at .start-of .ensures .0))
 
 check-areas-requires : tie.Need-check-areas-requires
 check-areas-requires c κs =
-    let here = c .before .before in
-    let rows = rows-here here in
-    let text = text-here here in
-    let low = numbers here .before .before .if2 .left in
-    record { many = numbers here .read-u322 .result; so-many = rows; few = omega (arith, low, here .if3 .left); short = omega (arith, low, here .if3 .left) }
+    let at = c .before .before in
+    let file = fileAt (at .before) in
+    let w = whole (at .before) in
+    let rows = part-many file w (at .start-of .result) (at .start-of .ensures .0) in
+    let text = part-text file w (at .start-of .result) (at .start-of .ensures .0) in
+    let low = inside at in
+    record { many = countOf file; so-many = rows; few = omega (arith, w .short, w .sum); short = omega (arith, w .short) }
 
-returns-4 : tie.Need-returns-4
-returns-4 c =
-    let here = c .before .before .before in
-    let at = numbers here in
-    let start = at .before in
-    check-is (file at) (start .read-u32 .result) (at .read-u322 .result) (start .read-u32 .ensures .0) (at .read-u322 .ensures .0)
-    (start .before .before .if1 .left) (start .before .if2 .left) (here .if3 .left) (c .check-areas .result) (c .check-areas .ensures)
+returns-2 : tie.Need-returns-2
+returns-2 c =
+    let at = c .before .before .before in
+    check-is (fileAt (at .before)) (whole (at .before)) (at .start-of .result) (at .start-of .ensures .0) (c .check-areas .result) (c .check-areas .ensures)
 
 pub check-tree-spec : {M : Type 1} → statement M
 check-tree-spec =
     tie.close
     (tie.spec
+    (λ c κs. search needs)
     returns
-    returns-2
-    (λ c κs. search needs)
-    (λ c. search needs)
-    (λ c κs. search needs)
-    (λ c. search needs)
-    (λ c. search needs)
-    (λ c. search needs)
-    returns-3
-    (λ c. search needs)
-    (λ c. search needs)
+    start-of-requires
+    sub-end
+    sub-check-areas
+    part-check-areas-start
     (λ c. search needs)
     slice-aggregate-check-areas
     check-areas-requires
-    returns-4)
+    returns-2)

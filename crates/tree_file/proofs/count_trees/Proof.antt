@@ -5,7 +5,7 @@ use Prim.Native.Nat.{_+_, _*_, _≤_}
 use lib.ListN.{length}
 use Rattle.text.proofs.Writing.{rest-length}
 use Rattle.mitex_syntax.specs.Tree.{Forest, rowsOfs}
-use Rattle.tree_file.specs.Layout.{fileMost}
+use Rattle.text.specs.Trailer.{fileMost}
 use Rattle.tree_file.proofs.Roots.{Trees, Tree-at, trees-start, trees-at, trees-end}
 use Rattle.tree_file.proofs.count_trees.Statement.{statement}
 use Rattle.tree_file.proofs.count_trees.Tie as tie

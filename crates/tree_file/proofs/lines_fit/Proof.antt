@@ -20,11 +20,11 @@ abbrev μ-loop : tie.MeasureT-loop
 μ-loop rows text plain l₀ t₀ l t = length l
 
 -- a row takes no more text than there is
-room : (c : tie.After-taken Inv-loop μ-loop) → c .taken .result ≤ length (c .before .before .before .before .before .loop .t .now)
+room : (c : tie.After-row-taken Inv-loop μ-loop) → c .row-taken .result ≤ length (c .before .before .before .before .before .loop .t .now)
 room c =
     let row = c .before .before .before in
     let h = taken-room (row .before .before .loop .l .now) (row .before .before .loop .t .now) (row .row-at .result) (row .row-at .ensures) in
-    omega (arith, c .taken .ensures)
+    omega (arith, c .row-taken .ensures)
 
 loop-holds : tie.Need-loop-holds Inv-loop μ-loop
 loop-holds c = (λ e. sym (c .one-byte-each .ensures) ∙ e, λ n e. left-start n _ _ e)
@@ -50,10 +50,10 @@ loop-again c =
     let now = c .before .before in
     let row = now .before .before .before in
     let at = row .before .before .loop in (
-      λ e. ap oneByteEach (part-rest (at .t .now) (now .taken .result)) ∙ one-drop (now .taken .result) (at .t .now) (at .inv .0 e),
+      λ e. ap oneByteEach (part-rest (at .t .now) (now .row-taken .result)) ∙ one-drop (now .row-taken .result) (at .t .now) (at .inv .0 e),
       λ n e.
           left-next (at .inv .1 n e) (row .before .loop-test .taken) (row .row-at .result) (row .row-at .ensures)
-          (sym (now .before .before .is-bad .ensures) ∙ now .before .if1 .left) (now .taken .result) (now .taken .ensures),
+          (sym (now .before .before .is-bad .ensures) ∙ now .before .if1 .left) (now .row-taken .result) (now .row-taken .ensures),
     )
 
 returns-2 : tie.Need-returns-2 Inv-loop μ-loop

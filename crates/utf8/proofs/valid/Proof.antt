@@ -1,19 +1,20 @@
--- One-byte characters are valid text. Otherwise, the invariant: the run over what is left, from the present state, ends as the run over the whole.
+-- One-byte characters are valid text. Otherwise, the invariant: what is left leads from the present state to where the whole text
+-- leads from its start.
 use mathlib.Core.Path.{_≡_, ap, sym, _∙_}
 use Prim.Native.Nat.{_≤_, _-_}
 use native.Mathlib.Omega.{arith}
 use borrow.Author.Needs.{needs}
 use lib.ListN.{length, drop}
 use lib.Dec.{eqb}
-use Rattle.utf8.specs.Utf8.{whole, run, valid}
+use Rattle.utf8.specs.Utf8.{whole, charSteps, valid}
 use Rattle.utf8.specs.declared.State.{State}
-use Rattle.utf8.proofs.Run.{run-cons, run-end}
+use Rattle.utf8.proofs.Steps.{steps-cons, steps-end}
 use Rattle.utf8.proofs.Texts.{one-valid}
 use Rattle.utf8.proofs.valid.Statement.{statement}
 use Rattle.utf8.proofs.valid.Tie as tie
 
 abbrev Inv-loop : tie.InvT-loop
-Inv-loop s u₀ i₀ u i = (i ≤ length s) × (run u (drop i s) ≡ run whole s)
+Inv-loop s u₀ i₀ u i = (i ≤ length s) × (charSteps u (drop i s) ≡ charSteps whole s)
 
 abbrev μ-loop : tie.MeasureT-loop
 μ-loop s u₀ i₀ u i = length s - i
@@ -30,13 +31,13 @@ loop-again c =
     let head = turn .before in
     let start = head .before .before .before .before .before in
     let at = head .loop in
-    (omega arith, rw (c .step .ensures, ← run-cons (at .u) (start .args .s .now) (at .i) (turn .loop-test .taken)) (at .inv .1))
+    (omega arith, rw (c .char-step .ensures, ← steps-cons (at .u) (start .args .s .now) (at .i) (turn .loop-test .taken)) (at .inv .1))
 
 returns-2 : tie.Need-returns-2 Inv-loop μ-loop
 unfolding valid
 returns-2 c =
     let at = c .before .before in
-    ap (λ (u : State). eqb (u .more) 0) (sym (run-end (at .loop .u) (at .before .before .before .before .before .args .s .now) (at .loop .i) (c .before .loop-test .left)) ∙ at .loop .inv .1)
+    ap (λ (u : State). eqb (u .more) 0) (sym (steps-end (at .loop .u) (at .before .before .before .before .before .args .s .now) (at .loop .i) (c .before .loop-test .left)) ∙ at .loop .inv .1)
 
 pub valid-spec : {M : Type 1} → statement M
 valid-spec =

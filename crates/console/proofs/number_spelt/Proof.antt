@@ -6,8 +6,8 @@ use borrow.Author.Tests.{not-true, not-false}
 use lib.ListN.{length, drop}
 use Rattle.console.specs.Request.{numberFrom, numberSpelt}
 use Rattle.console.proofs.Digits.{number-empty, number-starts, number-next, number-stops, number-ends}
-use Rattle.console.proofs.number.Statement.{statement}
-use Rattle.console.proofs.number.Tie as tie
+use Rattle.console.proofs.number_spelt.Statement.{statement}
+use Rattle.console.proofs.number_spelt.Tie as tie
 
 abbrev Inv-loop : tie.InvT-loop
 Inv-loop digits n₀ i₀ n i = (i ≤ length digits) × (numberSpelt digits ≡ numberFrom n (drop i digits))
@@ -45,8 +45,8 @@ loop-again c =
 returns-3 : tie.Need-returns-3 Inv-loop μ-loop
 returns-3 c = number-ends _ _ _ (c .loop-test .left) (c .before .loop .inv .1)
 
-pub number-spec : {M : Type 1} → statement M
-number-spec =
+pub number-spelt-spec : {M : Type 1} → statement M
+number-spelt-spec =
     tie.close
     (tie.spec
     Inv-loop

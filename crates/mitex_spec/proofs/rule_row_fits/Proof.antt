@@ -9,8 +9,8 @@ use borrow.Author.Tests.{not-true, not-false}
 use lib.Seq.{length-take-le}
 use Rattle.mitex_spec.proofs.Checking.{row-not, row-alias, row-plain}
 use borrow.Author.Needs.{needs}
-use Rattle.mitex_spec.proofs.row_fits.Statement.{statement}
-use Rattle.mitex_spec.proofs.row_fits.Tie as tie
+use Rattle.mitex_spec.proofs.rule_row_fits.Statement.{statement}
+use Rattle.mitex_spec.proofs.rule_row_fits.Tie as tie
 
 returns : tie.Need-returns
 returns c =
@@ -22,7 +22,7 @@ returns-2 : tie.Need-returns-2
 returns-2 c =
     let c₁ = c .before in
     let c₂ = c₁ .before .before .before .before .before in
-    row-not (c₂ .args .rows .now) (c₂ .args .text .now) (λ f. omega (arith, f .room, c₁ .taken .ensures .0, c .if2 .taken))
+    row-not (c₂ .args .rows .now) (c₂ .args .text .now) (λ f. omega (arith, f .room, c₁ .rule-taken .ensures .0, c .if2 .taken))
 
 returns-3 : tie.Need-returns-3
 returns-3 c =
@@ -38,14 +38,14 @@ returns-4 c =
     let c₄ = c₃ .before in
     let c₅ = c₄ .before in
     let c₆ = c₅ .before .before .before in
-    row-plain (c₆ .args .rows .now) (c₆ .args .text .now) (sym (c₅ .padded .ensures) ∙ not-false _ (c₄ .if1 .left)) (omega (arith, c₃ .taken .ensures .0, c₂ .if2 .left)) (c₁ .if3 .left) (c₆ .pre .1 (c .if4 .taken))
+    row-plain (c₆ .args .rows .now) (c₆ .args .text .now) (sym (c₅ .padded .ensures) ∙ not-false _ (c₄ .if1 .left)) (omega (arith, c₃ .rule-taken .ensures .0, c₂ .if2 .left)) (c₁ .if3 .left) (c₆ .pre .1 (c .if4 .taken))
 
 slice-aggregate-valid : tie.Need-slice-aggregate-valid
 slice-aggregate-valid c =
     let c₁ = c .before in
     let c₂ = c₁ .before .before .before .before in
     let c₃ = c₂ .before in
-    sym (length-take-le _ _ (omega (arith, c₁ .read-u16 .ensures .0, c₃ .taken .ensures .0, c₂ .if2 .left)))
+    sym (length-take-le _ _ (omega (arith, c₁ .read-u16 .ensures .0, c₃ .rule-taken .ensures .0, c₂ .if2 .left)))
 
 returns-5 : tie.Need-returns-5
 returns-5 c =
@@ -66,10 +66,10 @@ returns-6 c =
     let c₇ = c₆ .before in
     let c₈ = c₇ .before in
     let c₉ = c₈ .before .before .before in
-    c .valid2 .ensures ∙ row-alias (c₉ .args .rows .now) (c₉ .args .text .now) (c₃ .read-u16 .result) (c₆ .taken .result) (sym (c₈ .padded .ensures) ∙ not-false _ (c₇ .if1 .left)) (c₆ .taken .ensures .0) (c₅ .if2 .left) (c₄ .if3 .left) (c₃ .read-u16 .ensures .0) (sym (c₂ .valid .ensures) ∙ not-false _ (c₁ .if5 .left))
+    c .valid2 .ensures ∙ row-alias (c₉ .args .rows .now) (c₉ .args .text .now) (c₃ .read-u16 .result) (c₆ .rule-taken .result) (sym (c₈ .padded .ensures) ∙ not-false _ (c₇ .if1 .left)) (c₆ .rule-taken .ensures .0) (c₅ .if2 .left) (c₄ .if3 .left) (c₃ .read-u16 .ensures .0) (sym (c₂ .valid .ensures) ∙ not-false _ (c₁ .if5 .left))
 
-pub row-fits-spec : {M : Type 1} → statement M
-row-fits-spec =
+pub rule-row-fits-spec : {M : Type 1} → statement M
+rule-row-fits-spec =
     tie.close
     (tie.spec
     (λ c κs. search needs)

@@ -1,11 +1,11 @@
 -- Between characters a byte begins one; within one it has to lie between the bounds.
 use borrow.Author.Needs.{needs}
 use borrow.Author.Tests.{eq-eqb, ne-eqb, le-leb, lt-leb}
-use Rattle.utf8.proofs.step.Statement.{statement}
-use Rattle.utf8.proofs.step.Tie as tie
+use Rattle.utf8.proofs.char_step.Statement.{statement}
+use Rattle.utf8.proofs.char_step.Tie as tie
 
 returns : tie.Need-returns
-returns c = rw (eq-eqb _ _ (c .before .if1 .taken)) (c .begin .ensures)
+returns c = rw (eq-eqb _ _ (c .before .if1 .taken)) (c .char-begin .ensures)
 
 returns-2 : tie.Need-returns-2
 returns-2 c =
@@ -24,8 +24,8 @@ returns-4 c =
     let low = high .before .before in
     rw (ne-eqb _ _ (low .before .before .if1 .left), le-leb _ _ (low .if2 .left), le-leb _ _ (high .if3 .left)) (c .plain .ensures)
 
-pub step-spec : {M : Type 1} → statement M
-step-spec =
+pub char-step-spec : {M : Type 1} → statement M
+char-step-spec =
     tie.close
     (tie.spec
     (λ c κs. search needs)
