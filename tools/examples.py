@@ -23,6 +23,9 @@ TokenEndMath TokenComment ItemBlockComment TokenWhiteSpace TokenLineBreak TokenA
 TokenUnderscore TokenHash TokenAsterisk TokenAtSign TokenDitto TokenSemicolon TokenLParen TokenRParen TokenLBracket
 TokenRBracket TokenTilde TokenAmpersand ItemNewLine TokenCommandSym ItemCmd ItemEnv ItemTypstCode""".split()
 
+# the longest label in the cases, which the tables name
+LABEL_MOST = 120
+
 # the tables: a name, what it shows, and its cases
 TABLES = [
     ("Hand", "the cases tried by hand that concern conversion.", ["hand-00..11", "hand-14..15", "hand-18"]),
@@ -99,12 +102,20 @@ def listed(items):
 RUN = re.compile(rb"((?:[\x00-\x7f]|[\xc2-\xf4][\x80-\xbf]+?)(?![\x80-\xbf]))\1{19,}")
 
 
+def count(n, size):
+    """How often a part of so many bytes stands: a label that is as long as can be, or longer, is told by the most that can be held."""
+    most = "labelMost" if size == 1 else f"labelMost / {size}"
+    more = n - LABEL_MOST // size
+    return str(n) if more < 0 else paren(most) if more == 0 else f"({more} + {most})"
+
+
 def parts(s):
     """Bytes in parts: long runs of a character, text where it is ASCII, numbers elsewhere."""
     run = RUN.search(s)
     if run:
         unit = run[1]
-        return parts(s[: run.start()]) + [f"times {len(run[0]) // len(unit)} {paren(raw(unit))}"] + parts(s[run.end() :])
+        n = len(run[0]) // len(unit)
+        return parts(s[: run.start()]) + [f"times {count(n, len(unit))} {paren(raw(unit))}"] + parts(s[run.end() :])
     pieces = [p for p in re.split(rb"([\x20-\x7e\n]+)", s) if p]
     return ["ascii " + string(p) if readable(p) else listed([str(b) for b in p]) for p in pieces]
 
@@ -223,15 +234,55 @@ def answer(expected):
 # ---- the tables
 
 WIDTH = 120
+MOST = 180
 
 
-def folded(children):
-    """The trees of a root, one to a line where they are long."""
-    line = trees(children)
-    if len(line) <= WIDTH or len(children) < 2:
+def folded(line, width=MOST):
+    """A term in parentheses: in lines where it is long, broken before each `∷` and `++` of its own, and so on within these."""
+    if len(line) <= width or not line.startswith("("):
         return [line]
-    first, *others = [tree(c) for c in children]
-    return ["(", first] + ["∷ " + t for t in others] + ["∷ []", ")"]
+    pieces, depth, start, quoted, i = [], 0, 1, False, 1
+    while i < len(line) - 1:
+        c = line[i]
+        if quoted:
+            i += c == "\\"
+            quoted = c != '"'
+        elif c == '"':
+            quoted = True
+        elif c in "([":
+            depth += 1
+        elif c in ")]":
+            depth -= 1
+        elif depth == 0 and (c == "∷" or line.startswith("++", i)):
+            pieces.append(line[start:i].strip())
+            start = i
+        i += 1
+    pieces.append(line[start:-1].strip())
+    if len(pieces) == 1:
+        first, *others = opened(pieces[0])
+        return ["(" + first] + others[:-1] + [others[-1] + ")"] if others else [line]
+    if pieces[1:] == ["∷ []"] and len(line) <= MOST:
+        return [line]
+    if len(pieces) == 2 and pieces[1].startswith("++ ("):
+        first, *others = folded(pieces[1][3:])
+        rest = ["++ " + first] + others
+        return ["(" + pieces[0]] + rest[:-1] + [rest[-1] + ")"]
+    return ["("] + [more for piece in pieces for more in opened(piece)] + [")"]
+
+
+def opened(piece):
+    """A long piece: its last argument, in parentheses, is folded."""
+    if len(piece) <= MOST or not piece.endswith(")"):
+        return [piece]
+    at = [0] + [m.start() + 1 for m in re.finditer(r" \(", piece)]
+    for i in at[1:]:
+        quotes = len(re.findall(r'(?<!\\)"', piece[:i]))
+        inner = re.sub(r'"(\\.|[^"\\])*"', "", piece[i:])
+        depths = [inner[: k + 1].count("(") - inner[: k + 1].count(")") for k in range(len(inner))]
+        if quotes % 2 == 0 and 0 not in depths[:-1]:
+            first, *others = folded(piece[i:])
+            return [piece[:i] + first] + others
+    return [piece]
 
 
 def folders(vectors, spans):
@@ -249,18 +300,25 @@ def case(folder, usual, few):
     rules = read_rules((folder / "rules.bin").read_bytes())
     has_name = (folder / "name").exists()
     shows = (folder / "name").read_text().strip() if has_name else f"{len(root[1])} block" + "s" * (len(root[1]) > 1)
+    shows = shows.replace(str(LABEL_MOST + 1), "one byte more").replace(str(LABEL_MOST), "the most bytes")
     rules = rules_text(rules if has_name else named(rules, root), usual, few)
-    parts = [f"case {rules} {mode}"] + folded(root[1]) + [f"({answer((folder / 'expected').read_bytes())})"]
+    parts = [f"case {rules} {mode}", trees(root[1]), f"({answer((folder / 'expected').read_bytes())})"]
     line = " ".join(parts)
-    return shows, [line] if len(line) <= WIDTH else parts
+    if len(line) <= WIDTH:
+        return shows, [line]
+    first = ["case " + (rest := folded(rules))[0]] + rest[1:]
+    first[-1] += " " + mode
+    return shows, first + folded(parts[1], WIDTH) + folded(parts[2])
 
 
 # what a table may name: the module, and its names
 NAMES = [
     ("mathlib.Core.Option.Option", ["none as nothing", "some"]),
+    ("Prim.Native.Nat", ["_+_", "_/_"]),
     ("Rattle.text.specs.Ascii", ["ascii"]),
     ("Rattle.mitex_syntax.specs.Syntax", KINDS),
     ("Rattle.mitex_syntax.specs.Tree.Tree", ["token"]),
+    ("Rattle.mitex_meaning.specs.Outcome", ["labelMost"]),
     ("Rattle.mitex_meaning.specs.Examples", """Case case hold few usual rule ruleAs ruleBy writes over tok word name sym space break
         newline comment ampersand dollar times curly bracket arg braced bracketed cmd env""".split()),
     ("Rattle.mitex_meaning.specs.Examples.Answer", ["text", "refusal"]),
@@ -273,9 +331,13 @@ def uses(body):
     words = set(re.findall(r"[A-Za-z]+", code))
     lines = []
     for module, names in NAMES:
-        used = [n for n in names if n.split()[-1] in words]
-        if used:
-            lines.append(f"use {module}.{{{', '.join(used)}}}")
+        used = [n for n in names if n.split()[-1] in words or f" {n.strip('_')} " in code and n.startswith("_")]
+        while used:
+            n = len(used)
+            while len(line := f"use {module}.{{{', '.join(used[:n])}}}") > MOST:
+                n -= 1
+            lines.append(line)
+            used = used[n:]
     return lines
 
 

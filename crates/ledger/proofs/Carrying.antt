@@ -5,7 +5,7 @@ use mathlib.Core.List.{List}
 use Prim.Native.Nat.{ℕ}
 use Rattle.mitex_meaning.specs.Outcome.{Label, Carry}
 use Rattle.mitex_meaning.specs.Outcome.Label.{unheld, held}
-use Rattle.mitex_meaning.specs.State.{withFlag, withLabel, withoutLabel, labelledAs, withCarry}
+use Rattle.mitex_meaning.specs.State.{withFlag, withLabel, withoutLabel, withHeld, withCarry}
 use Rattle.mitex_meaning.specs.Keeping.{labelBytes}
 use Rattle.mitex_meaning.specs.declared.Converter.{Converter}
 use Rattle.ledger.specs.Ledger.{isHeld}
@@ -19,8 +19,8 @@ label-unheld unheld h = refl
 label-unheld (held a) h = absurd (true≢false h)
 
 module _ (c : Converter) {r s : Converter} (e : Carry) {f : Bool} (p : f ≡ e .flag) (x : r ≡ withFlag f c) where
-  then-label : {a : Label} → a ≡ e .label → s ≡ labelledAs a r → s ≡ withCarry e c
-  then-label q y = y ∙ (λ i. labelledAs (q i) ((x ∙ ap (λ (b : Bool). withFlag b c) p) i))
+  then-label : {a : Label} → a ≡ e .label → s ≡ withHeld a r → s ≡ withCarry e c
+  then-label q y = y ∙ (λ i. withHeld (q i) ((x ∙ ap (λ (b : Bool). withFlag b c) p) i))
 
   pub carry-held : {b : List ℕ} → isHeld (e .label) ≡ true → b ≡ labelBytes (e .label) → s ≡ withLabel b r → s ≡ withCarry e c
   carry-held h q y = then-label (label-held (e .label) h q) y

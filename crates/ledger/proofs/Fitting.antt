@@ -143,6 +143,6 @@ module _ (n kept : ℕ) (l : List ℕ) (e : fits n kept l ≡ true) where
   pub fits-rise : (i j : ℕ) → i ≤ j → j < n → (rowAt i l) .end ≤ (rowAt j l) .end
   fits-rise i j h k = rowsFit-rise n 0 kept l rows-fit i j h k
 
-  -- rows behind the place `old` can be moved as far as the whole text can
+  -- rows after the place `old` can be moved as far as the whole text can
   pub fits-movable : (old new j : ℕ) → j < n → old ≤ (rowAt j l) .end → new + (kept - old) < 4294967296 → Movable j old new l
   fits-movable old new j h b s = record { behind = b; small = omega (arith, fits-end j h) }

@@ -16,7 +16,8 @@ use Rattle.mitex_meaning.specs.Outcome.{Label, Carry, labelMost}
 use Rattle.mitex_meaning.specs.Outcome.Label.{unheld, held}
 use Rattle.mitex_meaning.specs.State.{labelOf}
 use Rattle.mitex_meaning.specs.Keeping.{labelBytes, Short}
-use Rattle.ledger.specs.Ledger.{Row, rowSize, mark, isHeld, encodeCarry, encodeRow, encodeRows, decodeRow, decodeRows, allZero, marksFit, rowFits, rowsFit, fits, moveRow, moveRows, Piece, written, rowsFrom}
+use Rattle.ledger.specs.Ledger.{Row, rowSize, mark, isHeld, encodeCarry, encodeRow, encodeRows, decodeRow, decodeRows, allZero, marksFit}
+use Rattle.ledger.specs.Ledger.{rowFits, rowsFit, fits, moveRow, moveRows, Piece, written, rowsFrom}
 
 -- rows that can be written
 pub record Encodable (r : Row) : Type 0 where

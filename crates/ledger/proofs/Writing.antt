@@ -1,4 +1,4 @@
--- What is written of a row. Bytes stored from a place on leave what stands behind them (`sets-drop`), and storing what stands
+-- What is written of a row. Bytes stored from a place on leave what stands after them (`sets-drop`), and storing what stands
 -- there already changes nothing (`sets-same`), so a row is moved by its four length bytes.
 use mathlib.Core.Path.{_≡_, refl, sym, ap, _∙_}
 use mathlib.Core.Bool.{Bool, true, false, cond}

@@ -2,8 +2,9 @@
 use mathlib.Core.Path.{_≡_, refl}
 use mathlib.Core.Bool.{true, false}
 use mathlib.Core.List.{List, [], _∷_, _++_}
-use Prim.Native.Nat.{ℕ}
+use Prim.Native.Nat.{ℕ, _-_}
 use lib.ListN.{replicate}
+use Rattle.mitex_meaning.specs.Outcome.{labelMost}
 use Rattle.mitex_meaning.specs.Outcome.Label.{unheld, held}
 use Rattle.ledger.specs.Ledger.{Row, encodeCarry, encodeRow, decodeRow, allZero, marksFit, rowFits, fits, moveRow, sameCarry, rowsFrom, encodeRows}
 
@@ -13,8 +14,9 @@ labelled = record { end = 258; carry = record { flag = true; label = held (101 �
 abbrev plain : ℕ → Row
 plain n = record { end = n; carry = record { flag = false; label = unheld } }
 
+-- eight bytes and the first of the label, padded
 abbrev row : List ℕ → List ℕ
-row l = l ++ replicate 119 0
+row l = l ++ replicate (labelMost - 1) 0
 
 row-labelled : encodeRow labelled ≡ row (2 ∷ 1 ∷ 0 ∷ 0 ∷ 1 ∷ 1 ∷ 1 ∷ 0 ∷ 101 ∷ [])
 unfolding encodeRow encodeCarry
@@ -37,13 +39,13 @@ fitting : (fits 1 5 (row (5 ∷ 0 ∷ 0 ∷ 0 ∷ 0 ∷ 0 ∷ 0 ∷ 0 ∷ 0 ∷ 
 unfolding fits rowFits marksFit allZero
 fitting = (refl, refl, refl)
 
--- another length, a mark of 2, an unheld label with a length, a byte 7, a byte behind the label, no whole row
+-- another length, a mark of 2, an unheld label with a length, a byte 7, a byte after the label, no whole row
 unfit : (fits 1 6 (row (5 ∷ 0 ∷ 0 ∷ 0 ∷ 0 ∷ 0 ∷ 0 ∷ 0 ∷ 0 ∷ [])) ≡ false)
     × (fits 1 5 (row (5 ∷ 0 ∷ 0 ∷ 0 ∷ 2 ∷ 0 ∷ 0 ∷ 0 ∷ 0 ∷ [])) ≡ false)
     × (fits 1 5 (row (5 ∷ 0 ∷ 0 ∷ 0 ∷ 0 ∷ 0 ∷ 1 ∷ 0 ∷ 0 ∷ [])) ≡ false)
     × (fits 1 5 (row (5 ∷ 0 ∷ 0 ∷ 0 ∷ 0 ∷ 1 ∷ 0 ∷ 1 ∷ 0 ∷ [])) ≡ false)
     × (fits 1 5 (row (5 ∷ 0 ∷ 0 ∷ 0 ∷ 0 ∷ 1 ∷ 0 ∷ 0 ∷ 9 ∷ [])) ≡ false)
-    × (fits 1 5 (5 ∷ 0 ∷ 0 ∷ 0 ∷ 0 ∷ 0 ∷ 0 ∷ 0 ∷ replicate 119 0) ≡ false)
+    × (fits 1 5 (5 ∷ 0 ∷ 0 ∷ 0 ∷ 0 ∷ 0 ∷ 0 ∷ 0 ∷ replicate (labelMost - 1) 0) ≡ false)
 unfolding fits rowFits marksFit allZero
 unfit = (refl, refl, refl, refl, refl, refl)
 

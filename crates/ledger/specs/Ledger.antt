@@ -1,4 +1,4 @@
--- The ledger: one row of 128 bytes for each block of the document.
+-- The ledger: one row of `rowSize` bytes for each block of the document.
 --   0 to 3   the text's length after the block
 --   4        the space flag
 --   5        whether a label is held
@@ -36,7 +36,7 @@ abbrev pub isHeld : Label → Bool
 isHeld unheld = false
 isHeld (held b) = true
 
--- a row behind its length
+-- a row after its length
 unfoldable pub encodeCarry : Carry → List ℕ
 encodeCarry c =
     mark (c .flag)
@@ -81,7 +81,7 @@ unfoldable pub allZero : List ℕ → Bool
 allZero [] = true
 allZero (x ∷ l) = eqb x 0 && allZero l
 
--- what stands behind the label in its row
+-- what stands after the label in its row
 abbrev pub padding : List ℕ → List ℕ
 padding l = take (labelMost - getD l 6 0) (drop (getD l 6 0) (drop 8 l))
 
@@ -113,7 +113,7 @@ fits n kept l = leb (rowSize * n) (length l) && rowsFit n 0 kept l
 unfoldable pub moveRow : ℕ → ℕ → List ℕ → List ℕ
 moveRow old new l = four (new + (fourAt 0 l - old)) (take (rowSize - 4) (drop 4 l))
 
--- the row with number i, where its text begins at `old` or behind and its length stays a number of four bytes
+-- the row with number i, where its text begins at `old` or later and its length stays a number of four bytes
 pub record Movable (i old new : ℕ) (l : List ℕ) : Type 0 where
   pub behind : old ≤ (rowAt i l) .end
   pub small : new + ((rowAt i l) .end - old) < 4294967296
@@ -135,7 +135,7 @@ sameCarry c d = Bool·beq (c .flag) (d .flag) && sameLabel (c .label) (d .label)
 
 -- ---- the rows of a document
 
--- a block's text, and the carry behind it
+-- a block's text, and the carry after it
 pub record Piece : Type 0 where
   pub text : List ℕ
   pub after : Carry

@@ -1,4 +1,4 @@
-// The ledger: a row of 128 bytes for each block, read and written. specs/Ledger.antt has the layout.
+// The ledger: a row for each block, read and written. specs/Ledger.antt has the layout.
 use mitex_meaning::Converter;
 use mitex_meaning::LABEL_MOST;
 ghost use mathlib.Core.Path.{_≡_};
@@ -26,7 +26,7 @@ pub fn row_end(ledger: &[u8], i: usize) -> usize
     text::read_u32(ledger, ROW_SIZE * i)
 }
 
-// The space flag behind block `i`.
+// The space flag after block `i`.
 fn row_flag(ledger: &[u8], i: usize) -> bool
     requires { ⌜ HasRow i (now ledger) ⌝ }
     ensures { λ r. ⌜ r ≡ (rowAt i (now (ledger .entry))) .carry .flag ⌝ }
@@ -35,7 +35,7 @@ fn row_flag(ledger: &[u8], i: usize) -> bool
     ledger[at + 4] == 1
 }
 
-// Whether a label is held behind block `i`.
+// Whether a label is held after block `i`.
 fn row_held(ledger: &[u8], i: usize) -> bool
     requires { ⌜ HasRow i (now ledger) ⌝ }
     ensures { λ r. ⌜ r ≡ isHeld ((rowAt i (now (ledger .entry))) .carry .label) ⌝ }
@@ -44,7 +44,7 @@ fn row_held(ledger: &[u8], i: usize) -> bool
     ledger[at + 5] == 1
 }
 
-// The label held behind block `i`, a part of the ledger; empty where none is held.
+// The label held after block `i`, a part of the ledger; empty where none is held.
 fn row_label(ledger: &[u8], i: usize) -> &[u8]
     requires { ⌜ RowFits i (now ledger) ⌝ }
     ensures { λ r. ⌜ now r ≡ labelBytes ((rowAt i (now (ledger .entry))) .carry .label) ⌝ }
@@ -176,7 +176,7 @@ pub fn ledger_fits(ledger: &[u8], blocks: usize, kept: usize) -> bool
 
 // ---- writing
 
-// A mark.
+// 1 for true, 0 for false.
 fn mark_of(b: bool) -> u8
     ensures { λ r. ⌜ r ≡ mark b ⌝ }
 {

@@ -1,4 +1,4 @@
--- The model that elements begin with, where its text and the elements behind it stand, and the name that is written before it.
+-- The model that elements begin with, where its text and the elements after it stand, and the name that is written before it.
 use mathlib.Core.Path.{_≡_, refl, sym, ap, subst, _∙_}
 use mathlib.Core.Bool.{Bool, true, false, _&&_, cond, and-eq-true-iff}
 use mathlib.Core.Option.{Option}
@@ -61,7 +61,7 @@ module _ {meaning : ℕ → Forest → Model} {test : Tree → Bool} {held : Res
       ap (meaning (s .rows)) q ∙ m .at-more (s .rows) t f ∙ ap (λ (b : Bool). cond b (held r t) (model noModel r)) e
       ∙ ap (λ (g : Forest). held (rest (s .rows) g) t) (sym q)
 
--- a bracket: the text up to the next one, and what is no trivia behind that
+-- a bracket: the text up to the next one, and what is no trivia after that
 abbrev pub heldModel : Rest → Model
 heldModel s =
     model (inModel (textsOf (beforeBy (isOf TokenRBracket) (pastFirst s .elements))))
@@ -113,7 +113,7 @@ pub bare-found :
 bare-found {first = first} a q o e =
     model-found first e q refl (omega arith) (omega arith) (a .moved .there) (omega (arith, a .moved .row)) (a .moved .fits)
 
--- `\color`: a bracket, the text up to the next one, and what is no trivia behind that
+-- `\color`: a bracket, the text up to the next one, and what is no trivia after that
 pub held-found :
     {rows text : List ℕ} {i j : ℕ} {s : Rest} {first begin end beyond behind : Cursor} {r : ModelPart}
     → Sought isSolid rows text [] i j s first

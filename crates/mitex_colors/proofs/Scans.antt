@@ -1,4 +1,4 @@
--- Scans over the children of a node: what is left after a step spells the elements behind it (`passed`), and a scan that has come to
+-- Scans over the children of a node: what is left after a step spells the elements after it (`passed`), and a scan that has come to
 -- `now` finds from there what it finds from its start (`Scans`).
 use mathlib.Core.Path.{_≡_, refl, sym, ap, subst, _∙_}
 use mathlib.Core.Bool.{Bool, true, false, cond}
@@ -76,7 +76,7 @@ module _ {rows text : List ℕ} {i j : ℕ} where
     unfolding rowsOf
     left-kind t g e = kind-here rows i t (rowsOfs g) (l .rows-are ∙ ap rowsOfs e)
 
--- behind the first of them
+-- past the first of them
 module _ {rows text tail : List ℕ} {i j : ℕ} {t : Tree} {f : Forest} (l : ElementsLeft rows text tail i j (more t f)) where
   left-past : ElementsLeft rows text tail (i + 8 * size t) (j + length (textOf t)) f
   unfolding rowsOf textOf Sound

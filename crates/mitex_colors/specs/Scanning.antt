@@ -55,7 +55,7 @@ pub record FirstPassed (rows text tail : List ℕ) (i j : ℕ) (r : Rest) (at : 
   pub moved : CursorMoved rows text tail i j r (pastFirst r) at
   pub over : (t : Tree) (f : Forest) → r .elements ≡ more t f → textOf t ≡ between j (at .text) text
 
--- a model's text, and all elements from a cursor on behind it
+-- a model's text, and after it all elements from a cursor on
 abbrev pub modelAt : ℕ → ℕ → Bool → ℕ → ℕ → Cursor → ModelPart
 modelAt e u b from to at =
     record { held = b; from = from; to = to; rest = record { i = at .row; e = e; j = at .text; u = u } }

@@ -79,7 +79,8 @@ fn stops(kind: u8, stop: Stop) -> bool
 // Past the first element from a cursor on, if there is one.
 fn past_first(rows: &[u8], text: &[u8], at: Cursor) -> Cursor
     requires { ⌜ SomeForest (now rows) (now text) (at .row) (at .text) ⌝ }
-    ensures { λ r. ⌜ ((tail : List ℕ) (s : Rest) → ElementsLeft (now (rows .entry)) (now (text .entry)) tail (at .row) (at .text) (s .elements) → FirstPassed (now (rows .entry)) (now (text .entry)) tail (at .row) (at .text) s r) ⌝ }
+    ensures { λ r. ⌜ ((tail : List ℕ) (s : Rest) → ElementsLeft (now (rows .entry)) (now (text .entry)) tail (at .row) (at .text) (s .elements)
+        → FirstPassed (now (rows .entry)) (now (text .entry)) tail (at .row) (at .text) s r) ⌝ }
 {
     let i = at.row;
     if rows.len() <= i {
@@ -95,7 +96,8 @@ fn past_first(rows: &[u8], text: &[u8], at: Cursor) -> Cursor
 // The first element from a cursor on that a scan stops at, or the end.
 fn seek(rows: &[u8], text: &[u8], at: Cursor, stop: Stop) -> Cursor
     requires { ⌜ SomeForest (now rows) (now text) (at .row) (at .text) ⌝ }
-    ensures { λ r. ⌜ ((tail : List ℕ) (s : Rest) → ElementsLeft (now (rows .entry)) (now (text .entry)) tail (at .row) (at .text) (s .elements) → Sought (picks stop) (now (rows .entry)) (now (text .entry)) tail (at .row) (at .text) s r) ⌝ }
+    ensures { λ r. ⌜ ((tail : List ℕ) (s : Rest) → ElementsLeft (now (rows .entry)) (now (text .entry)) tail (at .row) (at .text) (s .elements)
+        → Sought (picks stop) (now (rows .entry)) (now (text .entry)) tail (at .row) (at .text) s r) ⌝ }
 {
     let mut i = at.row;
     let mut j = at.text;
@@ -112,7 +114,7 @@ fn seek(rows: &[u8], text: &[u8], at: Cursor, stop: Stop) -> Cursor
 
 // ---- a colour's model
 
-// A model's text, and all elements from a cursor on behind it.
+// A model's text, and after it all elements from a cursor on.
 fn model_part(rows: &[u8], text: &[u8], held: bool, from: usize, to: usize, at: Cursor) -> ModelPart
     ensures { λ r. ⌜ r ≡ modelAt (length (now (rows .entry))) (length (now (text .entry))) held from to at ⌝ }
 {
@@ -133,7 +135,8 @@ fn model_part(rows: &[u8], text: &[u8], held: bool, from: usize, to: usize, at: 
 // `\color`: a model from a cursor on, in brackets, with trivia around it passed over.
 fn greedy_model(rows: &[u8], text: &[u8], at: Cursor) -> ModelPart
     requires { ⌜ SomeForest (now rows) (now text) (at .row) (at .text) ⌝ }
-    ensures { λ r. ⌜ ((s : Rest) → ElementsLeft (now (rows .entry)) (now (text .entry)) [] (at .row) (at .text) (s .elements) → 8 * s .rows ≡ 8 + at .row → ModelFound (modelIn (seek isSolid s)) (s .elements) (now (rows .entry)) (now (text .entry)) r) ⌝ }
+    ensures { λ r. ⌜ ((s : Rest) → ElementsLeft (now (rows .entry)) (now (text .entry)) [] (at .row) (at .text) (s .elements) → 8 * s .rows ≡ 8 + at .row
+        → ModelFound (modelIn (seek isSolid s)) (s .elements) (now (rows .entry)) (now (text .entry)) r) ⌝ }
 {
     let first = seek(rows, text, at, Stop::Solid);
     let i = first.row;
@@ -257,7 +260,9 @@ pub fn put_color_head(
     requires { ⌜ (at ≤ cap) × (length (now out) ≤ cap) ⌝ }
     requires { ⌜ endOf found ≤ length (now rules) ⌝ }
     requires { ⌜ (m .from ≤ m .to) × (m .to ≤ length (now text)) ⌝ }
-    ensures { λ r. ⌜ ((name : List ℕ) → Wrote at (now (out .entry)) (colorAlias (ruleOf (now (rules .entry)) name found) ++ (leftParen ++ (modelText (m .held) (between (m .from) (m .to) (now (text .entry))) ++ leftBracket))) r (now (out .exit))) ⌝ }
+    ensures { λ r. ⌜ ((name : List ℕ)
+        → Wrote at (now (out .entry)) (colorAlias (ruleOf (now (rules .entry)) name found)
+        ++ (leftParen ++ (modelText (m .held) (between (m .from) (m .to) (now (text .entry))) ++ leftBracket))) r (now (out .exit))) ⌝ }
 {
     let a = put_color_name(out, at, rules, found);
     let b = text::put(out, a, b"(");

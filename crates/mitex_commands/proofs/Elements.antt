@@ -10,7 +10,9 @@ use borrow.Author.Tests.{ne-eqb, le-leb, lt-leb}
 use lib.Dec.{T, eqb, eqb→eq, leb}
 use lib.ListN.{getD, length}
 use Rattle.utf8.specs.Utf8.{valid}
-use Rattle.mitex_syntax.specs.Syntax.{TokenError, ItemLR, ClauseArgument, ScopeRoot, ItemText, ItemBracket, ItemParen, ItemFormula, ItemCurly, ClauseLR, ItemAttachComponent, ItemBegin, ItemEnd, ItemBlockComment, ItemCmd, ItemEnv, ItemTypstCode, ClauseCommandName, TokenWord, TokenComment, TokenWhiteSpace, TokenCommandSym, isToken, isNode}
+use Rattle.mitex_syntax.specs.Syntax.{TokenError, ItemLR, ClauseArgument, ScopeRoot, ItemText, ItemBracket, ItemParen, ItemFormula, ItemCurly}
+use Rattle.mitex_syntax.specs.Syntax.{ClauseLR, ItemAttachComponent, ItemBegin, ItemEnd, ItemBlockComment, ItemCmd, ItemEnv, ItemTypstCode}
+use Rattle.mitex_syntax.specs.Syntax.{ClauseCommandName, TokenWord, TokenComment, TokenWhiteSpace, TokenCommandSym, isToken, isNode}
 use Rattle.mitex_syntax.specs.Tree.{Tree, Forest, kindOf}
 use Rattle.mitex_syntax.specs.Tree.Tree.{token, node}
 use Rattle.mitex_syntax.specs.Spells.{Sound, Spells}
@@ -106,7 +108,14 @@ all-tell = tt
 
 high-token : (k : ℕ) → past ≤ k → isToken k ≡ false
 high-token k h =
-    rw (ne-eqb k TokenError (λ e. omega arith), ne-eqb k ClauseCommandName (λ e. omega arith), le-leb TokenWord k (omega arith), lt-leb k TokenComment (omega arith), le-leb TokenWhiteSpace k (omega arith), lt-leb k TokenCommandSym (omega arith))
+    rw (
+      ne-eqb k TokenError (λ e. omega arith),
+      ne-eqb k ClauseCommandName (λ e. omega arith),
+      le-leb TokenWord k (omega arith),
+      lt-leb k TokenComment (omega arith),
+      le-leb TokenWhiteSpace k (omega arith),
+      lt-leb k TokenCommandSym (omega arith),
+    )
 
 high-node : (k : ℕ) → past ≤ k → isNode k ≡ false
 high-node k h = rw (ne-eqb k TokenError (λ e. omega arith), le-leb 1 k (omega arith), lt-leb k ItemTypstCode (omega arith))

@@ -262,7 +262,8 @@ pub fn convert_command_label(
     requires { ⌜ (at ≤ cap) × (length (now out) ≤ cap) ⌝ }
     requires { ⌜ SomeForest (now rows) (now text) 0 0 ⌝ }
     requires { ⌜ c .«label_len» ≤ labelMost ⌝ }
-    ensures { λ r. ⌜ ((f : Forest) → SpellsAll f (now (rows .entry)) (now (text .entry)) → Agrees r (placeOf c) row at (now (out .entry)) (now (out .exit)) (labelIn (c .env) (c .mode) (labelText f) (carryOf c))) ⌝ }
+    ensures { λ r. ⌜ ((f : Forest) → SpellsAll f (now (rows .entry)) (now (text .entry))
+        → Agrees r (placeOf c) row at (now (out .entry)) (now (out .exit)) (labelIn (c .env) (c .mode) (labelText f) (carryOf c))) ⌝ }
     ensures untouched { λ r. ⌜ ((r .refusal ≡ 0 → ⊥) → now (out .exit) ≡ now (out .entry)) ⌝ }
 {
     let s = label_text(rows, text);

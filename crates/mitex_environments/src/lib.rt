@@ -226,7 +226,8 @@ fn is_caption(rows: &[u8], text: &[u8], i: usize, e: usize, j: usize, u: usize) 
 // The first argument of this child, a caption.
 fn argument_at(rows: &[u8], text: &[u8], i: usize, e: usize, j: usize, u: usize) -> CaptionPart
     requires { ⌜ ChildAt (now rows) (now text) i e j u ⌝ }
-    ensures { λ r. ⌜ ((t : Tree) (o : ℕ) → i ≡ 8 * o → Spells t (between i e (now (rows .entry))) (between j u (now (text .entry))) → Shows (captionAt (1 + o) t (firstOf ClauseArgument (childrenOf t))) (size t) (now (rows .entry)) (now (text .entry)) r) ⌝ }
+    ensures { λ r. ⌜ ((t : Tree) (o : ℕ) → i ≡ 8 * o → Spells t (between i e (now (rows .entry))) (between j u (now (text .entry)))
+        → Shows (captionAt (1 + o) t (firstOf ClauseArgument (childrenOf t))) (size t) (now (rows .entry)) (now (text .entry)) r) ⌝ }
 {
     match mitex_syntax::find_kind(&rows[i + 8..e], &text[j..u], CLAUSE_ARGUMENT) {
         Place::Nowhere => CaptionPart::BareCaption(i / 8),
@@ -242,7 +243,8 @@ fn argument_at(rows: &[u8], text: &[u8], i: usize, e: usize, j: usize, u: usize)
 // The caption that this child is, if any.
 fn caption_at(rows: &[u8], text: &[u8], i: usize, e: usize, j: usize, u: usize) -> CaptionPart
     requires { ⌜ ChildAt (now rows) (now text) i e j u ⌝ }
-    ensures { λ r. ⌜ ((t : Tree) (o : ℕ) → i ≡ 8 * o → Spells t (between i e (now (rows .entry))) (between j u (now (text .entry))) → Shows (captionIn (1 + o) t) (size t) (now (rows .entry)) (now (text .entry)) r) ⌝ }
+    ensures { λ r. ⌜ ((t : Tree) (o : ℕ) → i ≡ 8 * o → Spells t (between i e (now (rows .entry))) (between j u (now (text .entry)))
+        → Shows (captionIn (1 + o) t) (size t) (now (rows .entry)) (now (text .entry)) r) ⌝ }
 {
     if is_caption(rows, text, i, e, j, u) {
         return argument_at(rows, text, i, e, j, u);

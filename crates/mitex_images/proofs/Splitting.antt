@@ -43,7 +43,7 @@ split-none b (x ∷ s) h = go (eqb x b) h (split-none b s) where
   go true h r = absurd (omega arith)
   go false h r = ap (extend x) (r (omega arith))
 
--- some: the part before it, and those of what stands behind it
+-- some: the part before it, and those of what stands after it
 split-some : (b : ℕ) (s : List ℕ) → indexOf b s < length s → split b s ≡ take (indexOf b s) s ∷ split b (drop (indexOf b s + 1) s)
 unfolding split indexOf
 split-some b [] h = absurd (omega arith)
@@ -62,7 +62,7 @@ split-some b (x ∷ s) h = go (eqb x b) h (split-some b s) where
       ∙ ap (λ n. take n (x ∷ s) ∷ split b (drop (suc (k + 1)) (x ∷ s))) e
       ∙ ap (λ n. take (1 + k) (x ∷ s) ∷ split b (drop n (x ∷ s))) e′
 
--- what stands behind a byte, as code has it that goes no further than the end
+-- what stands after a byte, as code has it that goes no further than the end
 pub part-past : (s : List ℕ) (n k : ℕ) → k ≡ min (length s) (n + 1) → take (length s - k) (drop k s) ≡ drop (n + 1) s
 part-past s n k e =
     part-rest s k
@@ -89,7 +89,7 @@ key-first b s =
       | no gt ↦ sym (ap keyOf (split-some b s (omega arith)))
     ]
 
--- v stands behind the first such byte, or there is nothing behind
+-- v stands after the first such byte, or there is nothing after
 module _ (b : ℕ) (s v : List ℕ) (e : v ≡ drop (indexOf b s + 1) s) where
   split-first : indexOf b s < length s → split b s ≡ take (indexOf b s) s ∷ split b v
   split-first h = split-some b s h ∙ ap (λ r. take (indexOf b s) s ∷ split b r) (sym e)
@@ -148,7 +148,7 @@ options-none = ap (λ s. pairText (split equalsByte s) ++ []) trim-none ∙ ap (
 pub options-end : (s : List ℕ) → length s ≤ 0 → [] ≡ optionsText (split commaByte s)
 options-end s h = sym (ap (λ r. optionsText (split commaByte r)) (none s h) ∙ options-none)
 
--- the first option, and those behind it
+-- the first option, and those after it
 options-first :
     (s : List ℕ)
     → optionText (take (indexOf commaByte s) s) ++ optionsText (split commaByte (drop (indexOf commaByte s + 1) s))

@@ -61,7 +61,7 @@ fn put_length(out: &mut [u8], at: usize, v: &[u8]) -> usize
 
 // ---- options
 
-// The place behind the byte at `n`, as far as the end.
+// The place after the byte at `n`, as far as the end.
 fn past(s: &[u8], n: usize) -> usize
     requires { ⌜ n ≤ length (now s) ⌝ }
     ensures { λ r. ⌜ r ≡ min (length (now (s .entry))) (n + 1) ⌝ }

@@ -63,11 +63,6 @@ module _ {a : Walked} {x : Place} {row at : ℕ} {out out′ : List ℕ} where
   agrees-shift n (declines {r = r} h p q) = declines {r = n + r} h p (omega arith)
   agrees-shift n (accepts u ex ec l w) = accepts u ex ec l w
 
-  -- a refusal is one in every place
-  pub refused-in : {y : Place} {o : Outcome} → Agrees a y row at out out′ o → (a .refusal ≡ 0 → ⊥) → Agrees a x row at out out′ o
-  refused-in (declines h p q) z = declines h p q
-  refused-in (accepts u ex ec l w) z = absurd (z u)
-
 module _ {row at at₁ : ℕ} {out out₁ out₂ w : List ℕ} {a : Walked} {x : Place} where
   -- what was written before
   pub agrees-after :
@@ -75,7 +70,7 @@ module _ {row at at₁ : ℕ} {out out₁ out₂ w : List ℕ} {a : Walked} {x :
   agrees-after h wr (declines g p q) = declines g p q
   agrees-after h wr (accepts u ex ec l v) = accepts u ex ec l (wrote-then h wr v)
 
--- what follows a walk: a refusal is handed on; else the converter is brought to the place x, and w is written behind
+-- what follows a walk: a refusal is handed on; else the converter is brought to the place x, and w is written after it
 pub record Closed (a : Walked) (x : Place) (w out : List ℕ) (r : Walked) (out′ : List ℕ) : Type 0 where
   pub refused-on : (a .refusal ≡ 0 → ⊥) → (r ≡ a) × (out′ ≡ out)
   pub accepted : a .refusal ≡ 0 → r .refusal ≡ 0

@@ -27,7 +27,7 @@ use Rattle.mitex_meaning.specs.Colors.{Model, greedyModel, argumentModel
 use Rattle.mitex_meaning.specs.Commands.{itemIn, labelNow, labelHeld, labelIn, typstName, isArgument, greedyIn, argumentsOf, argumentsBy, stackEnv, written, normalBy, commandOf, commandBy}
 use Rattle.mitex_meaning.specs.Tables.{lettersFit}
 use Rattle.mitex_meaning.specs.Environments.{Caption, absent, bare, caption, lastCaption, mathEnv, captioned, tableBy, takeLabel, envOf, plainEnv, envBody, isList, envBy}
-use Rattle.mitex_meaning.specs.Conversion.{elementOf, armBy, step, convert, levels, startContext, blocksFrom}
+use Rattle.mitex_meaning.specs.Conversion.{elementOf, armBy, step, convert}
 use Rattle.mitex_meaning.specs.Keeping.{Short, isWalkNumber, KeptOutcome, Keeps}
 use Rattle.mitex_meaning.specs.Keeping.KeptOutcome.{stops, goes}
 use Rattle.mitex_meaning.specs.declared.LaTeXMode.{LaTeXMode}
@@ -71,7 +71,7 @@ kept-cond : {S : Type 0} (b : Bool) {p q : Outcome} → (b ≡ true → KeptOutc
 kept-cond true h g = h refl
 kept-cond false h g = g
 
--- a text before and one behind
+-- a text before and one after
 kept-between : {S : Type 0} (w v : List ℕ) {p : Outcome} → KeptOutcome S p → KeptOutcome S (after w (closing v p))
 kept-between w v h = kept-after w (kept-closing v h)
 
@@ -295,7 +295,3 @@ keeps-short d x t c c′ w e = of-done (subst (KeptOutcome (Short c)) e (keeps d
 -- a refusal has one of the numbers 7 to 14
 pub keeps-number : (d : ℕ) (x : Context) (t : Tree) (c : Carry) (n r : ℕ) → convert d x t c ≡ refused n r → T (isWalkNumber n)
 keeps-number d x t c n r e = of-refused (subst (KeptOutcome (Short c)) e (keeps d x t c))
-
--- and so do blocks one after the other
-pub blocks-keep : (rules : List Rule) (m : LaTeXMode) (o : ℕ) (f : Forest) → Keeps (blocksFrom rules m o f)
-blocks-keep rules m o f = keeps-each (convert levels (startContext rules m)) (keeps levels (startContext rules m)) o _ f

@@ -200,10 +200,3 @@ convert-level (suc d) (suc e) x (token k s) c h g = refl
 convert-level (suc d) (suc e) x (node k f) c h g =
     same-arm (sizes f) (convert d) (convert e)
     (λ y u b w. convert-level d e y u b (omega (arith, size-node k f)) (omega (arith, size-node k f))) (elementOf k) x f (flagged false c) (omega arith)
-
--- and so do children, whatever the loop
-pub each-level :
-    (d e : ℕ) (x : Context) (o : ℕ) (l : Loop) (f : Forest) (c : Carry) → sizes f ≤ d → sizes f ≤ e
-    → each (convert d x) o l f c ≡ each (convert e x) o l f c
-each-level d e x o l f c h g =
-    same-each (sizes f) (convert d x) (convert e x) (λ t b w. convert-level d e x t b (omega arith) (omega arith)) o l f c (omega arith)

@@ -1,4 +1,4 @@
--- How outcomes compose: texts before and behind, one outcome after another, and rows counted from further up. Each law goes by
+-- How outcomes compose: texts before and after, one outcome after another, and rows counted from further up. Each law goes by
 -- the two cases of an outcome.
 use mathlib.Core.Path.{_≡_, refl, ap}
 use mathlib.Core.List.{List, [], _++_, append-assoc, append-nil}
@@ -19,14 +19,6 @@ after-after w v (done c u) = rw append-assoc
 
 -- ---- one after another
 
-pub andThen-after : (w : List ℕ) (p : Outcome) (k : Carry → Outcome) → andThen (after w p) k ≡ after w (andThen p k)
-andThen-after w (refused n r) k = refl
-andThen-after w (done c v) k = rw after-after
-
-pub andThen-assoc : (p : Outcome) (k l : Carry → Outcome) → andThen (andThen p k) l ≡ andThen p (λ c. andThen (k c) l)
-andThen-assoc (refused n r) k l = refl
-andThen-assoc (done c w) k l = andThen-after w (k c) l
-
 pub andThen-done : (p : Outcome) → andThen p (λ c. done c []) ≡ p
 andThen-done (refused n r) = refl
 andThen-done (done c w) = rw append-nil
@@ -36,11 +28,7 @@ pub andThen-same : (p : Outcome) (k l : Carry → Outcome) → ((c : Carry) → 
 andThen-same (refused n r) k l e = refl
 andThen-same (done c w) k l e = ap (after w) (e c)
 
--- ---- a text behind
-
-pub closing-then : (w : List ℕ) (p : Outcome) → closing w p ≡ andThen p (λ c. done c w)
-closing-then w (refused n r) = refl
-closing-then w (done c v) = refl
+-- ---- a text after
 
 pub closing-nil : (p : Outcome) → closing [] p ≡ p
 closing-nil (refused n r) = refl
@@ -79,7 +67,3 @@ shift-after o w (done c v) = refl
 pub shift-closing : (o : ℕ) (w : List ℕ) (p : Outcome) → shift o (closing w p) ≡ closing w (shift o p)
 shift-closing o w (refused n r) = refl
 shift-closing o w (done c v) = refl
-
-pub shift-andThen : (o : ℕ) (p : Outcome) (k : Carry → Outcome) → shift o (andThen p k) ≡ andThen (shift o p) (λ c. shift o (k c))
-shift-andThen o (refused n r) k = refl
-shift-andThen o (done c w) k = shift-after o w (k c)

@@ -1,5 +1,5 @@
 -- The loops of the converter over children, in one: each loop says what it does with a child (`actOf`), an act says what is
--- written before and behind the child and whether the child is converted, and the loop goes on in its next state.
+-- written before and after the child and whether the child is converted, and the loop goes on in its next state.
 use mathlib.Core.Bool.{Bool, true, false, _&&_, _||_, not, cond}
 use mathlib.Core.List.{List, [], _++_}
 use Prim.Native.Nat.{ℕ, _+_}
@@ -7,7 +7,8 @@ use lib.ListN.{drop}
 use lib.Dec.{eqb}
 use Rattle.text.specs.Compare.{same}
 use Rattle.text.specs.Writing.{decimal}
-use Rattle.mitex_syntax.specs.Syntax.{ClauseArgument, ClauseCommandName, ItemCurly, ItemBegin, ItemEnd, ItemCmd, TokenWord, TokenLBrace, TokenRBrace, TokenWhiteSpace, TokenLineBreak, TokenCaret, TokenUnderscore, TokenAmpersand, ItemNewLine}
+use Rattle.mitex_syntax.specs.Syntax.{ClauseArgument, ClauseCommandName, ItemCurly, ItemBegin, ItemEnd, ItemCmd, TokenWord, TokenLBrace, TokenRBrace}
+use Rattle.mitex_syntax.specs.Syntax.{TokenWhiteSpace, TokenLineBreak, TokenCaret, TokenUnderscore, TokenAmpersand, ItemNewLine}
 use Rattle.mitex_syntax.specs.Tree.{Tree, Forest, size, kindOf, textOf}
 use Rattle.mitex_syntax.specs.Tree.Forest.{none, more}
 use Rattle.mitex_syntax.specs.Views.{childrenOf, cmdName}
@@ -21,7 +22,8 @@ use Rattle.mitex_meaning.specs.declared.Attach.the-variants.{Bare, Based
 use Rattle.mitex_meaning.specs.declared.Loop.{Loop}
 use Rattle.mitex_meaning.specs.declared.Loop.the-variants.{Plain, Curly, Spaced, Attached, Greedy, Separated, Bracketed, Dollars, Arguments, Named, Inside, Figure, Table}
 use Rattle.mitex_meaning.specs.declared.Act.{Act}
-use Rattle.mitex_meaning.specs.declared.Act.the-variants.{Skip, Convert, ThenSpace, Space, ThenComma, InBrackets, InDollars, SplitBare, SplitBased, Name, Empty, EmptyLast, ThinRule, ThickRule, Open, Close, CloseLast}
+use Rattle.mitex_meaning.specs.declared.Act.the-variants.{Skip, Convert, ThenSpace, Space, ThenComma, InBrackets, InDollars, SplitBare}
+use Rattle.mitex_meaning.specs.declared.Act.the-variants.{SplitBased, Name, Empty, EmptyLast, ThinRule, ThickRule, Open, Close, CloseLast}
 
 -- ---- what a loop looks at
 
@@ -143,7 +145,7 @@ converts Open = true
 converts Close = false
 converts CloseLast = false
 
--- what is written behind it
+-- what is written after it
 abbrev pub behind : Act → List ℕ
 behind Skip = []
 behind Convert = []

@@ -42,7 +42,7 @@ past o (more t f) = rest (o + size t) f
 abbrev pub pastFirst : Rest → Rest
 pastFirst r = past (r .rows) (r .elements)
 
--- what is written for a model, and the elements behind it
+-- what is written for a model, and the elements after it
 pub record Model : Type 0 where
   pub text : List ℕ
   pub behind : Rest
@@ -54,7 +54,7 @@ abbrev pub inModel : List ℕ → List ℕ
 inModel m = leftBracket ++ (m ++ argumentEnd)
 
 -- `\color`: trivia is passed over; a model begins with a direct TokenLBracket and runs to a direct TokenRBracket or the end, and
--- trivia behind it is passed over too
+-- trivia after it is passed over too
 abbrev pub bracketModel : ℕ → Forest → Model
 bracketModel o none = model noModel (rest o none)
 bracketModel o (more t f) =

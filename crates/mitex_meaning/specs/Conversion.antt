@@ -4,7 +4,8 @@ use mathlib.Core.List.{List, []}
 use Prim.Native.Nat.{ℕ, zero, suc}
 use lib.Dec.{eqb}
 use Rattle.mitex_spec.specs.Rules.{Rule}
-use Rattle.mitex_syntax.specs.Syntax.{TokenError, ItemLR, ClauseArgument, ScopeRoot, ItemText, ItemBracket, ItemParen, ItemFormula, ItemCurly, ClauseLR, ItemAttachComponent, ItemBegin, ItemEnd, ItemBlockComment, ItemCmd, ItemEnv, ItemTypstCode}
+use Rattle.mitex_syntax.specs.Syntax.{TokenError, ItemLR, ClauseArgument, ScopeRoot, ItemText, ItemBracket, ItemParen, ItemFormula, ItemCurly}
+use Rattle.mitex_syntax.specs.Syntax.{ClauseLR, ItemAttachComponent, ItemBegin, ItemEnd, ItemBlockComment, ItemCmd, ItemEnv, ItemTypstCode}
 use Rattle.mitex_syntax.specs.Tree.{Forest, textsOf}
 use Rattle.mitex_syntax.specs.Tree.Tree.{token, node}
 use Rattle.mitex_meaning.specs.Outcome.{Context, Carry, Outcome, Conv, Arm, flagged}

@@ -13,7 +13,9 @@ use Rattle.text.specs.Writing.{digits}
 use Rattle.utf8.specs.Chars.{chars, concat}
 use Rattle.utf8.specs.Trim.{skipWhite, trimStart, trimEnd, trim}
 use Rattle.mitex_spec.specs.Rules.{Rule, get}
-use Rattle.mitex_syntax.specs.Syntax.{ClauseArgument, ScopeRoot, ItemBracket, ItemCurly, ClauseCommandName, ItemBegin, ItemEnd, TokenWord, TokenLBrace, TokenRBrace, TokenDollar, TokenComment, TokenWhiteSpace, TokenLineBreak, TokenLBracket, TokenRBracket, TokenAmpersand, ItemNewLine, TokenCommandSym, ItemCmd, ItemEnv}
+use Rattle.mitex_syntax.specs.Syntax.{ClauseArgument, ScopeRoot, ItemBracket, ItemCurly, ClauseCommandName, ItemBegin, ItemEnd, TokenWord}
+use Rattle.mitex_syntax.specs.Syntax.{TokenLBrace, TokenRBrace, TokenDollar, TokenComment, TokenWhiteSpace, TokenLineBreak, TokenLBracket}
+use Rattle.mitex_syntax.specs.Syntax.{TokenRBracket, TokenAmpersand, ItemNewLine, TokenCommandSym, ItemCmd, ItemEnv}
 use Rattle.mitex_syntax.specs.Tree.{Tree, Forest, size, textOf}
 use Rattle.mitex_syntax.specs.Tree.Tree.{token, node}
 use Rattle.mitex_syntax.specs.Tree.Forest.{none, more}
@@ -161,6 +163,7 @@ holds c = answers (convert levels (startContext (c .rules) (c .mode)) (over Scop
 
 -- whoever unfolds this unfolds all that a conversion computes by
 unfoldable pub hold : List Case → Bool
-unfolding convert step each turn tokenOut spaced clauseLr split stripped optionsText othersFollow lettersFit columns alignments vlines lastCaption size textOf firstBy offsetBy beforeBy fromBy firstToken lastToken get same startsWith endsWith digits chars concat skipWhite trimStart trimEnd trim
+unfolding convert step each turn tokenOut spaced clauseLr split stripped optionsText othersFollow lettersFit columns alignments vlines lastCaption size
+    textOf firstBy offsetBy beforeBy fromBy firstToken lastToken get same startsWith endsWith digits chars concat skipWhite trimStart trimEnd trim
 hold [] = true
 hold (c ∷ cs) = holds c && hold cs

@@ -37,7 +37,10 @@ cases =
     ∷ case usual Text (env "tabular" (braced [] ∷ []) [] ∷ []) (writes "#table(stroke: none,\ncolumns: 0,\nalign: (),\n\n);")
     -- table: empty cells, a rule, an open last cell
     ∷ case usual Text
-    (env "tabular" (braced (word "l" ∷ []) ∷ []) (ampersand ∷ newline ∷ cmd "\\hline" (braced (tok TokenError "?" ∷ []) ∷ []) ∷ space ∷ word "a" ∷ space ∷ ampersand ∷ word "b" ∷ []) ∷ [])
+    (
+    env "tabular" (braced (word "l" ∷ []) ∷ []) (ampersand ∷ newline ∷ cmd "\\hline" (braced (tok TokenError "?" ∷ []) ∷ []) ∷ space ∷ word "a" ∷ space ∷ ampersand ∷ word "b" ∷ [])
+    ∷ []
+    )
     (writes "#table(stroke: none,\ncolumns: 1,\nalign: (left, ),\n\n[], [],\ntable.hline(stroke: .5pt),\n[a ], [b);")
     -- table: a comment outside a cell opens one
     ∷ case usual Text

@@ -15,11 +15,21 @@ cases =
     case usual Text (env "alpha" [] [] ∷ []) (refusal 10 1)
     -- environment name trimmed, looked up and written trimmed
     ∷ case usual Text
-    (over ItemEnv (over ItemBegin (token TokenCommandSym ((227 ∷ 128 ∷ 128 ∷ []) ++ (ascii "quote " ++ (194 ∷ 133 ∷ []))) ∷ []) ∷ over ItemEnd (token TokenCommandSym ((227 ∷ 128 ∷ 128 ∷ []) ++ (ascii "quote " ++ (194 ∷ 133 ∷ []))) ∷ []) ∷ []) ∷ [])
+    (
+    over ItemEnv (
+    over ItemBegin (token TokenCommandSym ((227 ∷ 128 ∷ 128 ∷ []) ++ (ascii "quote " ++ (194 ∷ 133 ∷ []))) ∷ [])
+    ∷ over ItemEnd (token TokenCommandSym ((227 ∷ 128 ∷ 128 ∷ []) ++ (ascii "quote " ++ (194 ∷ 133 ∷ []))) ∷ [])
+    ∷ []
+    )
+    ∷ []
+    )
     (writes "#quote[];")
     -- U+200B is not trimmed
     ∷ case usual Text
-    (over ItemEnv (over ItemBegin (token TokenCommandSym (ascii "quote" ++ (226 ∷ 128 ∷ 139 ∷ [])) ∷ []) ∷ over ItemEnd (token TokenCommandSym (ascii "quote" ++ (226 ∷ 128 ∷ 139 ∷ [])) ∷ []) ∷ []) ∷ [])
+    (
+    over ItemEnv (over ItemBegin (token TokenCommandSym (ascii "quote" ++ (226 ∷ 128 ∷ 139 ∷ [])) ∷ []) ∷ over ItemEnd (token TokenCommandSym (ascii "quote" ++ (226 ∷ 128 ∷ 139 ∷ [])) ∷ []) ∷ [])
+    ∷ []
+    )
     (refusal 10 1)
     -- environment name of white space only: the empty name
     ∷ case (rule "" 3 ∷ usual) Text (env " " [] [] ∷ []) (writes "#[];")

@@ -2,9 +2,11 @@
 use mathlib.Core.Path.{_≡_, refl}
 use mathlib.Core.Bool.{true}
 use mathlib.Core.List.{List, [], _∷_}
+use Prim.Native.Nat.{_+_}
 use Rattle.text.specs.Ascii.{ascii}
 use Rattle.mitex_syntax.specs.Syntax.{ItemFormula, ItemAttachComponent, TokenWord, TokenCaret}
 use Rattle.mitex_syntax.specs.Tree.Tree.{token}
+use Rattle.mitex_meaning.specs.Outcome.{labelMost}
 use Rattle.mitex_meaning.specs.Examples.{Case, case, hold, few, writes, over, tok, word, space, break, newline, dollar, times, curly, braced, bracketed, cmd, env}
 use Rattle.mitex_meaning.specs.Examples.Answer.{refusal}
 use Rattle.mitex_meaning.specs.declared.LaTeXMode.the-variants.{Text, Math}
@@ -43,13 +45,13 @@ cases =
     ∷ []
     )
     (writes "#math.equation(block: false, $$);#table(stroke: none,\ncolumns: 1,\nalign: (left, ),\ntable.vline(stroke: .5pt, x: 0), table.vline(stroke: .5pt, x: 1), \n[a],\n);<e>")
-    -- held label of 120
+    -- held label of the most bytes
     ∷ case few Text
-    (over ItemFormula (dollar ∷ curly (cmd "\\label" (braced (token TokenWord (times 120 (ascii "l")) ∷ []) ∷ []) ∷ []) ∷ dollar ∷ []) ∷ [])
+    (over ItemFormula (dollar ∷ curly (cmd "\\label" (braced (token TokenWord (times labelMost (ascii "l")) ∷ []) ∷ []) ∷ []) ∷ dollar ∷ []) ∷ [])
     (writes "#math.equation(block: false, $$);")
-    -- held label of 121
+    -- held label of one byte more
     ∷ case few Text
-    (over ItemFormula (dollar ∷ curly (cmd "\\label" (braced (token TokenWord (times 121 (ascii "l")) ∷ []) ∷ []) ∷ []) ∷ dollar ∷ []) ∷ [])
+    (over ItemFormula (dollar ∷ curly (cmd "\\label" (braced (token TokenWord (times (1 + labelMost) (ascii "l")) ∷ []) ∷ []) ∷ []) ∷ dollar ∷ []) ∷ [])
     (refusal 14 5)
     -- image width
     ∷ case few Text

@@ -28,7 +28,19 @@ cases =
     (writes "#image(width: 0.5  * 100%, \"p\")")
     -- image: Unicode white space trimmed
     ∷ case usual Text
-    (cmd "\\includegraphics" (bracketed (token TokenWord ((227 ∷ 128 ∷ 128 ∷ []) ++ (ascii "width" ++ ((194 ∷ 160 ∷ []) ++ (ascii "=" ++ ((226 ∷ 128 ∷ 131 ∷ []) ++ (ascii "3cm" ++ ((226 ∷ 128 ∷ 168 ∷ []) ++ (ascii "," ++ ((194 ∷ 133 ∷ []) ++ (ascii "height=1")))))))))) ∷ []) ∷ braced (word "p" ∷ []) ∷ []) ∷ [])
+    (
+    cmd "\\includegraphics" (
+    bracketed (
+    token TokenWord ((227 ∷ 128 ∷ 128 ∷ [])
+    ++ (ascii "width"
+    ++ ((194 ∷ 160 ∷ []) ++ (ascii "=" ++ ((226 ∷ 128 ∷ 131 ∷ []) ++ (ascii "3cm" ++ ((226 ∷ 128 ∷ 168 ∷ []) ++ (ascii "," ++ ((194 ∷ 133 ∷ []) ++ (ascii "height=1"))))))))))
+    ∷ []
+    )
+    ∷ braced (word "p" ∷ [])
+    ∷ []
+    )
+    ∷ []
+    )
     (writes "#image(width: 3cm, height: 1, \"p\")")
     -- image: the argument's text, ends cut whatever they are
     ∷ case usual Text

@@ -2,9 +2,11 @@
 use mathlib.Core.Path.{_≡_, refl}
 use mathlib.Core.Bool.{true}
 use mathlib.Core.List.{List, [], _∷_, _++_}
+use Prim.Native.Nat.{_+_, _/_}
 use Rattle.text.specs.Ascii.{ascii}
 use Rattle.mitex_syntax.specs.Syntax.{TokenError, ItemFormula, TokenWord, ItemCmd}
 use Rattle.mitex_syntax.specs.Tree.Tree.{token}
+use Rattle.mitex_meaning.specs.Outcome.{labelMost}
 use Rattle.mitex_meaning.specs.Examples.{Case, case, hold, usual, writes, over, tok, word, name, space, comment, dollar, times, curly, arg, braced, cmd, env}
 use Rattle.mitex_meaning.specs.Examples.Answer.{text, refusal}
 use Rattle.mitex_meaning.specs.declared.LaTeXMode.the-variants.{Text, Math}
@@ -15,8 +17,8 @@ cases =
     case usual Math (cmd "\\label" (braced (word "k" ∷ []) ∷ []) ∷ []) (writes "")
     -- label under None of any length is written, no 14
     ∷ case usual Text
-    (cmd "\\label" (braced (token TokenWord (times 130 (ascii "k")) ∷ []) ∷ []) ∷ [])
-    (text (ascii "<" ++ (times 130 (ascii "k") ++ (ascii ">"))))
+    (cmd "\\label" (braced (token TokenWord (times (10 + labelMost) (ascii "k")) ∷ []) ∷ []) ∷ [])
+    (text (ascii "<" ++ (times (10 + labelMost) (ascii "k") ++ (ascii ">"))))
     -- label directly in a formula: env is None, so it is not held
     ∷ case usual Text
     (over ItemFormula (dollar ∷ cmd "\\label" (braced (word "k" ∷ []) ∷ []) ∷ dollar ∷ []) ∷ env "quote" [] [] ∷ [])
@@ -76,7 +78,7 @@ cases =
     (writes "#math.equation(block: false, $mat()$);#quote[];<k>")
     -- long label in a figure
     ∷ case usual Text
-    (env "figure" [] (cmd "\\label" (braced (token TokenWord (times 61 (195 ∷ 169 ∷ [])) ∷ []) ∷ []) ∷ []) ∷ [])
+    (env "figure" [] (cmd "\\label" (braced (token TokenWord (times (1 + labelMost / 2) (195 ∷ 169 ∷ [])) ∷ []) ∷ []) ∷ []) ∷ [])
     (refusal 14 4)
     -- \label writes its argument's raw text, unwalked
     ∷ case usual Text

@@ -3,7 +3,8 @@ use mathlib.Core.Path.{_≡_, refl}
 use mathlib.Core.Bool.{true}
 use mathlib.Core.List.{List, [], _∷_, _++_}
 use Rattle.text.specs.Ascii.{ascii}
-use Rattle.mitex_syntax.specs.Syntax.{TokenError, ClauseLR, ItemAttachComponent, ItemBegin, TokenLBrace, ItemBlockComment, TokenWhiteSpace, TokenComma, TokenCaret, TokenDitto, TokenTilde, ItemTypstCode}
+use Rattle.mitex_syntax.specs.Syntax.{TokenError, ClauseLR, ItemAttachComponent, ItemBegin, TokenLBrace, ItemBlockComment, TokenWhiteSpace, TokenComma, TokenCaret, TokenDitto}
+use Rattle.mitex_syntax.specs.Syntax.{TokenTilde, ItemTypstCode}
 use Rattle.mitex_syntax.specs.Tree.Tree.{token}
 use Rattle.mitex_meaning.specs.Examples.{Case, case, hold, usual, writes, over, tok, word, name, space, break, newline, comment, ampersand, arg, braced, cmd, env}
 use Rattle.mitex_meaning.specs.declared.LaTeXMode.the-variants.{Text, Math}

@@ -45,7 +45,7 @@ abbrev pub andThen : Outcome → (Carry → Outcome) → Outcome
 andThen (refused n r) k = refused n r
 andThen (done c w) k = after w (k c)
 
--- a text behind what an outcome writes
+-- a text after what an outcome writes
 abbrev pub closing : List ℕ → Outcome → Outcome
 closing w (refused n r) = refused n r
 closing w (done c v) = done c (v ++ w)

@@ -59,7 +59,7 @@ pub data GreedyFound (f : Forest) (rows text : List ℕ) : GreedyPart → Type 0
       → GreedyFound f rows text NoGreedy
   greedy-at : {p : Part} → GreedyStands f rows text p → GreedyFound f rows text (GreedyAt p)
 
--- a colour's model, and the elements behind it
+-- a colour's model, and the elements after it
 abbrev pub modelText : Bool → List ℕ → List ℕ
 modelText true s = inModel s
 modelText false s = noModel

@@ -62,44 +62,35 @@ exitedEnv p c = placed (c .mode) p (c .indent - stepOf (c .env)) c
 
 -- ---- another carry, in the place where it was
 
-abbrev pub withFlag : Bool → Converter → Converter
-withFlag b c =
-    record {
-      mode = c .mode;
-      env = c .env;
-      indent = c .indent;
-      label = c .label;
-      «label_len» = c .«label_len»;
-      «label_held» = c .«label_held»;
-      «skip_next_space» = b;
-    }
-
--- the label's array, how many of its bytes count, and whether it is held
-abbrev pub holding : List ℕ → ℕ → Bool → Converter → Converter
-holding l n b c =
+-- the label's array, how many of its bytes count, whether it is held, and the flag
+abbrev pub loaded : List ℕ → ℕ → Bool → Bool → Converter → Converter
+loaded l n h b c =
     record {
       mode = c .mode;
       env = c .env;
       indent = c .indent;
       label = l;
       «label_len» = n;
-      «label_held» = b;
-      «skip_next_space» = c .«skip_next_space»;
+      «label_held» = h;
+      «skip_next_space» = b;
     }
 
+abbrev pub withFlag : Bool → Converter → Converter
+withFlag b c = loaded (c .label) (c .«label_len») (c .«label_held») b c
+
 abbrev pub withoutLabel : Converter → Converter
-withoutLabel c = holding (c .label) 0 false c
+withoutLabel c = loaded (c .label) 0 false (c .«skip_next_space») c
 
 -- the label is written over the front of the array
 abbrev pub withLabel : List ℕ → Converter → Converter
-withLabel s c = holding (s ++ drop (length s) (c .label)) (length s) true c
+withLabel s c = loaded (s ++ drop (length s) (c .label)) (length s) true (c .«skip_next_space») c
 
-abbrev pub labelledAs : Label → Converter → Converter
-labelledAs unheld c = withoutLabel c
-labelledAs (held s) c = withLabel s c
+abbrev pub withHeld : Label → Converter → Converter
+withHeld unheld c = withoutLabel c
+withHeld (held s) c = withLabel s c
 
 abbrev pub withCarry : Carry → Converter → Converter
-withCarry e c = labelledAs (e .label) (withFlag (e .flag) c)
+withCarry e c = withHeld (e .label) (withFlag (e .flag) c)
 
 -- ---- what moves
 

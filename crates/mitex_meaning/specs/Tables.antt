@@ -31,7 +31,7 @@ unfoldable pub alignments : List ℕ → List ℕ
 alignments [] = []
 alignments (b ∷ s) = alignment b ++ alignments s
 
--- the lines, each behind as many columns as stand before it
+-- the lines, each after as many columns as stand before it
 unfoldable pub vlines : ℕ → List ℕ → List ℕ
 vlines n [] = []
 vlines n (b ∷ s) =

@@ -4,7 +4,8 @@ use mathlib.Core.List.{List, [], _++_}
 use mathlib.Core.Bool.{Bool, true, false, cond}
 use lib.Dec.{eqb}
 use Rattle.text.specs.Ascii.{ascii}
-use Rattle.mitex_syntax.specs.Syntax.{TokenApostrophe, TokenComma, TokenSlash, TokenCaret, TokenUnderscore, TokenHash, TokenAsterisk, TokenAtSign, TokenDitto, TokenSemicolon, TokenLParen, TokenRParen, TokenLBracket, TokenRBracket}
+use Rattle.mitex_syntax.specs.Syntax.{TokenApostrophe, TokenComma, TokenSlash, TokenCaret, TokenUnderscore, TokenHash, TokenAsterisk, TokenAtSign}
+use Rattle.mitex_syntax.specs.Syntax.{TokenDitto, TokenSemicolon, TokenLParen, TokenRParen, TokenLBracket, TokenRBracket}
 use Rattle.mitex_meaning.specs.declared.LaTeXMode.{LaTeXMode}
 use Rattle.mitex_meaning.specs.declared.LaTeXMode.the-variants.{Text, Math}
 use Rattle.mitex_meaning.specs.declared.LaTeXEnv.{LaTeXEnv}

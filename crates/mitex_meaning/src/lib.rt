@@ -37,7 +37,7 @@ pub struct Converter {
     pub env: LaTeXEnv,
     // twice the number of lists around
     pub indent: usize,
-    pub label: [u8; 120],
+    pub label: [u8; LABEL_MOST],
     pub label_len: usize,
     pub label_held: bool,
     // skip the space at the beginning of a line
@@ -166,7 +166,7 @@ pub enum GreedyPart {
     GreedyAt(Part),
 }
 
-// A colour's model, bytes from `from` to `to` of the text while it is held, and the elements behind it.
+// A colour's model, bytes from `from` to `to` of the text while it is held, and the elements after it.
 pub struct ModelPart {
     pub held: bool,
     pub from: usize,
@@ -212,7 +212,7 @@ impl Converter {
         ensures { λ r. ⌜ r ≡ newOf mode ⌝ }
     {
         let env = LaTeXEnv::None;
-        let label = [0u8; 120];
+        let label = [0u8; LABEL_MOST];
         Converter {
             mode,
             env,

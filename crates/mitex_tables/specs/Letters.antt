@@ -1,4 +1,4 @@
--- What one letter of a table does: a column letter counts as one column more, and a line is written behind the columns before it;
+-- What one letter of a table does: a column letter counts as one column more, and a line is written after the columns before it;
 -- and a part of the head.
 use mathlib.Core.Bool.{cond}
 use mathlib.Core.List.{List, [], _++_}

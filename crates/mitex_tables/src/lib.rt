@@ -121,7 +121,7 @@ pub fn put_alignments(out: &mut [u8], at: usize, s: &[u8]) -> usize
     p
 }
 
-// The line behind `n` columns, if the letter is one.
+// The line after `n` columns, if the letter is one.
 fn put_vline(out: &mut [u8], at: usize, n: usize, b: u8) -> usize
     requires { ⌜ (at ≤ cap) × (length (now out) ≤ cap) ⌝ }
     ensures { λ r. ⌜ Wrote at (now (out .entry)) (vline n b) r (now (out .exit)) ⌝ }
@@ -134,7 +134,7 @@ fn put_vline(out: &mut [u8], at: usize, n: usize, b: u8) -> usize
     text::put(out, q, b"), ")
 }
 
-// All lines, each behind as many columns as stand before it.
+// All lines, each after as many columns as stand before it.
 pub fn put_vlines(out: &mut [u8], at: usize, s: &[u8]) -> usize
     requires { ⌜ (at ≤ cap) × (length (now out) ≤ cap) × (length (now s) < cap) ⌝ }
     ensures { λ r. ⌜ Wrote at (now (out .entry)) (vlines 0 (now (s .entry))) r (now (out .exit)) ⌝ }

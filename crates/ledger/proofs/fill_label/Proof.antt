@@ -21,10 +21,14 @@ slice-aggregate-put c = sym (length-take-le _ _ (omega (arith, label-long (c .be
 
 returns : tie.Need-returns
 returns c =
-    let c₁ = c .before .before in
-    let c₂ = c₁ .before .before .before .before in
-    let c₃ = c₂ .before .before .before .before .before in
-    label-filled (c₃ .args .out .now) (take (c₃ .args .len) (c₃ .args .converter .label)) (c₃ .args .len) (c₃ .pre .0) (c₃ .pre .1) (length-take-le (c₃ .args .len) (c₃ .args .converter .label) (omega (arith, label-long c₃))) (c₂ .put .ensures .over) (c₁ .clear .ensures)
+    let at-clear = c .before .before in
+    let at-put = at-clear .before .before .before .before in
+    let start = at-put .before .before .before .before .before in
+    let a = start .args in
+    let label = a .converter .label in
+    label-filled (a .out .now) (take (a .len) label) (a .len) (start .pre .0) (start .pre .1)
+    (length-take-le (a .len) label (omega (arith, label-long start)))
+    (at-put .put .ensures .over) (at-clear .clear .ensures)
 
 pub fill-label-spec : {M : Type 1} → statement M
 fill-label-spec =

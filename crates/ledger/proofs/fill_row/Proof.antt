@@ -18,7 +18,8 @@ returns c =
     let c₃ = c₂ .before .before .before .before in
     let c₄ = c₃ .before .before in
     let c₅ = c₄ .before .before in
-    row-filled (c₅ .args .row .now) (c₅ .args .end) (c₅ .args .converter) (c₅ .pre .0) (label-long c₅) (c₅ .pre .2) (c₄ .held-len .ensures .0) (c₃ .write-u32 .ensures) (c₂ .write-marks .ensures) (c₁ .fill-label .ensures)
+    row-filled (c₅ .args .row .now) (c₅ .args .end) (c₅ .args .converter) (c₅ .pre .0) (label-long c₅) (c₅ .pre .2)
+    (c₄ .held-len .ensures .0) (c₃ .write-u32 .ensures) (c₂ .write-marks .ensures) (c₁ .fill-label .ensures)
 
 pub fill-row-spec : {M : Type 1} → statement M
 fill-row-spec =

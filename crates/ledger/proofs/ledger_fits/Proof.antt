@@ -24,10 +24,23 @@ returns-2 : tie.Need-returns-2 Inv-loop μ-loop
 returns-2 c = fits-falls _ _ _ _ _ (c .before .before .before .loop .inv .2) (c .before .before .loop-test .taken) (c .before .row-end .ensures .0) (c .if2 .taken)
 
 returns-3 : tie.Need-returns-3 Inv-loop μ-loop
-returns-3 c = fits-not _ _ _ _ _ (c .before .before .before .before .before .loop .inv .2) (c .before .before .before .before .loop-test .taken) (c .before .before .before .row-end .ensures .0) (c .before .before .if2 .left) (c .before .row-fits .ensures) (c .if3 .taken)
+returns-3 c =
+    let at-row = c .before in
+    let at-end = at-row .before .before in
+    let at-loop = at-end .before .before in
+    fits-not _ _ _ _ _ (at-loop .loop .inv .2) (at-end .before .loop-test .taken) (at-end .row-end .ensures .0)
+    (at-row .before .if2 .left) (at-row .row-fits .ensures) (c .if3 .taken)
 
 loop-again : tie.Need-loop-again Inv-loop μ-loop
-loop-again c = (omega arith, omega arith, fits-next _ _ _ _ _ (c .before .before .before .before .before .loop .inv .2) (c .before .before .before .before .loop-test .taken) (c .before .before .before .row-end .ensures .0) (c .before .before .if2 .left) (c .before .row-fits .ensures) (c .if3 .left))
+loop-again c =
+    let at-row = c .before in
+    let at-end = at-row .before .before in
+    let at-loop = at-end .before .before in (
+      omega arith,
+      omega arith,
+      fits-next _ _ _ _ _ (at-loop .loop .inv .2) (at-end .before .loop-test .taken) (at-end .row-end .ensures .0)
+          (at-row .before .if2 .left) (at-row .row-fits .ensures) (c .if3 .left),
+    )
 
 returns-4 : tie.Need-returns-4 Inv-loop μ-loop
 returns-4 c = fits-last _ _ _ _ _ (c .before .loop .inv .2) (c .loop-test .left)

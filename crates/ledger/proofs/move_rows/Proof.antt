@@ -15,7 +15,12 @@ loop-holds : tie.Need-loop-holds Inv-loop μ-loop
 loop-holds c = (c .before .pre .0, moved-none _ _ _ _ (omega arith))
 
 move-row-requires : tie.Need-move-row-requires Inv-loop μ-loop
-move-row-requires c κs = (omega (arith, moved-same (c .before .before .loop .inv .1), c .before .before .before .before .pre .1), moved-movable (c .before .before .loop .inv .1) (c .before .before .before .before .pre .2 (c .before .before .loop .i) (c .before .before .loop .inv .1 .above) (c .before .loop-test .taken)))
+move-row-requires c κs =
+    let loop = c .before .before .loop in
+    let pre = c .before .before .before .before .pre in (
+      omega (arith, moved-same (loop .inv .1), pre .1),
+      moved-movable (loop .inv .1) (pre .2 (loop .i) (loop .inv .1 .above) (c .before .loop-test .taken)),
+    )
 
 loop-again : tie.Need-loop-again Inv-loop μ-loop
 loop-again c =

@@ -8,10 +8,15 @@ use Rattle.ledger.proofs.row_label.Statement.{statement}
 use Rattle.ledger.proofs.row_label.Tie as tie
 
 part-result-end : tie.Need-part-result-end
-part-result-end c = omega (arith, rowFits-marks (rowSize * c .before .before .before .args .i) (c .before .before .before .args .ledger .now) (c .before .before .before .pre .1) .short)
+part-result-end c =
+    let start = c .before .before .before in
+    omega (arith, rowFits-marks (rowSize * start .args .i) (start .args .ledger .now) (start .pre .1) .short)
 
 returns : tie.Need-returns
-returns c = label-part (c .before .before .before .before .args .i) (c .before .wide .result) (c .before .before .before .before .args .ledger .now) (c .before .wide .ensures .0) (c .before .before .before .before .pre .1)
+returns c =
+    let at-wide = c .before in
+    let start = at-wide .before .before .before in
+    label-part (start .args .i) (at-wide .wide .result) (start .args .ledger .now) (at-wide .wide .ensures .0) (start .pre .1)
 
 pub row-label-spec : {M : Type 1} → statement M
 row-label-spec =

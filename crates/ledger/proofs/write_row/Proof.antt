@@ -5,7 +5,10 @@ use Rattle.ledger.proofs.write_row.Statement.{statement}
 use Rattle.ledger.proofs.write_row.Tie as tie
 
 returns : tie.Need-returns
-returns c = row-written (c .before .before .before .before .before .args .i) (c .before .before .before .before .before .args .ledger .now) (c .before .before .before .before .before .args .end) (c .before .before .before .before .before .args .converter) (c .before .before .before .before .before .pre .0) (c .before .before .before .before .before .pre .1) (c .before .before .before .before .before .pre .2) (c .before .before .fill-row .ensures)
+returns c =
+    let start = c .before .before .before .before .before in
+    let a = start .args in
+    row-written (a .i) (a .ledger .now) (a .end) (a .converter) (start .pre .0) (start .pre .1) (start .pre .2) (c .before .before .fill-row .ensures)
 
 pub write-row-spec : {M : Type 1} → statement M
 write-row-spec =

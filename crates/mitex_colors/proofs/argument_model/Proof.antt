@@ -33,7 +33,11 @@ abbrev next :
     (c : tie.After-past-first)
     → FirstPassed (start c .args .rows .now) (start c .args .text .now) (start c .pre .begins .rest) (c .before .before .seek .result .row)
     (c .before .before .seek .result .text) (seek (isOf ClauseArgument) (rest 1 (start c .pre .forest))) (c .past-first .result)
-next c = c .past-first .ensures _ (seek (isOf ClauseArgument) (rest 1 (start c .pre .forest))) (c .before .before .seek .ensures _ (rest 1 (start c .pre .forest)) (some-left (start c .pre)) .moved .there)
+next c =
+    let given = start c .pre in
+    let children = rest 1 (given .forest) in
+    c .past-first .ensures _ (seek (isOf ClauseArgument) children)
+    (c .before .before .seek .ensures _ children (some-left given) .moved .there)
 
 sub-is-model : tie.Need-sub-is-model
 sub-is-model c = let h = next c .moved .onward in omega arith

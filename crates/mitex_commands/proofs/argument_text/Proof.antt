@@ -1,4 +1,4 @@
--- `mitex_commands::argument_text` meets its contract: the text at the place of the first argument (`place-text`).
+-- The text at the place of the first argument (`place-text`).
 use mathlib.Core.Path.{_∙_}
 use Rattle.mitex_syntax.proofs.Places.{place-text, place-inside}
 use borrow.Author.Needs.{needs}

@@ -1,4 +1,4 @@
--- `mitex_commands::arguments_of` meets its contract: by the class.
+-- By the class.
 use mathlib.Core.Path.{_∙_}
 use borrow.Author.Tests.{eq-eqb, ne-eqb}
 use Rattle.mitex_commands.proofs.Naming.{arguments-written}

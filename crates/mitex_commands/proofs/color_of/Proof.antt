@@ -1,4 +1,4 @@
--- `mitex_commands::color_of` meets its contract: the names are tried in turn.
+-- The names are tried in turn.
 use mathlib.Core.Path.{_∙_, sym}
 use Rattle.text.specs.Compare.{same}
 use borrow.Author.Needs.{needs}

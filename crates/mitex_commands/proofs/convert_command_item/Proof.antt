@@ -1,4 +1,4 @@
--- `mitex_commands::convert_command_item` meets its contract: by whether there is a mark.
+-- By whether there is a mark.
 use mathlib.Core.Path.{refl}
 use native.Mathlib.Omega.{arith}
 use Rattle.mitex_meaning.specs.State.{carryOf}

@@ -1,4 +1,4 @@
--- `mitex_commands::convert_command_label` meets its contract: by whether the label is written at once.
+-- By whether the label is written at once.
 use mathlib.Core.Path.{refl, sym, ap, _∙_}
 use mathlib.Core.List.{List}
 use Prim.Native.Nat.{ℕ}

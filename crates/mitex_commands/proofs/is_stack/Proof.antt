@@ -1,4 +1,4 @@
--- `mitex_commands::is_stack` meets its contract: by the mode, and in Text by the name.
+-- By the mode, and in Text by the name.
 use mathlib.Core.Path.{_∙_, ap, sym}
 use mathlib.Core.List.{List}
 use Prim.Native.Nat.{ℕ}

@@ -1,4 +1,4 @@
--- `mitex_commands::label_text` meets its contract: the argument's text, its ends cut, trimmed.
+-- The argument's text, its ends cut, trimmed.
 use mathlib.Core.Path.{_∙_, ap}
 use mathlib.Core.List.{List}
 use Prim.Native.Nat.{ℕ}

@@ -1,4 +1,4 @@
--- `mitex_commands::other_arguments` meets its contract: by the mode, and in Math by the first byte.
+-- By the mode, and in Math by the first byte.
 use mathlib.Core.Path.{_∙_, ap, sym}
 use mathlib.Core.Bool.{Bool, cond}
 use Rattle.mitex_meaning.specs.Commands.{otherArguments}

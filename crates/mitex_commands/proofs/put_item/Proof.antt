@@ -1,4 +1,4 @@
--- `mitex_commands::put_item` meets its contract: the four texts one after the other.
+-- The four texts one after the other.
 use mathlib.Core.Path.{ap}
 use Rattle.text.specs.Writing.{spaces}
 use Rattle.text.proofs.Writing.{wrote-as, wrote-then, wrote-room}

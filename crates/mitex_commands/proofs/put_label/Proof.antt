@@ -1,4 +1,4 @@
--- `mitex_commands::put_label` meets its contract: the three texts one after the other.
+-- The three texts one after the other.
 use Rattle.mitex_commands.proofs.Putting.{wrote-three}
 use borrow.Author.Needs.{needs}
 use Rattle.mitex_commands.proofs.put_label.Statement.{statement}

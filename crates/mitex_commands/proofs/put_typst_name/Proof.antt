@@ -1,4 +1,4 @@
--- `mitex_commands::put_typst_name` meets its contract: by the mode, and in Text by the name.
+-- By the mode, and in Text by the name.
 use mathlib.Core.Path.{_∙_, sym}
 use Rattle.text.specs.Compare.{same}
 use Rattle.text.proofs.Writing.{wrote-as}

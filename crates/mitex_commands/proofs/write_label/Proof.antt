@@ -1,4 +1,4 @@
--- `mitex_commands::write_label` meets its contract: by the mode.
+-- By the mode.
 use mathlib.Core.Path.{ap, refl}
 use Rattle.text.proofs.Writing.{wrote-nil}
 use Rattle.mitex_meaning.specs.State.{carryOf}

@@ -1,5 +1,4 @@
--- `mitex_environments::argument_at` meets its contract: where the argument stands among the caption's children, counted from the
--- figure's.
+-- Where the argument stands among the caption's children, counted from the figure's.
 use Prim.Native.Nat.{_+_}
 use native.Mathlib.Omega.{arith}
 use Rattle.mitex_syntax.specs.Syntax.{ClauseArgument}
@@ -34,46 +33,16 @@ find-kind-requires : tie.Need-find-kind-requires
 find-kind-requires c κs = children-some (c .before .before .before .before .pre)
 
 add-t24 : tie.Need-add-t24
-add-t24 c =
-    let c₁ = c .before in
-    let c₂ = c₁ .before .before .before .before .before in
-    let c₃ = c₂ .before .before in
-    let s = here (c₁) in
-    let low = s .some-rows in
-    let high = argument-high (c₃ .pre) s in
-    let few = c₃ .pre .few in
-    omega arith
+add-t24 c = let r = c .before in omega (arith, here r .some-rows, argument-high (start r .pre) (here r), start r .pre .few)
 
 add-t26 : tie.Need-add-t26
-add-t26 c =
-    let c₁ = c .before in
-    let c₂ = c₁ .before .before .before .before .before in
-    let c₃ = c₂ .before .before in
-    let s = here (c₁) in
-    let high = argument-high (c₃ .pre) s in
-    let few = c₃ .pre .few in
-    omega arith
+add-t26 c = let r = c .before in omega (arith, argument-high (start r .pre) (here r), start r .pre .few)
 
 add-t27 : tie.Need-add-t27
-add-t27 c =
-    let c₁ = c .before in
-    let c₂ = c₁ .before .before .before .before .before in
-    let c₃ = c₂ .before .before in
-    let s = here (c₁) in
-    let low = s .some-text in
-    let stop = argument-stop (c₃ .pre) s in
-    let short = c₃ .pre .short in
-    omega arith
+add-t27 c = let r = c .before in omega (arith, here r .some-text, argument-stop (start r .pre) (here r), start r .pre .short)
 
 add-t28 : tie.Need-add-t28
-add-t28 c =
-    let c₁ = c .before in
-    let c₂ = c₁ .before .before .before .before .before in
-    let c₃ = c₂ .before .before in
-    let s = here (c₁) in
-    let stop = argument-stop (c₃ .pre) s in
-    let short = c₃ .pre .short in
-    omega arith
+add-t28 c = let r = c .before in omega (arith, argument-stop (start r .pre) (here r), start r .pre .short)
 
 returns : tie.Need-returns
 returns c =

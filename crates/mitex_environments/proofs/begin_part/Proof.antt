@@ -1,4 +1,4 @@
--- `mitex_environments::begin_part` meets its contract: where the first ItemBegin stands its children begin a row further on (`begin-found`).
+-- Where the first ItemBegin stands its children begin a row further on (`begin-found`).
 use native.Mathlib.Omega.{arith}
 use Rattle.mitex_syntax.proofs.Trees.{all-begins}
 use Rattle.mitex_syntax.proofs.Places.{stands, nowhere}

@@ -1,4 +1,4 @@
--- `mitex_environments::caption_at` meets its contract: by whether the child is a caption.
+-- By whether the child is a caption.
 use Prim.Native.Nat.{_+_}
 use Rattle.mitex_environments.proofs.Captioning.{caption-shows, other-shows}
 use borrow.Author.Needs.{needs}

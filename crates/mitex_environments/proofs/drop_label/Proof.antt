@@ -1,4 +1,4 @@
--- `mitex_environments::drop_label` meets its contract: what is held is written, and then no label is held.
+-- What is held is written, and then no label is held.
 use Rattle.mitex_environments.proofs.Taking.{takes-dropped}
 use borrow.Author.Needs.{needs}
 use Rattle.mitex_environments.proofs.drop_label.Statement.{statement}

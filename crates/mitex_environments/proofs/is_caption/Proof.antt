@@ -1,4 +1,4 @@
--- `mitex_environments::is_caption` meets its contract: by the kind, and then by the name.
+-- By the kind, and then by the name.
 use mathlib.Core.Path.{_∙_, ap, sym}
 use mathlib.Core.List.{List}
 use Prim.Native.Nat.{ℕ}

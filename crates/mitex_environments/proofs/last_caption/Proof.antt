@@ -1,5 +1,5 @@
--- `mitex_environments::last_caption` meets its contract. The loop's invariant (`Rest`): the caption so far, joined with that of the
--- children that are left, is that of all; the measure is the rows left.
+-- The loop's invariant (`Rest`): the caption so far, joined with that of the children that are left, is that of all; the measure is
+-- the rows left.
 use Prim.Native.Nat.{_+_, _-_, _≤_}
 use native.Mathlib.Omega.{arith}
 use lib.ListN.{length}

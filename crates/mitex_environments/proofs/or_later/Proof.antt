@@ -1,4 +1,4 @@
--- `mitex_environments::or_later` meets its contract: each pair of captions is computed.
+-- Each pair of captions is computed.
 use mathlib.Core.Path.{ap, sym}
 use Rattle.mitex_meaning.specs.declared.CaptionPart.{CaptionPart}
 use Rattle.mitex_environments.specs.Captions.{laterPart}

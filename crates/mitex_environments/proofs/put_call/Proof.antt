@@ -1,4 +1,4 @@
--- `mitex_environments::put_call` meets its contract: the three texts one after the other.
+-- The three texts one after the other.
 use Rattle.mitex_commands.proofs.Putting.{wrote-three}
 use borrow.Author.Needs.{needs}
 use Rattle.mitex_environments.proofs.put_call.Statement.{statement}

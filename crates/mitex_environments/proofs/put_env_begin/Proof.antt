@@ -1,4 +1,4 @@
--- `mitex_environments::put_env_begin` meets its contract: by whether the environment is a normal one.
+-- By whether the environment is a normal one.
 use mathlib.Core.Path.{sym}
 use Rattle.text.proofs.Writing.{wrote-as, wrote-nil}
 use Rattle.mitex_environments.proofs.Ends.{begin-plain, begin-other}

@@ -1,4 +1,4 @@
--- `mitex_environments::put_held` meets its contract: by whether a label is held; its bytes are the first of the array.
+-- By whether a label is held; its bytes are the first of the array.
 use mathlib.Core.Path.{_∙_, sym}
 use native.Mathlib.Omega.{arith}
 use lib.ListN.{length-map}

@@ -1,5 +1,4 @@
--- `mitex_environments::table_argument` meets its contract: the first argument under what `begin` found, whose children the part spells
--- (`found-children`).
+-- The first argument under what `begin` found, whose children the part spells (`found-children`).
 use mathlib.Core.Path.{_∙_, ap, sym}
 use mathlib.Core.Option.{Option}
 use native.Mathlib.Omega.{arith}
@@ -53,7 +52,10 @@ argument-text-requires c κs =
 
 returns : tie.Need-returns
 unfolding firstBy
-returns c = λ f sp. ap (λ (o : Option Tree). textIn (firstOf ClauseArgument (childrenIn o))) (sym (nowhere (c .before .before .before .begin .ensures f (all-begins sp)) (c .before .enum-told .given .1)))
+returns c =
+    λ f sp.
+    ap (λ (o : Option Tree). textIn (firstOf ClauseArgument (childrenIn o)))
+    (sym (nowhere (c .before .before .before .begin .ensures f (all-begins sp)) (c .before .enum-told .given .1)))
 
 returns-2 : tie.Need-returns-2
 returns-2 c =

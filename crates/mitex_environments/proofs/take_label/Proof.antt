@@ -1,4 +1,4 @@
--- `mitex_environments::take_label` meets its contract: only in Text, and where it is no list, the label is taken.
+-- Only in Text, and where it is no list, the label is taken.
 use Rattle.mitex_environments.proofs.Taking.{takes-refused, takes-list, takes-math, takes-as}
 use borrow.Author.Needs.{needs}
 use Rattle.mitex_environments.proofs.take_label.Statement.{statement}

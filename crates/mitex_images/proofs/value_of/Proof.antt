@@ -1,4 +1,4 @@
--- `value_of`: what stands behind the first `=` is the value, if no other is there.
+-- `value_of`: what stands after the first `=` is the value, if no other is there.
 use mathlib.Core.Path.{_≡_, ap, _∙_}
 use Prim.Native.Nat.{_+_, _-_}
 use native.Mathlib.Omega.{arith}

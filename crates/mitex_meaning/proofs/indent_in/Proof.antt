@@ -1,5 +1,5 @@
--- `mitex_meaning::indent_in` meets its contract: a walk of its code. The converter is copied into a local, which is lent to `enter_env`
--- and to `exit_env`; between the calls and after them its indent is read. What is entered and left again has the indent of before.
+-- A walk of the code: the converter is copied into a local, which is lent to `enter_env` and to `exit_env`; between the calls and
+-- after them its indent is read. What is entered and left again has the indent of before.
 use Prim.Native.Nat.{ℕ, _-_, _<_, _≤_, _^_}
 use mathlib.Core.Path.{_≡_, refl, sym, ap, subst, _∙_}
 use mathlib.Core.List.{[], _∷_}

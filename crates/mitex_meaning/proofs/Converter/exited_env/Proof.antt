@@ -1,4 +1,4 @@
--- `mitex_meaning::Converter::exited_env` meets its contract: what `step_of` returns goes out of the record.
+-- What `step_of` returns goes out of the record.
 use Prim.Native.Nat.{ℕ, _-_}
 use mathlib.Core.Path.{ap}
 use borrow.Author.Needs.{needs}

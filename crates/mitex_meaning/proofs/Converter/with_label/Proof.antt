@@ -1,6 +1,6 @@
 -- The loop's invariant: the first i bytes of the text are written over the array as it was.
 use lib.ListN.{length-map, length-set, length}
-use Rattle.mitex_meaning.proofs.Holding.{over, held-more, held-all}
+use Rattle.mitex_meaning.proofs.Holding.{overlaid, held-more, held-all}
 use native.Mathlib.Omega.{arith}
 use Prim.Native.Nat.{_≤_, _-_}
 use borrow.Author.Needs.{needs}
@@ -11,7 +11,7 @@ use Rattle.mitex_meaning.proofs.Converter.with_label.Statement.{stateme
 use Rattle.mitex_meaning.proofs.Converter.with_label.Tie as tie
 
 abbrev Inv-loop : tie.InvT-loop
-Inv-loop self s label₀ i₀ label i = (i ≤ length s) × (label ≡ over (self .label) s i) × (length label ≡ labelMost)
+Inv-loop self s label₀ i₀ label i = (i ≤ length s) × (label ≡ overlaid (self .label) s i) × (length label ≡ labelMost)
 
 abbrev μ-loop : tie.MeasureT-loop
 μ-loop self s label₀ i₀ label i = length s - i
