@@ -16,8 +16,6 @@ ghost use Rattle.text.specs.Writing.{cap};
 ghost use Rattle.mitex_spec.specs.RuleFile.{rulesOf};
 ghost use Rattle.mitex_spec.specs.Index.{indexSize};
 ghost use Rattle.tree_file.specs.Check.{checkTree, checkedAnswer};
-ghost use Rattle.mitex_meaning.specs.State.{newOf, Carried};
-ghost use Rattle.mitex_meaning.specs.Conversion.{startCarry};
 ghost use Rattle.ledger.specs.Ledger.{rowSize, HasRow, RowFits};
 ghost use Rattle.edit_meaning.specs.Edit.{textMost, roomForText, editFits};
 ghost use Rattle.edit_meaning.specs.Run.{sizeAfter};
@@ -143,13 +141,6 @@ fn block_rows(tree: &[u8], start: usize) -> &[u8]
 
 // ---- what Convert and Edit share
 
-// A new converter past the root: its flag is cleared.
-fn opening(mode: LaTeXMode) -> Converter
-    ensures { λ r. ⌜ Carried (newOf mode) startCarry r ⌝ }
-{
-    Converter::new(mode).with_flag(false)
-}
-
 // The text buffer as far as it counts.
 fn text_room(out: &[u8]) -> usize
     ensures { λ r. ⌜ r ≡ min (length (now (out .entry))) textMost ⌝ }
@@ -218,7 +209,7 @@ fn convert_by_draft<'a>(
     requires { ⌜ (length (now draft) ≤ cap) × (rowSize * blocks ≤ length (now «draft_rows»)) ⌝ }
     ensures { λ r. ⌜ ConvertsBlocks (now (rules .entry)) (now (index .entry)) (now (rows .entry)) (now (text .entry)) mode blocks (now (out .entry)) (now (ledger .entry)) r (now (out .exit)) (now (ledger .exit)) ⌝ }
 {
-    let from = passes::stand_at(rows, 0, 0, opening(mode));
+    let from = passes::stand_at(rows, 0, 0, Converter::opening(mode));
     let m = passes::draft_blocks(draft, draft_rows, rows, text, rules, index, from, blocks);
     let whole = m.walked;
     let number = whole.refusal;
@@ -408,9 +399,9 @@ fn carry_before(ledger: &[u8], k: usize, mode: LaTeXMode) -> Converter
     ensures { λ r. ⌜ CarriesBefore (now (ledger .entry)) k mode r ⌝ }
 {
     if k == 0 {
-        return opening(mode);
+        return Converter::opening(mode);
     }
-    ledger::row_carry(ledger, k - 1, opening(mode))
+    ledger::row_carry(ledger, k - 1, Converter::opening(mode))
 }
 
 // Refusal 6: whether the block exists, the kept text is in the buffer, and the ledger fits.

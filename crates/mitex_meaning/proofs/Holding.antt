@@ -10,9 +10,11 @@ use lib.ListN.{length, take, drop, set, getD}
 use lib.Seq.{take-suc, take-at, take-length, drop-cons, set-at, append-snoc, length-take-le}
 use Rattle.mitex_meaning.specs.Outcome.{Label, Carry, flagged, labelled, labelMost}
 use Rattle.mitex_meaning.specs.Outcome.Label.{unheld, held}
-use Rattle.mitex_meaning.specs.State.{carryOf, withFlag, withoutLabel, withLabel, loaded, withHeld, withCarry, Carried}
+use Rattle.mitex_meaning.specs.State.{carryOf, newOf, withFlag, openingOf, withoutLabel, withLabel, loaded, withHeld, withCarry, Carried}
 use Rattle.mitex_meaning.specs.Contract.{Went, wentWith}
 use Rattle.mitex_meaning.specs.Keeping.{Short}
+use Rattle.mitex_meaning.specs.Conversion.{startCarry}
+use Rattle.mitex_meaning.specs.declared.LaTeXMode.{LaTeXMode}
 use Rattle.mitex_meaning.specs.declared.Converter.{Converter}
 use Rattle.mitex_meaning.specs.declared.Walked.{Walked}
 
@@ -77,3 +79,7 @@ carry-says c {r} e h q = on (e .label) h q
 
 pub went-says : {c : Converter} {at : ℕ} {a : Walked} → a ≡ wentWith c at → Went c at a
 went-says {c} {at} e = subst (Went c at) (sym e) (record { gives = refl; next = refl; well = refl })
+
+-- the carry that a document starts with
+pub opening-says : {m : LaTeXMode} {r : Converter} → r ≡ openingOf m → Carried (newOf m) startCarry r
+opening-says {m} e = flag-says (newOf m) e

@@ -78,6 +78,10 @@ loaded l n h b c =
 abbrev pub withFlag : Bool → Converter → Converter
 withFlag b c = loaded (c .label) (c .«label_len») (c .«label_held») b c
 
+-- a new converter past the root
+abbrev pub openingOf : LaTeXMode → Converter
+openingOf m = withFlag false (newOf m)
+
 abbrev pub withoutLabel : Converter → Converter
 withoutLabel c = loaded (c .label) 0 false (c .«skip_next_space») c
 

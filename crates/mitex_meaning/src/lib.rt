@@ -3,7 +3,7 @@ ghost use mathlib.Core.Path.{_≡_};
 ghost use Prim.Native.Nat.{_+_, _<_, _≤_, _^_};
 ghost use lib.ListN.{length};
 ghost use Rattle.mitex_meaning.specs.Outcome.{labelMost, stepOf};
-ghost use Rattle.mitex_meaning.specs.State.{newOf, withMode, enteredEnv, exitedEnv, withFlag, withLabel, withoutLabel};
+ghost use Rattle.mitex_meaning.specs.State.{newOf, openingOf, withMode, enteredEnv, exitedEnv, withFlag, withLabel, withoutLabel};
 ghost use Rattle.mitex_meaning.specs.Contract.{wentWith, refusedWith};
 
 // The mode of the text that is written.
@@ -310,6 +310,13 @@ impl Converter {
             skip_next_space: flag,
             ..self
         }
+    }
+
+    // A new converter past the root, which clears the flag: so a space that begins a document is written.
+    pub fn opening(mode: LaTeXMode) -> Converter
+        ensures { λ r. ⌜ r ≡ openingOf mode ⌝ }
+    {
+        Converter::new(mode).with_flag(false)
     }
 
     // With no label held.

@@ -7,7 +7,7 @@ use borrow.Author.Needs.{needs}
 use Rattle.mitex_meaning.specs.Outcome.{Carry}
 use Rattle.mitex_meaning.specs.State.{newOf, Carried}
 use Rattle.mitex_meaning.specs.declared.Converter.{Converter}
-use Rattle.mitex_meaning.proofs.Holding.{carry-says}
+use Rattle.mitex_meaning.proofs.Holding.{opening-says, carry-says}
 use Rattle.ledger.specs.Ledger.{rowAt, decodeRows}
 use Rattle.ledger.proofs.Reading.{rowAt-short}
 use Rattle.edit_meaning.specs.Edit.{carryBefore}
@@ -36,7 +36,7 @@ returns c =
     let s = c .before .before .before in
     λ n h.
     subst (λ (k : ℕ). Carried (newOf (s .args .mode)) (carryBefore k (decodeRows n (s .args .ledger .now))) (c .opening .result))
-    (sym (c .before .if1 .taken)) (c .opening .ensures)
+    (sym (c .before .if1 .taken)) (opening-says (c .opening .ensures))
 
 row-carry-requires : tie.Need-row-carry-requires
 row-carry-requires c κs = let d = c .before in d .before .before .pre (omega (arith, d .if1 .left))
@@ -49,7 +49,7 @@ returns-2 c =
     λ n h.
     subst (λ (e : Carry). Carried (newOf (s .args .mode)) e (c .row-carry .result))
     (row-before (s .args .k) n (s .args .ledger .now) (d .if1 .left) h)
-    (carried-on (c .before .opening2 .ensures)
+    (carried-on (opening-says (c .before .opening2 .ensures))
     (carry-says (c .before .opening2 .result) _ (rowAt-short (s .args .k - 1) (s .args .ledger .now) (fits .1)) (c .row-carry .ensures)))
 
 pub carry-before-spec : {M : Type 1} → statement M

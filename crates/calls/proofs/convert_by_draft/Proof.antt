@@ -7,6 +7,7 @@ use borrow.Author.Needs.{needs}
 use borrow.Author.Tests.{not-true, not-false}
 use lib.ListN.{length}
 use lib.Seq.{length-take-le}
+use Rattle.mitex_meaning.proofs.Holding.{opening-says}
 use Rattle.edit_meaning.specs.Edit.{textMost}
 use Rattle.passes.specs.Passes.{Stood}
 use Rattle.calls.specs.Calls.{Document}
@@ -36,7 +37,7 @@ from c = c .before .before .before
 here :
     (c : tie.After-draft-blocks) (w : Given (start (from c)))
     → DraftPassed w (start (from c) .args .mode) (from c .stand-at .result) (c .draft-blocks .result)
-here c w = passed w (stood (from c) w) (from c .before .opening .ensures) (c .draft-blocks .ensures .0)
+here c w = passed w (stood (from c) w) (opening-says (from c .before .opening .ensures)) (c .draft-blocks .ensures .0)
 
 -- after the draft, where the room is known
 abbrev measured : tie.After-has-room → tie.After-draft-blocks
@@ -68,7 +69,7 @@ draft-blocks-requires : tie.Need-draft-blocks-requires
 draft-blocks-requires c κs =
     let d = c .before .before in
     let w = start d .pre .0 in
-    (begin w (stood d w) (d .before .opening .ensures) (omega arith) (omega arith), start d .pre .1)
+    (begin w (stood d w) (opening-says (d .before .opening .ensures)) (omega arith) (omega arith), start d .pre .1)
 
 returns : tie.Need-returns
 returns c = let d = measured (c .before) in λ w. settled-refused w (here d w) _ _ (c .if1 .taken)
