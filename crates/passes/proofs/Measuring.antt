@@ -157,8 +157,8 @@ module _ {rules index rows text : List ℕ} {s : Standing} {n : ℕ} (w : Blocks
       pub label-short : r .walked .converter .«label_len» ≤ labelMost
       label-short = fine (w .given) tree others (here .1 .1) stepped z .short
 
-      abbrev onward : BlocksUpTo rules index rows text r n
-      onward =
+      abbrev next-given : BlocksUpTo rules index rows text r n
+      next-given =
           record {
             given = onward (w .given) tree others (here .1 .1) stepped z;
             many = omega (arith, w .many, one-more, ap count (here .1 .1), count-more tree others);
@@ -190,7 +190,7 @@ module _ {rules index rows text : List ℕ} {s : Standing} {n : ℕ} (w : Blocks
       came-declined z = subst (Came s r) (sym walk-turn) (came-refused edits carry rest (stepped .agrees) z)
 
       module _ (z : r .walked .refusal ≡ 0) where
-        rest-after : rest (carryOf (r .walked .converter)) ≡ walkFrom (onward z) edits kept
+        rest-after : rest (carryOf (r .walked .converter)) ≡ walkFrom (next-given z) edits kept
         rest-after =
             let mode = sym (same-mode (w .given) tree others (here .1 .1) stepped z) in
             let row = sym (stepped .row) in
@@ -201,7 +201,7 @@ module _ {rules index rows text : List ℕ} {s : Standing} {n : ℕ} (w : Blocks
         -- b is the answer of the test after the block
         came-turn :
             {b : Bool} {q : Standing} → b ≡ edits && sameCarry (carryOf (r .walked .converter)) carry
-            → Came r q (cond b (pieces []) (walkFrom (onward z) edits kept)) → Came s q (walkFrom w edits kept)
+            → Came r q (cond b (pieces []) (walkFrom (next-given z) edits kept)) → Came s q (walkFrom w edits kept)
         came-turn {q = q} is m =
             subst (Came s q) (sym walk-turn)
             (came-after edits carry rest (stepped .agrees) z one-more
@@ -225,7 +225,7 @@ module _ {rules index rows text : List ℕ} {from s : Standing} {n : ℕ} {w : B
 
     module _ (z : r .walked .refusal ≡ 0) (b : Bool) (is : b ≡ meets edits (from .block) r kept) where
       abbrev next-whole : BlocksUpTo rules index rows text r n
-      next-whole = onward (p .whole) h passes z
+      next-whole = next-given (p .whole) h passes z
 
       -- the block passed is one after the start, and its kept row the one before
       is-met : b ≡ edits && sameCarry (carryOf (r .walked .converter)) ((rowAt (s .block) kept) .carry)
