@@ -38,7 +38,7 @@ numberSpelt (x ∷ l) = numberFrom 0 (x ∷ l)
 
 -- ---- the line
 
--- the part before the first byte b, and the part behind it
+-- the part before the first byte b, and the part after it
 abbrev pub partBefore : ℕ → List ℕ → List ℕ
 partBefore b l = take (indexOf b l) l
 

@@ -155,7 +155,9 @@ pub tabled-start : (rs : List Rule) (index : List ℕ) → take (length rs) inde
 tabled-start rs index h = record { holds = h; low = omega arith; still = refl }
 
 module _ {rs : List Rule} {index₀ index : List ℕ} {b k : ℕ} (s : Tabled rs index₀ index b k) where
-  store-next : (n : ℕ) → 257 - b ≡ suc n → sets index₀ firstsAt (firsts rs) ≡ sets (set index (firstsAt + b) (firstsBelow b rs)) (firstsAt + (b + 1)) (firstsFrom (b + 1) n rs)
+  store-next :
+      (n : ℕ) → 257 - b ≡ suc n
+      → sets index₀ firstsAt (firsts rs) ≡ sets (set index (firstsAt + b) (firstsBelow b rs)) (firstsAt + (b + 1)) (firstsFrom (b + 1) n rs)
   unfolding firstsFrom
   store-next n e =
       s .still

@@ -1,4 +1,4 @@
--- The index of a rule file: for each rule where its name begins in the file, and behind these the table of first bytes, which
+-- The index of a rule file: for each rule where its name begins in the file, and after these the table of first bytes, which
 -- says for each byte how many names begin with a lower one. A rule's row and its name are then found by the rule's number, and
 -- a name by halving the rules whose names begin as it does.
 use mathlib.Core.Path.{_≡_}

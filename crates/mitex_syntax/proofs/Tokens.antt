@@ -207,7 +207,7 @@ module _ {f : Forest} {rows text : List ℕ} {i j : ℕ} (w : Lasts f rows text 
     unfolding rowsOf
     rows-last = begins-last .rows-are
 
-    -- nothing is left behind the last
+    -- nothing is left after the last
     alone : i + 8 * size (last-element .tree) ≡ length rows → last-element .others ≡ none
     alone q =
         let l = length-drop i rows in

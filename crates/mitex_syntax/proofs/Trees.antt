@@ -296,7 +296,7 @@ module _ {forest : Forest} {rows text : List ℕ} {i j : ℕ} (x : Element fores
     text-past : drop (length (textOf (x .tree))) (drop j text) ≡ drop (j + n) text
     text-past = drop-drop (length (textOf (x .tree))) j text ∙ ap (λ (m : ℕ). drop (j + m) text) (sym text-n)
 
-    -- the elements behind it
+    -- the elements after it
     pub past : Begins (x .others) (drop (i + e) rows) (drop (j + n) text)
     past =
         subst (λ (l : List ℕ). Begins (x .others) l (drop (j + n) text)) rows-past

@@ -9,7 +9,8 @@ ghost use Rattle.utf8.specs.Trim.{trim};
 ghost use Rattle.mitex_syntax.specs.Syntax.{ItemBegin, isTrivia, isToken, isNode};
 ghost use Rattle.mitex_syntax.specs.Tree.{Tree, Forest, rowsOf, rowsOfs};
 ghost use Rattle.mitex_syntax.specs.Rows.{numOf, extentOf, tokenAt, tokenSum, Spans};
-ghost use Rattle.mitex_syntax.specs.Views.{isOf, isArgumentWith, firstNode, kindIn, cmdName, firstTokens, lastTokens, envName, isTokenOf, isInline, isPair, dollarEnds, mathEnds, isValid, inner};
+ghost use Rattle.mitex_syntax.specs.Views.{isOf, isArgumentWith, firstNode, kindIn, cmdName, firstTokens, lastTokens};
+ghost use Rattle.mitex_syntax.specs.Views.{envName, isTokenOf, isInline, isPair, dollarEnds, mathEnds, isValid, inner};
 ghost use Rattle.mitex_syntax.specs.Spells.{Begins, SomeRows, SomeElement, SomeForest};
 ghost use Rattle.mitex_syntax.specs.Places.{picks, FindsPlace, InText, partAt, TokenIs, TokenInText, Hops};
 

@@ -82,10 +82,13 @@ pub record Read (rows text : List ℕ) (ls : List Line) : Type 0 where
   pub text-is : text ≡ textsIn ls
   pub fit : LinesFit ls
 
-same-rows : (rows : List ℕ) (m n : ℕ) (r : List ℕ) → Bytes rows → 8 ≤ length rows → getD rows 1 0 ≡ m → getD rows 2 0 ≡ 0 → getD rows 3 0 ≡ 0 → n ≡ fourAt 4 rows → drop 8 rows ≡ r
+same-rows :
+    (rows : List ℕ) (m n : ℕ) (r : List ℕ) → Bytes rows → 8 ≤ length rows → getD rows 1 0 ≡ m → getD rows 2 0 ≡ 0 → getD rows 3 0 ≡ 0
+    → n ≡ fourAt 4 rows → drop 8 rows ≡ r
     → rows ≡ getD rows 0 0 ∷ m ∷ 0 ∷ 0 ∷ four n r
 same-rows rows m n r by h a b c d e =
-    let f : four (fourAt 4 rows) r ≡ getD rows 4 0 ∷ getD rows 5 0 ∷ getD rows 6 0 ∷ getD rows 7 0 ∷ r = four-of (getD rows 4 0) (getD rows 5 0) (getD rows 6 0) (getD rows 7 0) r (by 4) (by 5) (by 6) (by 7) in
+    let f : four (fourAt 4 rows) r ≡ getD rows 4 0 ∷ getD rows 5 0 ∷ getD rows 6 0 ∷ getD rows 7 0 ∷ r =
+    four-of (getD rows 4 0) (getD rows 5 0) (getD rows 6 0) (getD rows 7 0) r (by 4) (by 5) (by 6) (by 7) in
     let g : four n r ≡ four (fourAt 4 rows) r = ap (λ x. four x r) d in
     let q = eight rows h in
     q
@@ -98,7 +101,9 @@ same-rows rows m n r by h a b c d e =
 num-low : (rows : List ℕ) → Bytes rows → fourAt 4 rows < cap
 num-low rows by = four-low (getD rows 4 0) (getD rows 5 0) (getD rows 6 0) (getD rows 7 0) (by 4) (by 5) (by 6) (by 7)
 
-lines-token : (rows text : List ℕ) (m : ℕ) (ms : List Line) → Bytes rows → 8 ≤ length rows → IsToken rows text m → Read (drop 8 rows) (drop m text) ms → Read rows text (tok (getD rows 0 0) (take m text) ∷ ms)
+lines-token :
+    (rows text : List ℕ) (m : ℕ) (ms : List Line) → Bytes rows → 8 ≤ length rows → IsToken rows text m → Read (drop 8 rows) (drop m text) ms
+    → Read rows text (tok (getD rows 0 0) (take m text) ∷ ms)
 unfolding bytesOf textsIn LinesFit
 lines-token rows text m ms by h i r =
     let lt : length (take m text) ≡ m = length-take m text ∙ (let q = i .room in omega arith) in
@@ -108,7 +113,9 @@ lines-token rows text m ms by h i r =
       fit = (i .fits, subst (λ x. x < cap) (sym (lt ∙ i .number)) (num-low rows by), r .fit);
     }
 
-lines-node : (rows text : List ℕ) (m : ℕ) (ms : List Line) → Bytes rows → 8 ≤ length rows → IsNode rows m → Read (drop 8 rows) text ms → Read rows text (nod (getD rows 0 0) m ∷ ms)
+lines-node :
+    (rows text : List ℕ) (m : ℕ) (ms : List Line) → Bytes rows → 8 ≤ length rows → IsNode rows m → Read (drop 8 rows) text ms
+    → Read rows text (nod (getD rows 0 0) m ∷ ms)
 unfolding bytesOf textsIn LinesFit
 lines-node rows text m ms by h i r =
     record {

@@ -1,4 +1,4 @@
--- The scan for shape goes row by row. Behind the row of a node come the rows under it and then those of the elements behind it,
+-- The scan for shape goes row by row. After the row of a node come the rows under it and then those of the elements after it,
 -- which are elements side by side (`opened`); and what is above a row counts only where it is an ItemBegin or ItemEnd.
 use mathlib.Core.Path.{_≡_, refl, sym, ap, subst, _∙_}
 use mathlib.Core.Bool.{Bool, true, false, _&&_, _||_, cond, true≢false}
@@ -82,7 +82,7 @@ not-frames up row h (more (node k g) f) = ap (orElse (lowest 0 row (node k g))) 
 
 -- ---- the row that stands first
 
--- the elements behind its row
+-- the elements after its row
 abbrev opened : Tree → Forest → Forest
 opened (token k s) f = f
 opened (node k g) f = join g f
