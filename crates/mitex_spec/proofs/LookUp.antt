@@ -23,7 +23,7 @@ use Rattle.mitex_spec.specs.Index.{offsetsFrom, ruleNo, rankOf, SomeRule
 use Rattle.mitex_spec.specs.LookUp.{aliasOf, ruleOf, endOf, isCmd, Finds}
 use Rattle.mitex_spec.specs.declared.Found.{Found}
 use Rattle.mitex_spec.specs.declared.Found.the-variants.{Absent, Plain, Aliased}
-use Rattle.mitex_spec.proofs.RuleFile.{ruleRow-reads, length-rows, file-rules}
+use Rattle.mitex_spec.proofs.RuleFile.{ruleRow-reads, length-rowsOfRules, file-rules}
 use Rattle.mitex_spec.proofs.Firsts.{rank-cons}
 use Rattle.mitex_spec.proofs.Index.{length-offsets, rules-one}
 
@@ -157,7 +157,7 @@ module _ (before : List Rule) (r : Rule) (others : List Rule) (tail : List ℕ) 
       drop-append-add (textOfRules all) (rowsOfRules all ++ tail) (8 * length before)
       ∙ ap (λ l. drop (8 * length before) (l ++ tail)) (rows-append before (r ∷ others))
       ∙ ap (drop (8 * length before)) (append-assoc (rowsOfRules before) (ruleRow r (rowsOfRules others)) tail)
-      ∙ drop-at (rowsOfRules before) (ruleRow r (rowsOfRules others) ++ tail) (8 * length before) (length-rows before)
+      ∙ drop-at (rowsOfRules before) (ruleRow r (rowsOfRules others) ++ tail) (8 * length before) (length-rowsOfRules before)
 
   text-all : textOfRules all ≡ textOfRules before ++ (ruleText r ++ textOfRules others)
   unfolding textOfRules

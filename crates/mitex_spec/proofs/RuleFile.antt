@@ -206,10 +206,10 @@ rulesIn-says (suc n) rows text rs by l e =
 
 -- ---- the file
 
-pub length-rows : (rs : List Rule) → length (rowsOfRules rs) ≡ 8 * length rs
+pub length-rowsOfRules : (rs : List Rule) → length (rowsOfRules rs) ≡ 8 * length rs
 unfolding rowsOfRules
-length-rows [] = refl
-length-rows (r ∷ rs) = let e = length-rows rs in omega arith
+length-rowsOfRules [] = refl
+length-rowsOfRules (r ∷ rs) = let e = length-rowsOfRules rs in omega arith
 
 pub rules-whole : (file : List ℕ) → Trailed file → rulesOf file ≡ rising (rulesIn (countOf file) (rowArea file) (textArea file))
 unfolding rulesOf
@@ -233,7 +233,7 @@ rules-file rs fit up short =
     let rows = rowsOfRules rs in
     let n = length rs in
     let f = laidOut n text rows in
-    let l = length-rows rs in
+    let l = length-rowsOfRules rs in
     let t : textArea f ≡ text = laid-text n text rows l short in
     rules-whole f (laid-trailed n text rows l short)
     ∙ ap (λ x. rising (rulesIn (countOf f) (rowArea f) x)) t

@@ -11,7 +11,7 @@ ghost use Rattle.text.specs.Trailer.{fileMost};
 ghost use Rattle.utf8.specs.Utf8.{oneByteEach};
 ghost use Rattle.mitex_spec.specs.Rules.{Rule, get, getCmd, getEnv, aliasOr};
 ghost use Rattle.mitex_spec.specs.RuleFile.{rulesOf, rulesIn, rising, padded, ruleRowFits, aliasLength, ruleTaken};
-ghost use Rattle.mitex_spec.specs.Index.{startsFrom, firstsAt, indexSize, firstOf, firstsBelow, firsts, accepted};
+ghost use Rattle.mitex_spec.specs.Index.{startsFrom, firstsAt, indexSize, firstByte, firstsBelow, firsts, accepted};
 ghost use Rattle.mitex_spec.specs.Index.{ChecksRules, ruleNo, rankOf, Numbered, SomeRule, SomeRules};
 ghost use Rattle.mitex_spec.specs.LookUp.{aliasOf, endOf, isCmd, Finds, Answers};
 ghost use Rattle.mitex_spec.specs.declared.Found.the-variants.{Absent};
@@ -180,7 +180,7 @@ fn name_at<'a, 'b>(file: &'a [u8], index: &'b [u32], k: usize) -> &'a [u8]
 
 // The first byte of a name; 0 for the empty name.
 fn first_byte(name: &[u8]) -> usize
-    ensures { λ r. ⌜ (r ≡ firstOf (now (name .entry))) × (r < 256) ⌝ }
+    ensures { λ r. ⌜ (r ≡ firstByte (now (name .entry))) × (r < 256) ⌝ }
 {
     if name.len() == 0 {
         return 0;

@@ -46,10 +46,10 @@ bytes-append [] ys = refl
 bytes-append (tok k s ∷ xs) ys = ap (λ l. k ∷ 1 ∷ 0 ∷ 0 ∷ four (length s) l) (bytes-append xs ys)
 bytes-append (nod k n ∷ xs) ys = ap (λ l. k ∷ 0 ∷ 0 ∷ 0 ∷ four n l) (bytes-append xs ys)
 
-pub bytes-one : (l : Line) (ls : List Line) → drop 8 (bytesOf (l ∷ ls)) ≡ bytesOf ls
+pub lines-one : (l : Line) (ls : List Line) → drop 8 (bytesOf (l ∷ ls)) ≡ bytesOf ls
 unfolding bytesOf
-bytes-one (tok k s) ls = refl
-bytes-one (nod k n) ls = refl
+lines-one (tok k s) ls = refl
+lines-one (nod k n) ls = refl
 
 pub under-is : (l : Line) (ls : List Line) → LinesFit (l ∷ ls) → underOf (bytesOf (l ∷ ls)) ≡ below l
 unfolding bytesOf LinesFit
@@ -60,14 +60,14 @@ module _ (ls : List Line) (n : ℕ) (le : n ≤ length ls) where
   cut-length : length (take n ls) ≡ n
   cut-length = length-take n ls ∙ omega arith
 
-  pub bytes-take : take (8 * n) (bytesOf ls) ≡ bytesOf (take n ls)
-  bytes-take =
+  pub lines-take : take (8 * n) (bytesOf ls) ≡ bytesOf (take n ls)
+  lines-take =
       ap (λ l. take (8 * n) (bytesOf l)) (sym (take-append-drop n ls))
       ∙ ap (take (8 * n)) (bytes-append (take n ls) (drop n ls))
       ∙ take-at (bytesOf (take n ls)) (bytesOf (drop n ls)) (8 * n) (length-bytes (take n ls) ∙ omega (arith, cut-length))
 
-  pub bytes-past : drop (8 * n) (bytesOf ls) ≡ bytesOf (drop n ls)
-  bytes-past =
+  pub lines-past : drop (8 * n) (bytesOf ls) ≡ bytesOf (drop n ls)
+  lines-past =
       ap (λ l. drop (8 * n) (bytesOf l)) (sym (take-append-drop n ls))
       ∙ ap (drop (8 * n)) (bytes-append (take n ls) (drop n ls))
       ∙ drop-at (bytesOf (take n ls)) (bytesOf (drop n ls)) (8 * n) (length-bytes (take n ls) ∙ omega (arith, cut-length))
@@ -193,7 +193,7 @@ pub at-child :
 at-child {ls} {left} {rest} {n} a h =
     let l = a .long in
     ap (λ k. take k (drop 8 rest)) (let e : 8 + 8 * n - 8 ≡ 8 * n = omega arith in e)
-    ∙ ap (λ r. take (8 * n) (drop 8 r)) (a .spelt) ∙ ap (take (8 * n)) (bytes-one (a .line) (a .ns)) ∙ bytes-take (a .ns) n (omega arith)
+    ∙ ap (λ r. take (8 * n) (drop 8 r)) (a .spelt) ∙ ap (take (8 * n)) (lines-one (a .line) (a .ns)) ∙ lines-take (a .ns) n (omega arith)
 
 pub at-past :
     {ls : List Line} {left : ℕ} {rest : List ℕ} {n : ℕ} → (a : At ls left rest n) → 8 + 8 * n ≤ length rest
@@ -202,8 +202,8 @@ at-past {ls} {left} {rest} {n} a h =
     let l = a .long in
     sym (drop-drop (8 * n) 8 rest)
     ∙ ap (λ r. drop (8 * n) (drop 8 r)) (a .spelt)
-    ∙ ap (drop (8 * n)) (bytes-one (a .line) (a .ns))
-    ∙ bytes-past (a .ns) n (omega arith)
+    ∙ ap (drop (8 * n)) (lines-one (a .line) (a .ns))
+    ∙ lines-past (a .ns) n (omega arith)
 
 at-grows :
     {ls : List Line} {left : ℕ} {rest : List ℕ} {n : ℕ} → (a : At ls left rest n) → 8 + 8 * n ≤ length rest
@@ -330,7 +330,7 @@ at-answer {ls} {left} {rest} {n} a h r x f e =
     subst (Nested (grow (take n (a .ns))) (left - 1)) e (f (take n (a .ns)) (at-child a h) (fits-first n (a .ns) (a .fit)))
 
 -- the first tree of rows that grow
-pub record Head (l : Line) (ns : List Line) (g : Forest) : Type 0 where
+pub record FirstGrown (l : Line) (ns : List Line) (g : Forest) : Type 0 where
   pub inside : below l ≤ length ns
   pub tree : Tree
   pub others : Forest
@@ -338,9 +338,9 @@ pub record Head (l : Line) (ns : List Line) (g : Forest) : Type 0 where
   pub is : g ≡ more tree others
   pub so-big : size tree ≡ 1 + below l
 
-pub head : (l : Line) (ns : List Line) (g : Forest) → grow (l ∷ ns) ≡ some g → Head l ns g
+pub first-grown : (l : Line) (ns : List Line) (g : Forest) → grow (l ∷ ns) ≡ some g → FirstGrown l ns g
 unfolding size grow
-head l ns g e =
+first-grown l ns g e =
     let short : length ns < below l → ⊥ = λ h. no-some (sym (grow-short l ns h) ∙ e) in
     let le : below l ≤ length ns = elim (decLe (below l) (length ns)) [ yes p ↦ p | no q ↦ absurd (short (omega arith)) ] in
     let c = built-some l (pair (grow (take (below l) ns)) (grow (drop (below l) ns))) g (sym (grow-step l ns le) ∙ e) in
@@ -407,7 +407,7 @@ pub record HopAt (n : ℕ) (f : Forest) (left : ℕ) (rest : List ℕ) (m : ℕ)
   pub spelt : rest ≡ bytesOf (line ∷ ns)
   pub fit : LinesFit ns
   pub number : m ≡ below line
-  pub top : Head line ns g
+  pub top : FirstGrown line ns g
   pub same : isSome (split n f) ≡ isSome (split left g)
   pub long : length rest ≡ 8 + 8 * length ns
 
@@ -423,7 +423,7 @@ hop-at {n} {f} {left} {rest} w h m e =
         spelt = p;
         fit = fits-drop l ns q;
         number = e ∙ ap underOf p ∙ under-is l ns q;
-        top = head l ns (w .g) r;
+        top = first-grown l ns (w .g) r;
         same = w .same;
         long = ap length p ∙ length-bytes (l ∷ ns) ∙ omega arith;
       }
@@ -450,8 +450,8 @@ hop-next {n} {f} {left} {rest} {m} a h lt =
           part-rest rest (8 + 8 * m)
           ∙ sym (drop-drop (8 * m) 8 rest)
           ∙ ap (λ r. drop (8 * m) (drop 8 r)) (a .spelt)
-          ∙ ap (drop (8 * m)) (bytes-one (a .line) (a .ns))
-          ∙ bytes-past (a .ns) m (omega arith);
+          ∙ ap (drop (8 * m)) (lines-one (a .line) (a .ns))
+          ∙ lines-past (a .ns) m (omega arith);
       fit = fits-past m (a .ns) (a .fit);
       grown = ap (λ k. grow (drop k (a .ns))) y ∙ t .grown;
       same = a .same ∙ ap (λ x. isSome (split left x)) (t .is) ∙ split-past (t .tree) (t .others) left (omega arith) (omega arith)
@@ -520,7 +520,7 @@ rest-at {ls} {rest} w h n e b k =
     let go : (ms : List Line) → rest ≡ bytesOf ms → LinesFit ms → isSome (grow ls) ≡ isSome (grow ms) → RestAt ls rest b = λ ms. elim ms [
       | [] ↦ λ p q r. absurd (omega (arith, ap length p))
       | _∷_ l ns ↦ λ p q r.
-          let d : take (length rest - 8) (drop 8 rest) ≡ bytesOf ns = part-rest rest 8 ∙ ap (drop 8) p ∙ bytes-one l ns in
+          let d : take (length rest - 8) (drop 8 rest) ≡ bytesOf ns = part-rest rest 8 ∙ ap (drop 8) p ∙ lines-one l ns in
           let m : n ≡ below l = e ∙ ap underOf p ∙ under-is l ns q in
           let fit = fits-drop l ns q in
           record { line = l; ns = ns; spelt = d; fit = fit; same = r; landing = λ f g. k ns f d fit g ∙ ap (λ x. isSome (split x f)) m }

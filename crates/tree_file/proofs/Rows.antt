@@ -17,7 +17,7 @@ use Rattle.mitex_syntax.specs.Syntax.{isNode}
 use Rattle.mitex_syntax.specs.Spells.{tokenFits}
 use Rattle.text.specs.Trailer.{ahead}
 use Rattle.text.proofs.Trailer.{ahead-some}
-use Rattle.tree_file.specs.Layout.{Line, lines, rowAt, after, rowTaken}
+use Rattle.tree_file.specs.Layout.{Line, lines, rowAt, rowAhead, rowTaken}
 use Rattle.tree_file.specs.Layout.Line.{tok, nod}
 use Rattle.tree_file.specs.Parts.{bytesOf, textsIn, LinesFit}
 use Rattle.tree_file.specs.declared.Row.{Row}
@@ -133,7 +133,7 @@ nil-rows (r ∷ rows) text ls h e = absurd (omega arith)
 
 rows-by : (n : ℕ) (rows text : List ℕ) (ls : List Line) → Bytes rows → 8 ≤ length rows
     → ((text : List ℕ) (ls : List Line) → lines n (drop 8 rows) text ≡ some ls → Read (drop 8 rows) text ls)
-    → (r : Row) → RowSays rows text r → after r rows text (lines n (drop 8 rows) (drop (rowTaken r) text)) ≡ some ls → Read rows text ls
+    → (r : Row) → RowSays rows text r → rowAhead r rows text (lines n (drop 8 rows) (drop (rowTaken r) text)) ≡ some ls → Read rows text ls
 rows-by n rows text ls by h i Bad says e = absurd (no-some e)
 rows-by n rows text ls by h i (Token m) says e =
     let w = ahead-some _ _ _ e in
@@ -175,11 +175,11 @@ unfolding lines bytesOf textsIn LinesFit
 lines-complete [] h = refl
 lines-complete (tok k s ∷ ls) h =
     let rows = bytesOf (tok k s ∷ ls) in let text = s ++ textsIn ls in
-    ap (λ r. after r rows text (lines (length ls) (bytesOf ls) (drop (rowTaken r) text))) (row-of-token k s (bytesOf ls) (textsIn ls) (h .0) (h .1))
+    ap (λ r. rowAhead r rows text (lines (length ls) (bytesOf ls) (drop (rowTaken r) text))) (row-of-token k s (bytesOf ls) (textsIn ls) (h .0) (h .1))
     ∙ ap (λ x. ahead (tok k x) (lines (length ls) (bytesOf ls) (drop (length s) text))) (take-append-seam s (textsIn ls))
     ∙ ap (λ x. ahead (tok k s) (lines (length ls) (bytesOf ls) x)) (drop-append-seam s (textsIn ls))
     ∙ ap (ahead (tok k s)) (lines-complete ls (h .2))
 lines-complete (nod k n ∷ ls) h =
     let rows = bytesOf (nod k n ∷ ls) in let text = textsIn ls in
-    ap (λ r. after r rows text (lines (length ls) (bytesOf ls) (drop (rowTaken r) text))) (row-of-node k n (bytesOf ls) text (h .0) (h .1))
+    ap (λ r. rowAhead r rows text (lines (length ls) (bytesOf ls) (drop (rowTaken r) text))) (row-of-node k n (bytesOf ls) text (h .0) (h .1))
     ∙ ap (ahead (nod k n)) (lines-complete ls (h .2))

@@ -7,7 +7,7 @@ use Prim.Native.Nat.{_-_, _≤_, _<_}
 use lib.ListN.{length}
 use Rattle.mitex_spec.specs.Rules.{Rule}
 use Rattle.mitex_spec.specs.RuleFile.{rulesOf}
-use Rattle.mitex_spec.specs.Index.{firstOf, firstsBelow, ruleNo}
+use Rattle.mitex_spec.specs.Index.{firstByte, firstsBelow, ruleNo}
 use Rattle.mitex_spec.proofs.RuleFile.{rules-tested, file-rules}
 use Rattle.mitex_spec.proofs.Firsts.{firsts-most, firsts-next, firsts-stop}
 use borrow.Author.Needs.{needs}
@@ -38,8 +38,8 @@ few c rs e = let n = many (c .before) rs e in let t = c .loop-test .taken in ome
 -- and the byte that its name begins with
 first :
     (c : tie.After-first-byte Inv-loop μ-loop) (rs : List Rule) → let at-loop = c .before .before .before in
-    Rules at-loop rs → c .first-byte .result ≡ firstOf (ruleNo rs (at-loop .loop .k) .name)
-first c rs e = c .first-byte .ensures .0 ∙ ap firstOf (c .before .name-at .ensures rs e)
+    Rules at-loop rs → c .first-byte .result ≡ firstByte (ruleNo rs (at-loop .loop .k) .name)
+first c rs e = c .first-byte .ensures .0 ∙ ap firstByte (c .before .name-at .ensures rs e)
 
 count-of-requires : tie.Need-count-of-requires Inv-loop μ-loop
 count-of-requires c κs = rules-tested _ _ (c .before .before .pre .0 .decodes) .long
