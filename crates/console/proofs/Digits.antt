@@ -10,43 +10,43 @@ use borrow.Author.Tests.{ltb-true, ltb-false, leb-true, leb-false, lt-ltb, le-lt
 use lib.ListN.{length, drop, getD, drop-of-length-le}
 use lib.Seq.{drop-cons}
 use Rattle.text.proofs.Compare.{by-test}
-use Rattle.console.specs.Request.{numberEnd, withDigit, goesOn, numberFrom, numberSpelt}
+use Rattle.console.specs.Request.{numberEnd, withDigit, digitFits, numberFrom, numberSpelt}
 use Rattle.console.specs.declared.Spelt.the-variants.{Nothing as NoNumber, Number}
 
 -- ---- one digit
 
-pub goes-digit : (n x : ℕ) → goesOn n x ≡ true → (48 ≤ x) × (x ≤ 57) × (withDigit n x < numberEnd)
-goes-digit n x e =
+pub fits-digit : (n x : ℕ) → digitFits n x ≡ true → (48 ≤ x) × (x ≤ 57) × (withDigit n x < numberEnd)
+fits-digit n x e =
     let p = and-eq-true-iff (leb 48 x) _ .0 e in
     let q = and-eq-true-iff (leb x 57) _ .0 (p .1) in (leb-true 48 x (p .0), leb-true x 57 (q .0), ltb-true _ _ (q .1))
 
-pub goes-below : (n x : ℕ) → x < 48 → false ≡ goesOn n x
-goes-below n x h = simp (lt-leb 48 x h)
+pub fits-below : (n x : ℕ) → x < 48 → false ≡ digitFits n x
+fits-below n x h = simp (lt-leb 48 x h)
 
-pub goes-above : (n x : ℕ) → 57 < x → false ≡ goesOn n x
-goes-above n x h = simp (le-leb 48 x (omega arith), lt-leb x 57 h)
+pub fits-above : (n x : ℕ) → 57 < x → false ≡ digitFits n x
+fits-above n x h = simp (le-leb 48 x (omega arith), lt-leb x 57 h)
 
-goes-at : (n x : ℕ) → 48 ≤ x → x ≤ 57 → goesOn n x ≡ ltb (withDigit n x) numberEnd
-goes-at n x l h = simp (le-leb 48 x l, le-leb x 57 h)
+fits-at : (n x : ℕ) → 48 ≤ x → x ≤ 57 → digitFits n x ≡ ltb (withDigit n x) numberEnd
+fits-at n x l h = simp (le-leb 48 x l, le-leb x 57 h)
 
 -- at the highest number that a digit more may follow, the digit decides; elsewhere the number
-pub goes-last : (n x : ℕ) → 48 ≤ x → x ≤ 57 → n ≡ 1844674407370955161 → leb x 53 ≡ goesOn n x
-goes-last n x l h e =
+pub fits-last : (n x : ℕ) → 48 ≤ x → x ≤ 57 → n ≡ 1844674407370955161 → leb x 53 ≡ digitFits n x
+fits-last n x l h e =
     by-test (leb x 53)
-    (λ t. let s = leb-true x 53 t in t ∙ sym (goes-at n x l h ∙ lt-ltb (withDigit n x) numberEnd (omega arith)))
-    (λ t. let s = leb-false x 53 t in t ∙ sym (goes-at n x l h ∙ le-ltb (withDigit n x) numberEnd (omega arith)))
+    (λ t. let s = leb-true x 53 t in t ∙ sym (fits-at n x l h ∙ lt-ltb (withDigit n x) numberEnd (omega arith)))
+    (λ t. let s = leb-false x 53 t in t ∙ sym (fits-at n x l h ∙ le-ltb (withDigit n x) numberEnd (omega arith)))
 
-pub goes-else : (n x : ℕ) → 48 ≤ x → x ≤ 57 → (n ≡ 1844674407370955161 → ⊥) → ltb n 1844674407370955161 ≡ goesOn n x
-goes-else n x l h e =
+pub fits-else : (n x : ℕ) → 48 ≤ x → x ≤ 57 → (n ≡ 1844674407370955161 → ⊥) → ltb n 1844674407370955161 ≡ digitFits n x
+fits-else n x l h e =
     by-test (ltb n 1844674407370955161)
-    (λ t. let s = ltb-true n _ t in t ∙ sym (goes-at n x l h ∙ lt-ltb (withDigit n x) numberEnd (omega arith)))
-    (λ t. let s = ltb-false n _ t in t ∙ sym (goes-at n x l h ∙ le-ltb (withDigit n x) numberEnd (omega arith)))
+    (λ t. let s = ltb-true n _ t in t ∙ sym (fits-at n x l h ∙ lt-ltb (withDigit n x) numberEnd (omega arith)))
+    (λ t. let s = ltb-false n _ t in t ∙ sym (fits-at n x l h ∙ le-ltb (withDigit n x) numberEnd (omega arith)))
 
 -- ---- along the digits
 
 number-at :
     (l : List ℕ) (n i : ℕ) → i < length l
-    → numberFrom n (drop i l) ≡ cond (goesOn n (getD l i 0)) (numberFrom (withDigit n (getD l i 0)) (drop (i + 1) l)) NoNumber
+    → numberFrom n (drop i l) ≡ cond (digitFits n (getD l i 0)) (numberFrom (withDigit n (getD l i 0)) (drop (i + 1) l)) NoNumber
 unfolding numberFrom
 number-at l n i h = rw (add-one, drop-cons l i 0 h)
 
@@ -59,13 +59,13 @@ number-starts [] h = absurd (h refl)
 number-starts (x ∷ l) h = refl
 
 pub number-next :
-    (l : List ℕ) (n i : ℕ) → i < length l → goesOn n (getD l i 0) ≡ true → numberSpelt l ≡ numberFrom n (drop i l)
+    (l : List ℕ) (n i : ℕ) → i < length l → digitFits n (getD l i 0) ≡ true → numberSpelt l ≡ numberFrom n (drop i l)
     → numberSpelt l ≡ numberFrom (withDigit n (getD l i 0)) (drop (i + 1) l)
 number-next l n i h g e =
     e ∙ number-at l n i h ∙ ap (λ t. cond t (numberFrom (withDigit n (getD l i 0)) (drop (i + 1) l)) NoNumber) g
 
 pub number-stops :
-    (l : List ℕ) (n i : ℕ) → i < length l → goesOn n (getD l i 0) ≡ false → numberSpelt l ≡ numberFrom n (drop i l)
+    (l : List ℕ) (n i : ℕ) → i < length l → digitFits n (getD l i 0) ≡ false → numberSpelt l ≡ numberFrom n (drop i l)
     → NoNumber ≡ numberSpelt l
 number-stops l n i h g e =
     sym (e ∙ number-at l n i h ∙ ap (λ t. cond t (numberFrom (withDigit n (getD l i 0)) (drop (i + 1) l)) NoNumber) g)

@@ -72,7 +72,7 @@ request-line l e h = simp (lt-leb lineMost (indexOf 10 l) h) (ap (λ k. lineRequ
 pub request-all : (l : List ℕ) → indexOf 10 l < lineMost → length l ≤ indexOf 10 l → lineRequest l ≡ requestIn l
 request-all l s h = ap lineRequest (sym (take-all (indexOf 10 l) l h)) ∙ request-line l refl s
 
--- ---- the programs read no more than the beginning of the input, and what stands behind it changes nothing
+-- ---- the programs read no more than the beginning of the input, and what stands after it changes nothing
 
 pub mode-reads : (l : List ℕ) → modeIn (take 1 l) ≡ modeIn l
 mode-reads [] = refl

@@ -23,13 +23,13 @@ abbrev pub withDigit : ℕ → ℕ → ℕ
 withDigit n x = n * 10 + (x - 48)
 
 -- x is a decimal digit, and with it the number still has 64 bits
-abbrev pub goesOn : ℕ → ℕ → Bool
-goesOn n x = leb 48 x && (leb x 57 && ltb (withDigit n x) numberEnd)
+abbrev pub digitFits : ℕ → ℕ → Bool
+digitFits n x = leb 48 x && (leb x 57 && ltb (withDigit n x) numberEnd)
 
 -- the number that begins with n and goes on with these digits
 unfoldable pub numberFrom : ℕ → List ℕ → Spelt
 numberFrom n [] = Number n
-numberFrom n (x ∷ l) = cond (goesOn n x) (numberFrom (withDigit n x) l) NoNumber
+numberFrom n (x ∷ l) = cond (digitFits n x) (numberFrom (withDigit n x) l) NoNumber
 
 -- the number that digits spell, at least one
 abbrev pub numberSpelt : List ℕ → Spelt
@@ -38,7 +38,7 @@ numberSpelt (x ∷ l) = numberFrom 0 (x ∷ l)
 
 -- ---- the line
 
--- the part before the first byte b, and the part behind it
+-- the part before the first byte b, and the part after it
 abbrev pub partBefore : ℕ → List ℕ → List ℕ
 partBefore b l = take (indexOf b l) l
 

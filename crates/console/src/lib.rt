@@ -7,7 +7,7 @@ ghost use lib.ListN.{length};
 ghost use Rattle.io.specs.Counts.{Counts};
 ghost use Rattle.text.specs.Writing.{cap, Wrote};
 ghost use Rattle.console.specs.Mode.{modeBy, modeIn};
-ghost use Rattle.console.specs.Request.{goesOn, withDigit, numberSpelt, partBefore, partAfter, both, lineRequest, requestIn};
+ghost use Rattle.console.specs.Request.{digitFits, withDigit, numberSpelt, partBefore, partAfter, both, lineRequest, requestIn};
 ghost use Rattle.console.specs.Answers.{difference, refusalLine, editedLine};
 
 // What is no mode: it is refused as 1.
@@ -71,8 +71,8 @@ pub fn mode_in(input: &[u8]) -> u8
 const TENTH: usize = 1844674407370955161;
 
 // Whether `x` is a digit with which the number still has 64 bits.
-fn goes_on(n: usize, x: u8) -> bool
-    ensures { λ r. ⌜ r ≡ goesOn n x ⌝ }
+fn digit_fits(n: usize, x: u8) -> bool
+    ensures { λ r. ⌜ r ≡ digitFits n x ⌝ }
 {
     if x < b'0' {
         return false;
@@ -88,7 +88,7 @@ fn goes_on(n: usize, x: u8) -> bool
 
 // The number with a digit more.
 fn with_digit(n: usize, x: u8) -> usize
-    requires { ⌜ goesOn n x ≡ true ⌝ }
+    requires { ⌜ digitFits n x ≡ true ⌝ }
     ensures { λ r. ⌜ r ≡ withDigit n x ⌝ }
 {
     n * 10 + text::wide(x - b'0')
@@ -105,7 +105,7 @@ fn number_spelt(digits: &[u8]) -> Spelt
     let mut i = 0;
     while i < digits.len() {
         let x = digits[i];
-        if !goes_on(n, x) {
+        if !digit_fits(n, x) {
             return Spelt::Nothing;
         }
         n = with_digit(n, x);

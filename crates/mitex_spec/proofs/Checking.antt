@@ -20,7 +20,8 @@ use Rattle.utf8.specs.Utf8.{oneByteEach, valid, charSteps}
 use Rattle.utf8.proofs.Texts.{one-valid, one-take, one-drop}
 use Rattle.mitex_spec.specs.Rules.{Rule}
 use Rattle.text.specs.Trailer.{ahead}
-use Rattle.mitex_spec.specs.RuleFile.{classMost, noAlias, padded, validAlias, ruleFits, risesFrom, rises, nameLength, aliasLength, ruleTaken, aliasAt, ruleAt, ruleRowFits, rulesIn, rising}
+use Rattle.mitex_spec.specs.RuleFile.{classMost, noAlias, padded, validAlias, ruleFits, risesFrom, rises, nameLength}
+use Rattle.mitex_spec.specs.RuleFile.{aliasLength, ruleTaken, aliasAt, ruleAt, ruleRowFits, rulesIn, rising}
 use Rattle.mitex_spec.specs.Index.{startsFrom, accepted}
 use Rattle.mitex_spec.proofs.RuleFile.{RuleRowFits, row-says}
 
@@ -64,7 +65,8 @@ row-alias rows text n end pad e room low q name =
     ∙ sym
     (ap (λ b. b && (leb (ruleTaken rows) (length text) && ruleFits (ruleAt rows text))) pad
     ∙ ap (λ b. b && ruleFits (ruleAt rows text)) (le-leb (ruleTaken rows) (length text) (omega arith))
-    ∙ ap (λ b. b && (valid (take (nameLength rows) text) && validAlias (aliasAt (twoAt 2 rows) (drop (nameLength rows) text)))) (le-leb (getD rows 4 0) classMost low)
+    ∙ ap (λ b. b && (valid (take (nameLength rows) text) && validAlias (aliasAt (twoAt 2 rows) (drop (nameLength rows) text))))
+    (le-leb (getD rows 4 0) classMost low)
     ∙ ap (λ b. b && validAlias (aliasAt (twoAt 2 rows) (drop (nameLength rows) text))) (ap (λ k. valid (take k text)) (sym q) ∙ name))
 
 -- all but the texts was found good, and the characters of the text have one byte each
@@ -102,7 +104,9 @@ left-all last (some rs) =
 pub left-start : (n : ℕ) (rows text last : List ℕ) → length rows ≡ 8 * n → RulesLeft n rows text true last rows text
 left-start n rows text last h = record { m = n; long = h; still = left-all last (rulesIn n rows text) }
 
-after-ahead : (first : Bool) (last : List ℕ) (r : Rule) (o : Option (List Rule)) → after first last (ahead r o) ≡ ((first || precedes last (r .name)) && after false (r .name) o)
+after-ahead :
+    (first : Bool) (last : List ℕ) (r : Rule) (o : Option (List Rule))
+    → after first last (ahead r o) ≡ ((first || precedes last (r .name)) && after false (r .name) o)
 unfolding risesFrom
 after-ahead true last r none = refl
 after-ahead true last r (some rs) = refl

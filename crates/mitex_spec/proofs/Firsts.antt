@@ -14,27 +14,27 @@ use lib.Seq.{sets, take-set-le, getD-take, getD-drop}
 use Rattle.text.specs.Compare.{precedes}
 use Rattle.text.proofs.Compare.{by-test}
 use Rattle.mitex_spec.specs.Rules.{Rule}
-use Rattle.mitex_spec.specs.Index.{offsetsFrom, firstsAt, indexSize, firstOf, firstsBelow, firstsFrom, firsts, ruleNo, rankOf, Ready}
+use Rattle.mitex_spec.specs.Index.{offsetsFrom, firstsAt, indexSize, firstByte, firstsBelow, firstsFrom, firsts, ruleNo, rankOf, Ready}
 
 -- ---- names that begin with a lower byte
 
 module _ (b : ℕ) (r : Rule) (rs : List Rule) where
-  firsts-cons : (t : Bool) → ltb (firstOf (r .name)) b ≡ t → firstsBelow b (r ∷ rs) ≡ cond t (1 + firstsBelow b rs) 0
+  firsts-cons : (t : Bool) → ltb (firstByte (r .name)) b ≡ t → firstsBelow b (r ∷ rs) ≡ cond t (1 + firstsBelow b rs) 0
   unfolding firstsBelow
   firsts-cons t e = ap (λ x. cond x (1 + firstsBelow b rs) 0) e
 
-  firsts-lower : firstOf (r .name) < b → firstsBelow b (r ∷ rs) ≡ 1 + firstsBelow b rs
-  firsts-lower h = firsts-cons true (lt-ltb (firstOf (r .name)) b h)
+  firsts-lower : firstByte (r .name) < b → firstsBelow b (r ∷ rs) ≡ 1 + firstsBelow b rs
+  firsts-lower h = firsts-cons true (lt-ltb (firstByte (r .name)) b h)
 
-  firsts-other : b ≤ firstOf (r .name) → firstsBelow b (r ∷ rs) ≡ 0
-  firsts-other h = firsts-cons false (le-ltb (firstOf (r .name)) b h)
+  firsts-other : b ≤ firstByte (r .name) → firstsBelow b (r ∷ rs) ≡ 0
+  firsts-other h = firsts-cons false (le-ltb (firstByte (r .name)) b h)
 
 pub firsts-most : (b : ℕ) (rs : List Rule) → firstsBelow b rs ≤ length rs
 unfolding firstsBelow
 firsts-most b [] = omega arith
 firsts-most b (r ∷ rs) =
     let i = firsts-most b rs in
-    elim (decLe b (firstOf (r .name))) [
+    elim (decLe b (firstByte (r .name))) [
       | yes h ↦ let q = firsts-other b r rs h in omega arith
       | no h ↦ let q = firsts-lower b r rs (omega arith) in omega arith
     ]
@@ -45,7 +45,7 @@ unfolding firstsBelow
 firsts-more b [] = omega arith
 firsts-more b (r ∷ rs) =
     let i = firsts-more b rs in
-    elim (decLe b (firstOf (r .name))) [
+    elim (decLe b (firstByte (r .name))) [
       | yes h ↦ let q = firsts-other b r rs h in omega arith
       | no h ↦
           let q = firsts-lower b r rs (omega arith) in
@@ -54,22 +54,22 @@ firsts-more b (r ∷ rs) =
     ]
 
 -- a name that does not ends the count
-pub firsts-stop : (b : ℕ) (rs : List Rule) (k : ℕ) → k < length rs → b ≤ firstOf (ruleNo rs k .name) → firstsBelow b rs ≤ k
+pub firsts-stop : (b : ℕ) (rs : List Rule) (k : ℕ) → k < length rs → b ≤ firstByte (ruleNo rs k .name) → firstsBelow b rs ≤ k
 firsts-stop b [] k h e = absurd (omega arith)
 firsts-stop b (r ∷ rs) zero h e = let q = firsts-other b r rs e in omega arith
 firsts-stop b (r ∷ rs) (suc k) h e =
     let i = firsts-stop b rs k (omega arith) e in
-    elim (decLe b (firstOf (r .name))) [
+    elim (decLe b (firstByte (r .name))) [
       | yes p ↦ let q = firsts-other b r rs p in omega arith
       | no p ↦ let q = firsts-lower b r rs (omega arith) in omega arith
     ]
 
 -- one that does is counted after those before it
-pub firsts-next : (b : ℕ) (rs : List Rule) (k : ℕ) → k < length rs → k ≤ firstsBelow b rs → firstOf (ruleNo rs k .name) < b → k + 1 ≤ firstsBelow b rs
+pub firsts-next : (b : ℕ) (rs : List Rule) (k : ℕ) → k < length rs → k ≤ firstsBelow b rs → firstByte (ruleNo rs k .name) < b → k + 1 ≤ firstsBelow b rs
 firsts-next b [] k h l e = absurd (omega arith)
 firsts-next b (r ∷ rs) zero h l e = let q = firsts-lower b r rs e in omega arith
 firsts-next b (r ∷ rs) (suc k) h l e =
-    elim (decLe b (firstOf (r .name))) [
+    elim (decLe b (firstByte (r .name))) [
       | yes p ↦ let q = firsts-other b r rs p in absurd (omega arith)
       | no p ↦
           let q = firsts-lower b r rs (omega arith) in
@@ -80,14 +80,14 @@ firsts-next b (r ∷ rs) (suc k) h l e =
 -- ---- the rank of a name
 
 -- a lower first byte comes before, and what comes before has no higher one
-first-less : (a b : List ℕ) → firstOf a < firstOf b → precedes a b ≡ true
+first-less : (a b : List ℕ) → firstByte a < firstByte b → precedes a b ≡ true
 unfolding precedes
 first-less [] [] h = absurd (omega arith)
 first-less [] (y ∷ b) h = refl
 first-less (x ∷ a) [] h = absurd (omega arith)
 first-less (x ∷ a) (y ∷ b) h = ap (λ t. t || (eqb x y && precedes a b)) (lt-ltb x y h)
 
-first-most : (a b : List ℕ) → precedes a b ≡ true → firstOf a ≤ firstOf b
+first-most : (a b : List ℕ) → precedes a b ≡ true → firstByte a ≤ firstByte b
 unfolding precedes
 first-most [] b e = omega arith
 first-most (x ∷ a) [] e = absurd (false≢true e)
@@ -105,20 +105,20 @@ pub rank-cons : (r : Rule) (rs : List Rule) (name : List ℕ) (b : Bool) → pre
 unfolding rankOf
 rank-cons r rs name b e = ap (λ t. cond t (1 + rankOf rs name) 0) e
 
-rank-first : (rs : List Rule) (name : List ℕ) → firstsBelow (firstOf name) rs ≤ rankOf rs name
+rank-first : (rs : List Rule) (name : List ℕ) → firstsBelow (firstByte name) rs ≤ rankOf rs name
 unfolding firstsBelow
 rank-first [] name = omega arith
 rank-first (r ∷ rs) name =
     let i = rank-first rs name in
-    elim (decLe (firstOf name) (firstOf (r .name))) [
-      | yes h ↦ let q = firsts-other (firstOf name) r rs h in omega arith
+    elim (decLe (firstByte name) (firstByte (r .name))) [
+      | yes h ↦ let q = firsts-other (firstByte name) r rs h in omega arith
       | no h ↦
-          let q = firsts-lower (firstOf name) r rs (omega arith) in
+          let q = firsts-lower (firstByte name) r rs (omega arith) in
           let p = rank-cons r rs name true (first-less (r .name) name (omega arith)) in
           omega arith
     ]
 
-rank-last : (rs : List Rule) (name : List ℕ) → rankOf rs name ≤ firstsBelow (firstOf name + 1) rs
+rank-last : (rs : List Rule) (name : List ℕ) → rankOf rs name ≤ firstsBelow (firstByte name + 1) rs
 unfolding rankOf
 rank-last [] name = omega arith
 rank-last (r ∷ rs) name =
@@ -127,7 +127,7 @@ rank-last (r ∷ rs) name =
     (λ e.
     let p = rank-cons r rs name true e in
     let h = first-most (r .name) name e in
-    let q = firsts-lower (firstOf name + 1) r rs (omega arith) in
+    let q = firsts-lower (firstByte name + 1) r rs (omega arith) in
     omega arith)
     (λ e. let p = rank-cons r rs name false e in omega arith)
 
@@ -155,7 +155,9 @@ pub tabled-start : (rs : List Rule) (index : List ℕ) → take (length rs) inde
 tabled-start rs index h = record { holds = h; low = omega arith; still = refl }
 
 module _ {rs : List Rule} {index₀ index : List ℕ} {b k : ℕ} (s : Tabled rs index₀ index b k) where
-  store-next : (n : ℕ) → 257 - b ≡ suc n → sets index₀ firstsAt (firsts rs) ≡ sets (set index (firstsAt + b) (firstsBelow b rs)) (firstsAt + (b + 1)) (firstsFrom (b + 1) n rs)
+  store-next :
+      (n : ℕ) → 257 - b ≡ suc n
+      → sets index₀ firstsAt (firsts rs) ≡ sets (set index (firstsAt + b) (firstsBelow b rs)) (firstsAt + (b + 1)) (firstsFrom (b + 1) n rs)
   unfolding firstsFrom
   store-next n e =
       s .still
@@ -196,7 +198,7 @@ module _ {file index : List ℕ} {rs : List Rule} (r : Ready file index rs) wher
       ∙ ap (λ k. firstsBelow k rs) (omega arith)
 
   pub rank-between :
-      (name : List ℕ) (b low high : ℕ) → b ≡ firstOf name → b < 256 → low ≡ getD index (firstsAt + b) 0 → high ≡ getD index (firstsAt + b + 1) 0
+      (name : List ℕ) (b low high : ℕ) → b ≡ firstByte name → b < 256 → low ≡ getD index (firstsAt + b) 0 → high ≡ getD index (firstsAt + b + 1) 0
       → (low ≤ rankOf rs name) × (rankOf rs name ≤ high) × (high ≤ length rs)
   rank-between name b low high e h p q =
       let l = firsts-read b (omega arith) ∙ ap (λ k. firstsBelow k rs) e in

@@ -122,7 +122,7 @@ rules-few file rs by e =
     let short = d .whole .short in
     omega arith
 
--- then the rules can be found by their numbers, and behind the offsets the table is filled
+-- then the rules can be found by their numbers, and after the offsets the table is filled
 module _ {file index index′ : List ℕ} (b : Begun file index index′) where
   pub begun-numbered : Bytes file → indexSize ≤ length index → Numbered file index′
   begun-numbered by room =

@@ -23,7 +23,7 @@ use Rattle.mitex_spec.specs.Index.{offsetsFrom, ruleNo, rankOf, SomeRule
 use Rattle.mitex_spec.specs.LookUp.{aliasOf, ruleOf, endOf, isCmd, Finds}
 use Rattle.mitex_spec.specs.declared.Found.{Found}
 use Rattle.mitex_spec.specs.declared.Found.the-variants.{Absent, Plain, Aliased}
-use Rattle.mitex_spec.proofs.RuleFile.{ruleRow-reads, length-rows, file-rules}
+use Rattle.mitex_spec.proofs.RuleFile.{ruleRow-reads, length-rowsOfRules, file-rules}
 use Rattle.mitex_spec.proofs.Firsts.{rank-cons}
 use Rattle.mitex_spec.proofs.Index.{length-offsets, rules-one}
 
@@ -157,7 +157,7 @@ module _ (before : List Rule) (r : Rule) (others : List Rule) (tail : List ℕ) 
       drop-append-add (textOfRules all) (rowsOfRules all ++ tail) (8 * length before)
       ∙ ap (λ l. drop (8 * length before) (l ++ tail)) (rows-append before (r ∷ others))
       ∙ ap (drop (8 * length before)) (append-assoc (rowsOfRules before) (ruleRow r (rowsOfRules others)) tail)
-      ∙ drop-at (rowsOfRules before) (ruleRow r (rowsOfRules others) ++ tail) (8 * length before) (length-rows before)
+      ∙ drop-at (rowsOfRules before) (ruleRow r (rowsOfRules others) ++ tail) (8 * length before) (length-rowsOfRules before)
 
   text-all : textOfRules all ≡ textOfRules before ++ (ruleText r ++ textOfRules others)
   unfolding textOfRules
@@ -225,7 +225,8 @@ module _ {file index : List ℕ} {k : ℕ} (s : SomeRule file index k) (by : Byt
       let h = few in
       ap (drop (startOf file + 8 * k)) file-is
       ∙ ap (λ n. drop (n + 8 * k) (here (take k rs) r (drop (suc k) rs) tail)) start-is
-      ∙ ap (λ n. drop (length (textOfRules (all (take k rs) r (drop (suc k) rs) tail)) + 8 * n) (here (take k rs) r (drop (suc k) rs) tail)) (sym (length-take-le k rs (omega arith)))
+      ∙ ap (λ n. drop (length (textOfRules (all (take k rs) r (drop (suc k) rs) tail)) + 8 * n) (here (take k rs) r (drop (suc k) rs) tail))
+      (sym (length-take-le k rs (omega arith)))
       ∙ row-here (take k rs) r (drop (suc k) rs) tail
 
   pub located : Located file index k r
@@ -260,7 +261,8 @@ module _ {file index : List ℕ} {k : ℕ} (s : SomeRule file index k) (by : Byt
 
 -- ---- what the code reads there
 
-module _ {file index : List ℕ} {k : ℕ} {r : Rule} (l : Located file index k r) (at start n : ℕ) (p : at ≡ getD index k 0) (q : start ≡ startOf file) (z : n ≡ twoAt (start + 8 * k) file) where
+module _ {file index : List ℕ} {k : ℕ} {r : Rule} (l : Located file index k r)
+    (at start n : ℕ) (p : at ≡ getD index k 0) (q : start ≡ startOf file) (z : n ≡ twoAt (start + 8 * k) file) where
   name-size : n ≡ length (r .name)
   name-size = z ∙ ap (λ i. twoAt (i + 8 * k) file) q ∙ l .name-size
 
@@ -304,7 +306,8 @@ an-alias : (o : Option (List ℕ)) → (aliasNumber o ≡ noAlias → ⊥) → (
 an-alias none h = absurd (h refl)
 an-alias (some a) h = (refl, refl)
 
-module _ {file index : List ℕ} {k : ℕ} {r : Rule} (l : Located file index k r) (start size class : ℕ) (q : start ≡ startOf file) (z : size ≡ twoAt (start + 8 * k + 2) file) (y : class ≡ getD file (start + 8 * k + 4) 0) where
+module _ {file index : List ℕ} {k : ℕ} {r : Rule} (l : Located file index k r)
+    (start size class : ℕ) (q : start ≡ startOf file) (z : size ≡ twoAt (start + 8 * k + 2) file) (y : class ≡ getD file (start + 8 * k + 4) 0) where
   size-is : size ≡ aliasNumber (r .alias)
   size-is = z ∙ ap (λ i. twoAt (i + 8 * k + 2) file) q ∙ l .alias-size
 

@@ -15,10 +15,13 @@ use Rattle.text.specs.Numbers.{Bytes, two, four, twoAt}
 use Rattle.text.proofs.Numbers.{eight, bytes-drop, two-says, two-of}
 use Rattle.text.proofs.Compare.{by-test}
 use Rattle.text.specs.Trailer.{fileMost, startOf, countOf, trailed, textArea, rowArea, ahead}
-use Rattle.text.proofs.Trailer.{Trailed, trailed-says, trailed-is, areas, length-textArea, length-rowArea, bytes-rowArea, laidOut, laid-length, laid-count, laid-trailed, laid-text, laid-rows, ahead-some}
+use Rattle.text.proofs.Trailer.{Trailed, trailed-says, trailed-is, areas, length-textArea, length-rowArea, bytes-rowArea}
+use Rattle.text.proofs.Trailer.{laidOut, laid-length, laid-count, laid-trailed, laid-text, laid-rows, ahead-some}
 use Rattle.utf8.specs.Utf8.{valid}
 use Rattle.mitex_spec.specs.Rules.{Rule, rule}
-use Rattle.mitex_spec.specs.RuleFile.{classMost, noAlias, padded, validAlias, ruleFits, allFit, rises, nameLength, aliasLength, ruleTaken, aliasAt, ruleAt, ruleRowFits, rulesIn, rising, rulesOf, aliasNumber, aliasText, ruleText, ruleRow, textOfRules, rowsOfRules, fileOfRules}
+use Rattle.mitex_spec.specs.RuleFile.{classMost, noAlias, padded, validAlias, ruleFits, allFit, rises, nameLength}
+use Rattle.mitex_spec.specs.RuleFile.{aliasLength, ruleTaken, aliasAt, ruleAt, ruleRowFits, rulesIn, rising, rulesOf}
+use Rattle.mitex_spec.specs.RuleFile.{aliasNumber, aliasText, ruleText, ruleRow, textOfRules, rowsOfRules, fileOfRules}
 
 pub and-join : (a b : Bool) → a ≡ true → b ≡ true → (a && b) ≡ true
 and-join a b p q = and-eq-true-iff a b .1 (p, q)
@@ -69,7 +72,10 @@ ruleRow-reads r l t h =
       name-length = e;
       alias-number = f;
       takes = k;
-      is = ap (λ x. rule x (aliasAt (twoAt 2 (ruleRow r l)) (drop (nameLength (ruleRow r l)) (ruleText r ++ t))) (r .class)) (ap (λ x. take x (ruleText r ++ t)) e ∙ p) ∙ ap (λ x. rule (r .name) x (r .class)) q;
+      is =
+          ap (λ x. rule x (aliasAt (twoAt 2 (ruleRow r l)) (drop (nameLength (ruleRow r l)) (ruleText r ++ t))) (r .class))
+          (ap (λ x. take x (ruleText r ++ t)) e ∙ p)
+          ∙ ap (λ x. rule (r .name) x (r .class)) q;
       rest = ap (λ x. drop x (ruleText r ++ t)) k ∙ drop-append-seam (ruleText r) t;
     }
 
@@ -90,8 +96,11 @@ rulesIn-written (r ∷ rs) fit h =
     let short : length (ruleText r) < noAlias = omega arith in
     let s = ruleRow-reads r (rowsOfRules rs) (textOfRules rs) short in
     let i = rulesIn-written rs (f .1) (omega arith) in
-    ap (λ b. cond b (ahead (ruleAt (ruleRow r (rowsOfRules rs)) (ruleText r ++ textOfRules rs)) (rulesIn (length rs) (rowsOfRules rs) (drop (ruleTaken (ruleRow r (rowsOfRules rs))) (ruleText r ++ textOfRules rs)))) none) (row-fits r (rowsOfRules rs) (textOfRules rs) short (f .0))
-    ∙ ap (λ x. ahead x (rulesIn (length rs) (rowsOfRules rs) (drop (ruleTaken (ruleRow r (rowsOfRules rs))) (ruleText r ++ textOfRules rs)))) (s .is)
+    let rows = ruleRow r (rowsOfRules rs) in
+    let text = ruleText r ++ textOfRules rs in
+    let others = rulesIn (length rs) (rowsOfRules rs) (drop (ruleTaken rows) text) in
+    ap (λ b. cond b (ahead (ruleAt rows text) others) none) (row-fits r (rowsOfRules rs) (textOfRules rs) short (f .0))
+    ∙ ap (λ x. ahead x others) (s .is)
     ∙ ap (λ x. ahead r (rulesIn (length rs) (rowsOfRules rs) x)) (s .rest)
     ∙ ap (ahead r) i
 
@@ -197,10 +206,10 @@ rulesIn-says (suc n) rows text rs by l e =
 
 -- ---- the file
 
-pub length-rows : (rs : List Rule) → length (rowsOfRules rs) ≡ 8 * length rs
+pub length-rowsOfRules : (rs : List Rule) → length (rowsOfRules rs) ≡ 8 * length rs
 unfolding rowsOfRules
-length-rows [] = refl
-length-rows (r ∷ rs) = let e = length-rows rs in omega arith
+length-rowsOfRules [] = refl
+length-rowsOfRules (r ∷ rs) = let e = length-rowsOfRules rs in omega arith
 
 pub rules-whole : (file : List ℕ) → Trailed file → rulesOf file ≡ rising (rulesIn (countOf file) (rowArea file) (textArea file))
 unfolding rulesOf
@@ -224,7 +233,7 @@ rules-file rs fit up short =
     let rows = rowsOfRules rs in
     let n = length rs in
     let f = laidOut n text rows in
-    let l = length-rows rs in
+    let l = length-rowsOfRules rs in
     let t : textArea f ≡ text = laid-text n text rows l short in
     rules-whole f (laid-trailed n text rows l short)
     ∙ ap (λ x. rising (rulesIn (countOf f) (rowArea f) x)) t

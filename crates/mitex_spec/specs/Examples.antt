@@ -104,7 +104,9 @@ unfolding firstsBelow
 begin = refl
 
 -- a command is no environment, and the other way round; a name need not be text
-commands : map (getCmd rules) (ascii "sqrt" ∷ ascii "matrix" ∷ ascii "sqr" ∷ (128 ∷ []) ∷ []) ≡ some (rule (ascii "sqrt") (some (ascii "mitexsqrt")) 1) ∷ none ∷ none ∷ none ∷ []
+commands :
+    map (getCmd rules) (ascii "sqrt" ∷ ascii "matrix" ∷ ascii "sqr" ∷ (128 ∷ []) ∷ [])
+    ≡ some (rule (ascii "sqrt") (some (ascii "mitexsqrt")) 1) ∷ none ∷ none ∷ none ∷ []
 unfolding get same
 commands = refl
 

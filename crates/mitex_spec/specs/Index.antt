@@ -1,4 +1,4 @@
--- The index of a rule file: for each rule where its name begins in the file, and behind these the table of first bytes, which
+-- The index of a rule file: for each rule where its name begins in the file, and after these the table of first bytes, which
 -- says for each byte how many names begin with a lower one. A rule's row and its name are then found by the rule's number, and
 -- a name by halving the rules whose names begin as it does.
 use mathlib.Core.Path.{_≡_}
@@ -32,12 +32,12 @@ abbrev pub indexSize : ℕ
 indexSize = 8449
 
 -- the first byte of a name, 0 for the empty name, and how many of the first names begin with a byte lower than b
-abbrev pub firstOf : List ℕ → ℕ
-firstOf name = getD name 0 0
+abbrev pub firstByte : List ℕ → ℕ
+firstByte name = getD name 0 0
 
 unfoldable pub firstsBelow : ℕ → List Rule → ℕ
 firstsBelow b [] = 0
-firstsBelow b (r ∷ rs) = cond (ltb (firstOf (r .name)) b) (1 + firstsBelow b rs) 0
+firstsBelow b (r ∷ rs) = cond (ltb (firstByte (r .name)) b) (1 + firstsBelow b rs) 0
 
 -- this for n numbers from b on; the table has it for 0 to 256
 unfoldable pub firstsFrom : ℕ → ℕ → List Rule → List ℕ

@@ -11,7 +11,8 @@ ghost use Rattle.text.specs.Trailer.{fileMost};
 ghost use Rattle.utf8.specs.Utf8.{oneByteEach};
 ghost use Rattle.mitex_spec.specs.Rules.{Rule, get, getCmd, getEnv, aliasOr};
 ghost use Rattle.mitex_spec.specs.RuleFile.{rulesOf, rulesIn, rising, padded, ruleRowFits, aliasLength, ruleTaken};
-ghost use Rattle.mitex_spec.specs.Index.{startsFrom, firstsAt, indexSize, firstOf, firstsBelow, firsts, accepted, ChecksRules, ruleNo, rankOf, Numbered, SomeRule, SomeRules};
+ghost use Rattle.mitex_spec.specs.Index.{startsFrom, firstsAt, indexSize, firstByte, firstsBelow, firsts, accepted};
+ghost use Rattle.mitex_spec.specs.Index.{ChecksRules, ruleNo, rankOf, Numbered, SomeRule, SomeRules};
 ghost use Rattle.mitex_spec.specs.LookUp.{aliasOf, endOf, isCmd, Finds, Answers};
 ghost use Rattle.mitex_spec.specs.declared.Found.the-variants.{Absent};
 
@@ -179,7 +180,7 @@ fn name_at<'a, 'b>(file: &'a [u8], index: &'b [u32], k: usize) -> &'a [u8]
 
 // The first byte of a name; 0 for the empty name.
 fn first_byte(name: &[u8]) -> usize
-    ensures { λ r. ⌜ (r ≡ firstOf (now (name .entry))) × (r < 256) ⌝ }
+    ensures { λ r. ⌜ (r ≡ firstByte (now (name .entry))) × (r < 256) ⌝ }
 {
     if name.len() == 0 {
         return 0;
@@ -204,7 +205,7 @@ fn firsts_below(file: &[u8], index: &[u32], b: usize, from: usize) -> usize
     k
 }
 
-// The table of first bytes, behind where each name begins.
+// The table of first bytes, after where each name begins.
 fn fill_firsts(file: &[u8], index: &mut [u32])
     requires { ⌜ Numbered (now file) (now index) ⌝ }
     ensures { λ _. ⌜ ((rs : List Rule) → rulesOf (now (file .entry)) ≡ some rs → now (index .exit) ≡ sets (now (index .entry)) firstsAt (firsts rs)) ⌝ }
@@ -218,7 +219,7 @@ fn fill_firsts(file: &[u8], index: &mut [u32])
     }
 }
 
-// Whether a rule file keeps its layout; if so, where each name begins goes into the index, and the table behind it.
+// Whether a rule file keeps its layout; if so, where each name begins goes into the index, and the table after it.
 pub fn check_rules(file: &[u8], index: &mut [u32]) -> bool
     requires { ⌜ indexSize ≤ length (now index) ⌝ }
     ensures { λ r. ⌜ ChecksRules (now (file .entry)) (now (index .entry)) r (now (index .exit)) ⌝ }

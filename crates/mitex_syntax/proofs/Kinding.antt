@@ -5,7 +5,8 @@ use Prim.Native.Nat.{ℕ, _≤_, _<_}
 use native.Mathlib.Omega.{arith}
 use borrow.Author.Tests.{ne-eqb, le-leb, lt-leb, leb-true, leb-false}
 use lib.Dec.{leb}
-use Rattle.mitex_syntax.specs.Syntax.{isKind, isTrivia, isToken, isNode, TokenError, ClauseCommandName, TokenWord, TokenComment, ItemBlockComment, TokenWhiteSpace, TokenLineBreak, ItemNewLine, TokenCommandSym, ItemTypstCode}
+use Rattle.mitex_syntax.specs.Syntax.{isKind, isTrivia, isToken, isNode, TokenError, ClauseCommandName, TokenWord, TokenComment}
+use Rattle.mitex_syntax.specs.Syntax.{ItemBlockComment, TokenWhiteSpace, TokenLineBreak, ItemNewLine, TokenCommandSym, ItemTypstCode}
 
 pub no-trivia :
     (k : ℕ) → (k ≡ TokenLineBreak → ⊥) → (k ≡ TokenWhiteSpace → ⊥) → (k ≡ TokenComment → ⊥) → (k ≡ ItemNewLine → ⊥) → false ≡ isTrivia k
@@ -35,4 +36,5 @@ module _ (k : ℕ) (no-error : k ≡ TokenError → ⊥) where
 
   pub other-node : (b : Bool) → b ≡ isToken k → b ≡ false → (k ≡ 0 → ⊥) → leb k ItemTypstCode ≡ isNode k
   other-node b e h no-zero =
-      sym (node-by {c = leb k ItemTypstCode} (sym e ∙ h) (ap (λ (x : Bool). x && leb k ItemTypstCode) (le-leb 1 k (omega (arith, no-zero)))) ∙ and-true (leb k ItemTypstCode))
+      let positive = ap (λ (x : Bool). x && leb k ItemTypstCode) (le-leb 1 k (omega (arith, no-zero))) in
+      sym (node-by {c = leb k ItemTypstCode} (sym e ∙ h) positive ∙ and-true (leb k ItemTypstCode))

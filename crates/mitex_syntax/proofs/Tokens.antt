@@ -23,7 +23,8 @@ use Rattle.mitex_syntax.specs.Places.{TokenIs, Hops}
 use Rattle.mitex_syntax.specs.declared.Token.{Token}
 use Rattle.mitex_syntax.specs.declared.Span.{Span}
 use Rattle.mitex_syntax.proofs.Deciding.{and-then, and-not}
-use Rattle.mitex_syntax.proofs.Trees.{length-rowss, four-says, size-some, left, no-left, First, first-spelt, Element, element, rows-e, text-n, past}
+use Rattle.text.proofs.Numbers.{four-says}
+use Rattle.mitex_syntax.proofs.Trees.{length-rowss, size-some, left, no-left, First, first-spelt, Element, element, rows-e, text-n, past}
 use Rattle.mitex_syntax.proofs.Seeking.{kind-here, mark-here, size-token}
 
 -- ---- the first row of an element
@@ -207,7 +208,7 @@ module _ {f : Forest} {rows text : List ℕ} {i j : ℕ} (w : Lasts f rows text 
     unfolding rowsOf
     rows-last = begins-last .rows-are
 
-    -- nothing is left behind the last
+    -- nothing is left after the last
     alone : i + 8 * size (last-element .tree) ≡ length rows → last-element .others ≡ none
     alone q =
         let l = length-drop i rows in

@@ -3,12 +3,14 @@
 use mathlib.Core.Path.{_≡_, refl, sym, ap, subst, _∙_}
 use mathlib.Core.Bool.{Bool, false, _&&_}
 use mathlib.Core.List.{List, [], _++_, append-assoc, append-nil}
-use Prim.Native.Nat.{ℕ, _+_, _*_, _-_, _/_, _%_, _≤_, _<_}
+use Prim.Native.Nat.{ℕ, _+_, _*_, _-_, _≤_, _<_}
 use native.Mathlib.Omega.{arith}
 use lib.Dec.{T, leb}
 use lib.ListN.{length, take, drop, getD, length-append, length-drop}
-use lib.Seq.{take-at, drop-at, drop-drop, getD-drop, getD-take, length-take-le, take-all}
+use lib.Seq.{take-at, drop-at, drop-drop, getD-drop, getD-take, length-take-le}
 use Rattle.text.specs.Writing.{cap}
+use Rattle.text.proofs.Numbers.{four-says}
+use Rattle.text.proofs.Writing.{part-rest}
 use Rattle.utf8.specs.Utf8.{valid}
 use Rattle.mitex_syntax.specs.Syntax.{isToken, isNode}
 use Rattle.mitex_syntax.specs.Tree.{Tree, Forest, size, sizes, rowsOf, rowsOfs, textOf, textsOf, kindOf}
@@ -31,10 +33,6 @@ mutual
   pub length-rowss : (f : Forest) → length (rowsOfs f) ≡ 8 * sizes f
   length-rowss none = refl
   length-rowss (more t f) = omega (arith, length-append (rowsOf t) (rowsOfs f), length-rows t, length-rowss f)
-
--- four bytes say the number
-pub four-says : (n : ℕ) → n < cap → n % 256 + 256 * (n / 256 % 256) + 65536 * (n / 256 / 256 % 256) + 16777216 * (n / 256 / 256 / 256 % 256) ≡ n
-four-says n h = omega arith
 
 mutual
   unfolding rowsOf textOf tokenSum
@@ -111,11 +109,8 @@ children-begin (token k s) {rows} {text} sp = record { rows-are = ap (drop 8) (s
 children-begin (node k f) sp = all-begins (under sp)
 
 -- the same of the part that code takes from the second row on
-past-eight : (rows : List ℕ) → take (length rows - 8) (drop 8 rows) ≡ drop 8 rows
-past-eight rows = take-all (length rows - 8) (drop 8 rows) (simp length-drop (omega arith))
-
 pub children-part : (t : Tree) {rows text : List ℕ} → Spells t rows text → Begins (childrenOf t) (take (length rows - 8) (drop 8 rows)) text
-children-part t {rows} {text} sp = subst (λ (l : List ℕ). Begins (childrenOf t) l text) (sym (past-eight rows)) (children-begin t sp)
+children-part t {rows} {text} sp = subst (λ (l : List ℕ). Begins (childrenOf t) l text) (sym (part-rest rows 8)) (children-begin t sp)
 
 -- ---- the first element of a forest
 
@@ -296,7 +291,7 @@ module _ {forest : Forest} {rows text : List ℕ} {i j : ℕ} (x : Element fores
     text-past : drop (length (textOf (x .tree))) (drop j text) ≡ drop (j + n) text
     text-past = drop-drop (length (textOf (x .tree))) j text ∙ ap (λ (m : ℕ). drop (j + m) text) (sym text-n)
 
-    -- the elements behind it
+    -- the elements after it
     pub past : Begins (x .others) (drop (i + e) rows) (drop (j + n) text)
     past =
         subst (λ (l : List ℕ). Begins (x .others) l (drop (j + n) text)) rows-past

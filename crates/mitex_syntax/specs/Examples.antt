@@ -8,12 +8,14 @@ use Prim.Native.Nat.{ℕ}
 use Rattle.text.specs.Ascii.{ascii}
 use Rattle.text.specs.Compare.{same}
 use Rattle.utf8.specs.Utf8.{valid, charSteps}
-use Rattle.mitex_syntax.specs.Syntax.{ClauseArgument, ItemText, ItemBracket, ItemCurly, ClauseCommandName, ItemBegin, TokenWord, TokenLBrace, TokenRBrace, TokenDollar, TokenBeginMath, TokenEndMath, TokenCommandSym, TokenError, ItemNewLine, isToken, isNode, isTrivia}
+use Rattle.mitex_syntax.specs.Syntax.{ClauseArgument, ItemText, ItemBracket, ItemCurly, ClauseCommandName, ItemBegin, TokenWord, TokenLBrace, TokenRBrace}
+use Rattle.mitex_syntax.specs.Syntax.{TokenDollar, TokenBeginMath, TokenEndMath, TokenCommandSym, TokenError, ItemNewLine, isToken, isNode, isTrivia}
 use Rattle.mitex_syntax.specs.Tree.{Tree, Forest, size, rowsOf, textOf}
 use Rattle.mitex_syntax.specs.Tree.Tree.{token, node}
 use Rattle.mitex_syntax.specs.Tree.Forest.{none, more}
 use Rattle.mitex_syntax.specs.Rows.{extentOf, tokenSum}
-use Rattle.mitex_syntax.specs.Views.{firstBy, offsetBy, allBy, firstOf, offsetOf, firstNode, textIn, kindIn, cmdName, arguments, argumentWith, envName, firstToken, firstTokens, lastToken, lastTokens, isInline, isValid, inner}
+use Rattle.mitex_syntax.specs.Views.{firstBy, offsetBy, allBy, firstOf, offsetOf, firstNode, textIn, kindIn, cmdName, arguments}
+use Rattle.mitex_syntax.specs.Views.{argumentWith, envName, firstToken, firstTokens, lastToken, lastTokens, isInline, isValid, inner}
 use Rattle.mitex_syntax.specs.Spells.{Sound, Begins}
 
 word : Tree

@@ -22,13 +22,13 @@ use Rattle.mitex_syntax.specs.declared.Span.{Span}
 -- ---- a child
 
 -- the test that a wish stands for
-abbrev pub picks : Wanted → Tree → Bool
-picks (Kind k) = isOf k
-picks (ArgumentWith k) = isArgumentWith k
-picks (Other k) = isOther k
+abbrev pub isWanted : Wanted → Tree → Bool
+isWanted (Kind k) = isOf k
+isWanted (ArgumentWith k) = isArgumentWith k
+isWanted (Other k) = isOther k
 
 -- of the elements f, which begin at row byte i, the first that the test picks has the rows from a to b and the text from c to d,
--- and the others behind it begin where it ends
+-- and the others after it begin where it ends
 pub record FirstAt (p : Tree → Bool) (f : Forest) (rows text : List ℕ) (i a b c d : ℕ) : Type 0 where
   pub tree : Tree
   pub is : firstBy p f ≡ some tree

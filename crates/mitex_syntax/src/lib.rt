@@ -9,9 +9,10 @@ ghost use Rattle.utf8.specs.Trim.{trim};
 ghost use Rattle.mitex_syntax.specs.Syntax.{ItemBegin, isTrivia, isToken, isNode};
 ghost use Rattle.mitex_syntax.specs.Tree.{Tree, Forest, rowsOf, rowsOfs};
 ghost use Rattle.mitex_syntax.specs.Rows.{numOf, extentOf, tokenAt, tokenSum, Spans};
-ghost use Rattle.mitex_syntax.specs.Views.{isOf, isArgumentWith, firstNode, kindIn, cmdName, firstTokens, lastTokens, envName, isTokenOf, isInline, isPair, dollarEnds, mathEnds, isValid, inner};
+ghost use Rattle.mitex_syntax.specs.Views.{isOf, isArgumentWith, firstNode, kindIn, cmdName, firstTokens, lastTokens};
+ghost use Rattle.mitex_syntax.specs.Views.{envName, isTokenOf, isInline, isPair, dollarEnds, mathEnds, isValid, inner};
 ghost use Rattle.mitex_syntax.specs.Spells.{Begins, SomeRows, SomeElement, SomeForest};
-ghost use Rattle.mitex_syntax.specs.Places.{picks, FindsPlace, InText, partAt, TokenIs, TokenInText, Hops};
+ghost use Rattle.mitex_syntax.specs.Places.{isWanted, FindsPlace, InText, partAt, TokenIs, TokenInText, Hops};
 
 // ---- kinds, in the order in which the main match of `Converter::convert` names them
 
@@ -279,7 +280,7 @@ fn is_argument_with(rows: &[u8], kind: u8) -> bool
 // Whether an element is what is looked for.
 fn is_wanted(rows: &[u8], wanted: Wanted) -> bool
     requires { ⌜ SomeElement (now rows) ⌝ }
-    ensures { λ r. ⌜ ((t : Tree) → now (rows .entry) ≡ rowsOf t → r ≡ picks wanted t) ⌝ }
+    ensures { λ r. ⌜ ((t : Tree) → now (rows .entry) ≡ rowsOf t → r ≡ isWanted wanted t) ⌝ }
 {
     match wanted {
         Wanted::Kind(k) => rows[0] == k,
@@ -291,7 +292,7 @@ fn is_wanted(rows: &[u8], wanted: Wanted) -> bool
 // The first child from a cursor on that is what is looked for.
 pub fn find(rows: &[u8], text: &[u8], at: Cursor, wanted: Wanted) -> Place
     requires { ⌜ SomeForest (now rows) (now text) (at .row) (at .text) ⌝ }
-    ensures { λ r. ⌜ FindsPlace (picks wanted) (now (rows .entry)) (now (text .entry)) (at .row) (at .text) r ⌝ }
+    ensures { λ r. ⌜ FindsPlace (isWanted wanted) (now (rows .entry)) (now (text .entry)) (at .row) (at .text) r ⌝ }
 {
     let mut i = at.row;
     let mut j = at.text;

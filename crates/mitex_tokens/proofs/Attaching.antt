@@ -18,7 +18,8 @@ use Rattle.mitex_syntax.specs.Tree.{Forest, size, sizes, rowsOf, rowsOfs, textO
 use Rattle.mitex_syntax.specs.Tree.Tree.{token, node}
 use Rattle.mitex_syntax.specs.Tree.Forest.{none, more}
 use Rattle.mitex_syntax.specs.Spells.{Sound, SpellsAll}
-use Rattle.mitex_syntax.proofs.Trees.{four-says, size-some, length-rowss}
+use Rattle.text.proofs.Numbers.{four-says}
+use Rattle.mitex_syntax.proofs.Trees.{size-some, length-rowss}
 use Rattle.mitex_meaning.specs.Outcome.{Context, Carry, Outcome, Arm, after, andThen, shift, flagged}
 use Rattle.mitex_meaning.specs.Outcome.Outcome.{done}
 use Rattle.mitex_meaning.specs.Texts.{leftParen, rightParen}

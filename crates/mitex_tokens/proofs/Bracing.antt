@@ -17,7 +17,8 @@ use Rattle.mitex_syntax.specs.Tree.{Tree, Forest, size, sizes, rowsOf, rowsOfs,
 use Rattle.mitex_syntax.specs.Tree.Tree.{token, node}
 use Rattle.mitex_syntax.specs.Tree.Forest.{none, more}
 use Rattle.mitex_syntax.specs.Spells.{Sound, Spells, SpellsAll}
-use Rattle.mitex_syntax.proofs.Trees.{four-says, size-some, length-rowss, all-begins, first-spelt, others-exact}
+use Rattle.text.proofs.Numbers.{four-says}
+use Rattle.mitex_syntax.proofs.Trees.{size-some, length-rowss, all-begins, first-spelt, others-exact}
 use Rattle.mitex_meaning.specs.Outcome.{Context, Label, Carry, Outcome, after, andThen, closing, shift, flagged, inEnv}
 use Rattle.mitex_meaning.specs.Outcome.Outcome.{refused, done}
 use Rattle.mitex_meaning.specs.Texts.{blankGroup}

@@ -1,5 +1,5 @@
 -- The digits of a number come from the last on into an array of 20. At each turn the digits that the rest m has, in the
--- i places before, and those that stand behind are the digits of the whole; m is short enough for these places.
+-- i places before, and those that stand after are the digits of the whole; m is short enough for these places.
 use mathlib.Core.Path.{_≡_, sym, ap, subst, _∙_}
 use mathlib.Core.Bool.{cond}
 use mathlib.Core.List.{List, [], _∷_, _++_, append-assoc, append-nil}
@@ -29,7 +29,7 @@ left-start n d l h =
       are = sym (ap (λ r. digits 20 n ++ r) (ap (λ k. drop k d) (sym l) ∙ drop-length d) ∙ append-nil (digits 20 n));
     }
 
--- a digit stored at j stands before those behind it
+-- a digit stored at j stands before those after it
 drop-stored : (d : List ℕ) (j x : ℕ) → j < length d → drop j (set d j x) ≡ x ∷ drop (suc j) d
 drop-stored d j x h =
     drop-cons (set d j x) j 0 (simp length-set h)

@@ -5,14 +5,13 @@ use mathlib.Core.Bool.{Bool, true, false, and-eq-true-iff}
 use mathlib.Core.Option.{Option}
 use mathlib.Core.Option.Option.{none, some}
 use mathlib.Core.List.{List, [], _∷_, _++_, append-assoc}
-use Prim.Native.Nat.{ℕ, _+_, _*_, _-_, _≤_, _<_}
+use Prim.Native.Nat.{ℕ, _+_, _*_, _-_, _≤_}
 use native.Mathlib.Omega.{arith}
 use borrow.Author.Tests.{le-leb, leb-true, eq-eqb, eqb-true}
 use lib.Dec.{eqb}
 use lib.ListN.{length, take, drop, length-append, length-drop, take-append-drop}
 use lib.Seq.{take-at, drop-at, drop-drop, take-append-seam, drop-append-seam, length-take-le}
 use Rattle.text.specs.Numbers.{Bytes, four, fourAt}
-use Rattle.text.specs.Writing.{cap}
 use Rattle.text.specs.Trailer.{fileMost, startOf, countOf, trailed, textArea, rowArea, ahead}
 use Rattle.text.proofs.Numbers.{bytes-take, bytes-drop, four-says, fourAt-drop, eight-fours}
 

@@ -1,4 +1,4 @@
-// Bytes: numbers, comparing, finding, and writing at a place of a lent buffer.
+// Bytes: numbers, files of rows, comparing, finding, and writing at a place of a lent buffer.
 ghost use mathlib.Core.Path.{_≡_};
 ghost use mathlib.Core.Logic.{_⊎_};
 ghost use mathlib.Core.List.{[], _∷_};

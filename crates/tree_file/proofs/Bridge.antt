@@ -165,7 +165,9 @@ accepted-blocks b t a start end s e =
     }
 
 -- the same from the code's answer, with the end that the caller takes
-pub answer-blocks : (b : List ℕ) → Bytes b → (start rows blocks : ℕ) (w : Answered b start rows blocks) → (end : ℕ) → end + 8 ≡ length b → Blocks b (w .tree) start end
+pub answer-blocks :
+    (b : List ℕ) → Bytes b → (start rows blocks : ℕ) (w : Answered b start rows blocks) → (end : ℕ) → end + 8 ≡ length b
+    → Blocks b (w .tree) start end
 answer-blocks b by start rows blocks w end e =
     let a = accepted-says b by (w .tree) (w .is) in
     let sum = a .whole in

@@ -19,7 +19,8 @@ use Rattle.mitex_syntax.specs.Tree.Forest.{none, more}
 use Rattle.mitex_syntax.specs.Spells.{Sound, Sounds, Spells}
 use Rattle.mitex_syntax.proofs.Trees.{length-rows}
 use Rattle.text.specs.Trailer.{fileMost, trailed, startOf, countOf, textArea, rowArea}
-use Rattle.text.proofs.Trailer.{Trailed, trailed-says, trailed-is, areas, length-textArea, length-rowArea, bytes-rowArea, laid-length, laid-count, laid-trailed, laid-text, laid-rows}
+use Rattle.text.proofs.Trailer.{Trailed, trailed-says, trailed-is, areas, length-textArea, length-rowArea}
+use Rattle.text.proofs.Trailer.{bytes-rowArea, laid-length, laid-count, laid-trailed, laid-text, laid-rows}
 use Rattle.tree_file.specs.Layout.{blocksMost, Line, lines, grow, grows, root, decode, Rooted, Laid}
 use Rattle.tree_file.specs.Parts.{bytesOf, textsIn, LinesFit}
 use Rattle.tree_file.proofs.Grow.{no-some, linesOf, linesOfs, grow-sound, grow-complete, length-lines}
@@ -88,7 +89,9 @@ mutual
       (fits-forest f ls (h .1) (omega (arith, length-append (textOf t) (textsOf f))) (omega arith) r))
 
 -- the root
-root-node : (k : ℕ) (f : Forest) (t : Tree) (b : Bool) → eqb k ScopeRoot && leb (count f) blocksMost ≡ b → cond b (some (node k f)) nothing ≡ some t → (node k f ≡ t) × (k ≡ ScopeRoot) × (count f ≤ blocksMost)
+root-node :
+    (k : ℕ) (f : Forest) (t : Tree) (b : Bool) → eqb k ScopeRoot && leb (count f) blocksMost ≡ b → cond b (some (node k f)) nothing ≡ some t
+    → (node k f ≡ t) × (k ≡ ScopeRoot) × (count f ≤ blocksMost)
 root-node k f t true e q = let w = and-eq-true-iff _ _ .0 e in (cc, eqb-true k ScopeRoot (w .0), leb-true _ _ (w .1))
 root-node k f t false e q = absurd (no-some q)
 

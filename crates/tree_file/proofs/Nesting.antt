@@ -25,7 +25,8 @@ use Rattle.tree_file.specs.Shape.{isSome}
 use Rattle.tree_file.specs.Parts.{bytesOf, LinesFit, underOf, Nested}
 use Rattle.tree_file.specs.declared.Nest.{Nest}
 use Rattle.tree_file.specs.declared.Nest.the-variants.{Deep, Fine}
-use Rattle.tree_file.proofs.Grow.{join, no-some, none-before, linesOf, linesOfs, before, pair, grow-cut, grow-sound, length-liness, split-sound, sizes-join, join-assoc, join-none}
+use Rattle.tree_file.proofs.Grow.{join, no-some, none-before, linesOf, linesOfs, before, pair, grow-cut}
+use Rattle.tree_file.proofs.Grow.{grow-sound, length-liness, split-sound, sizes-join, join-assoc, join-none}
 use Rattle.tree_file.proofs.Rows.{fits-drop}
 
 -- how many rows lie under a row
@@ -45,10 +46,10 @@ bytes-append [] ys = refl
 bytes-append (tok k s ∷ xs) ys = ap (λ l. k ∷ 1 ∷ 0 ∷ 0 ∷ four (length s) l) (bytes-append xs ys)
 bytes-append (nod k n ∷ xs) ys = ap (λ l. k ∷ 0 ∷ 0 ∷ 0 ∷ four n l) (bytes-append xs ys)
 
-pub bytes-one : (l : Line) (ls : List Line) → drop 8 (bytesOf (l ∷ ls)) ≡ bytesOf ls
+pub lines-one : (l : Line) (ls : List Line) → drop 8 (bytesOf (l ∷ ls)) ≡ bytesOf ls
 unfolding bytesOf
-bytes-one (tok k s) ls = refl
-bytes-one (nod k n) ls = refl
+lines-one (tok k s) ls = refl
+lines-one (nod k n) ls = refl
 
 pub under-is : (l : Line) (ls : List Line) → LinesFit (l ∷ ls) → underOf (bytesOf (l ∷ ls)) ≡ below l
 unfolding bytesOf LinesFit
@@ -59,14 +60,14 @@ module _ (ls : List Line) (n : ℕ) (le : n ≤ length ls) where
   cut-length : length (take n ls) ≡ n
   cut-length = length-take n ls ∙ omega arith
 
-  pub bytes-take : take (8 * n) (bytesOf ls) ≡ bytesOf (take n ls)
-  bytes-take =
+  pub lines-take : take (8 * n) (bytesOf ls) ≡ bytesOf (take n ls)
+  lines-take =
       ap (λ l. take (8 * n) (bytesOf l)) (sym (take-append-drop n ls))
       ∙ ap (take (8 * n)) (bytes-append (take n ls) (drop n ls))
       ∙ take-at (bytesOf (take n ls)) (bytesOf (drop n ls)) (8 * n) (length-bytes (take n ls) ∙ omega (arith, cut-length))
 
-  pub bytes-past : drop (8 * n) (bytesOf ls) ≡ bytesOf (drop n ls)
-  bytes-past =
+  pub lines-past : drop (8 * n) (bytesOf ls) ≡ bytesOf (drop n ls)
+  lines-past =
       ap (λ l. drop (8 * n) (bytesOf l)) (sym (take-append-drop n ls))
       ∙ ap (drop (8 * n)) (bytes-append (take n ls) (drop n ls))
       ∙ drop-at (bytesOf (take n ls)) (bytesOf (drop n ls)) (8 * n) (length-bytes (take n ls) ∙ omega (arith, cut-length))
@@ -186,24 +187,35 @@ at-short {ls} {left} {rest} {n} a h =
     a .same ∙ ap (before (a .done)) (grow-short (a .line) (a .ns) (omega arith))
 
 -- the child's range
-pub at-child : {ls : List Line} {left : ℕ} {rest : List ℕ} {n : ℕ} → (a : At ls left rest n) → 8 + 8 * n ≤ length rest → take (8 + 8 * n - 8) (drop 8 rest) ≡ bytesOf (take n (a .ns))
+pub at-child :
+    {ls : List Line} {left : ℕ} {rest : List ℕ} {n : ℕ} → (a : At ls left rest n) → 8 + 8 * n ≤ length rest
+    → take (8 + 8 * n - 8) (drop 8 rest) ≡ bytesOf (take n (a .ns))
 at-child {ls} {left} {rest} {n} a h =
     let l = a .long in
     ap (λ k. take k (drop 8 rest)) (let e : 8 + 8 * n - 8 ≡ 8 * n = omega arith in e)
-    ∙ ap (λ r. take (8 * n) (drop 8 r)) (a .spelt) ∙ ap (take (8 * n)) (bytes-one (a .line) (a .ns)) ∙ bytes-take (a .ns) n (omega arith)
+    ∙ ap (λ r. take (8 * n) (drop 8 r)) (a .spelt) ∙ ap (take (8 * n)) (lines-one (a .line) (a .ns)) ∙ lines-take (a .ns) n (omega arith)
 
-pub at-past : {ls : List Line} {left : ℕ} {rest : List ℕ} {n : ℕ} → (a : At ls left rest n) → 8 + 8 * n ≤ length rest → drop (8 + 8 * n) rest ≡ bytesOf (drop n (a .ns))
+pub at-past :
+    {ls : List Line} {left : ℕ} {rest : List ℕ} {n : ℕ} → (a : At ls left rest n) → 8 + 8 * n ≤ length rest
+    → drop (8 + 8 * n) rest ≡ bytesOf (drop n (a .ns))
 at-past {ls} {left} {rest} {n} a h =
     let l = a .long in
-    sym (drop-drop (8 * n) 8 rest) ∙ ap (λ r. drop (8 * n) (drop 8 r)) (a .spelt) ∙ ap (drop (8 * n)) (bytes-one (a .line) (a .ns)) ∙ bytes-past (a .ns) n (omega arith)
+    sym (drop-drop (8 * n) 8 rest)
+    ∙ ap (λ r. drop (8 * n) (drop 8 r)) (a .spelt)
+    ∙ ap (drop (8 * n)) (lines-one (a .line) (a .ns))
+    ∙ lines-past (a .ns) n (omega arith)
 
-at-grows : {ls : List Line} {left : ℕ} {rest : List ℕ} {n : ℕ} → (a : At ls left rest n) → 8 + 8 * n ≤ length rest → grow ls ≡ before (a .done) (built (a .line) (pair (grow (take n (a .ns))) (grow (drop n (a .ns)))))
+at-grows :
+    {ls : List Line} {left : ℕ} {rest : List ℕ} {n : ℕ} → (a : At ls left rest n) → 8 + 8 * n ≤ length rest
+    → grow ls ≡ before (a .done) (built (a .line) (pair (grow (take n (a .ns))) (grow (drop n (a .ns)))))
 at-grows {ls} {left} {rest} {n} a h =
     let l = a .long in let m = a .number in
     a .same ∙ ap (before (a .done)) (grow-step (a .line) (a .ns) (omega arith)
     ∙ ap (λ k. built (a .line) (pair (grow (take k (a .ns))) (grow (drop k (a .ns))))) (sym m))
 
-pub at-broken : {ls : List Line} {left : ℕ} {rest : List ℕ} {n : ℕ} → (a : At ls left rest n) → 8 + 8 * n ≤ length rest → grow (take n (a .ns)) ≡ nothing → grow ls ≡ nothing
+pub at-broken :
+    {ls : List Line} {left : ℕ} {rest : List ℕ} {n : ℕ} → (a : At ls left rest n) → 8 + 8 * n ≤ length rest → grow (take n (a .ns)) ≡ nothing
+    → grow ls ≡ nothing
 at-broken {ls} {left} {rest} {n} a h e = at-grows a h ∙ ap (λ o. before (a .done) (built (a .line) (pair o (grow (drop n (a .ns)))))) e
 
 pub child-length : (r : List ℕ) (n : ℕ) → 8 + 8 * n ≤ length r → length (take (8 + 8 * n - 8) (drop 8 r)) ≡ 8 * n
@@ -225,7 +237,9 @@ pub none-under : (ns : List Line) (n left : ℕ) → n ≤ 0 → Nested (grow (t
 unfolding grow depth
 none-under ns n left h = let z : 0 ≡ n = omega arith in subst (λ m. Nested (grow (take m ns)) left Fine) z (none, (refl, omega arith))
 
-pub at-next : {ls : List Line} {left : ℕ} {rest : List ℕ} {n : ℕ} → (a : At ls left rest n) → 8 + 8 * n ≤ length rest → 1 ≤ left → Nested (grow (take n (a .ns))) (left - 1) Fine
+pub at-next :
+    {ls : List Line} {left : ℕ} {rest : List ℕ} {n : ℕ} → (a : At ls left rest n) → 8 + 8 * n ≤ length rest → 1 ≤ left
+    → Nested (grow (take n (a .ns))) (left - 1) Fine
     → Turn ls left (take (length rest - (8 + 8 * n)) (drop (8 + 8 * n) rest))
 unfolding depth
 at-next {ls} {left} {rest} {n} a h one w =
@@ -236,7 +250,10 @@ at-next {ls} {left} {rest} {n} a h one w =
       done = join (a .done) (more t none);
       spelt = part-rest rest (8 + 8 * n) ∙ at-past a h;
       fit = fits-past n (a .ns) (a .fit);
-      same = at-grows a h ∙ ap (λ o. before (a .done) (built (a .line) (pair o (grow (drop n (a .ns)))))) (w .1 .0) ∙ over-child (a .line) (a .done) g (grow (drop n (a .ns)));
+      same =
+          at-grows a h
+          ∙ ap (λ o. before (a .done) (built (a .line) (pair o (grow (drop n (a .ns)))))) (w .1 .0)
+          ∙ over-child (a .line) (a .done) g (grow (drop n (a .ns)));
       low = let p = depth-child (a .line) g left one (w .1 .1) in let q = a .low in omega (arith, depths-join (a .done) (more t none));
     }
 
@@ -253,7 +270,9 @@ pair-some nothing y g h e = absurd (no-some e)
 pair-some (some f) nothing g h e = absurd (no-some e)
 pair-some (some f) (some f′) g h e = (cc, cc)
 
-deep-tree : (l : Line) (n : ℕ) (ns : List Line) (g : Forest) (left : ℕ) → n ≡ below l → grow (take n ns) ≡ some g → suc (left - 1) ≤ depths g → 1 ≤ left → suc left ≤ depth (treeOf l g)
+deep-tree :
+    (l : Line) (n : ℕ) (ns : List Line) (g : Forest) (left : ℕ) → n ≡ below l → grow (take n ns) ≡ some g → suc (left - 1) ≤ depths g → 1 ≤ left
+    → suc left ≤ depth (treeOf l g)
 unfolding depth grow
 deep-tree (tok k s) n ns g left e p q h =
     let z : some none ≡ some g = ap (λ m. grow (take m ns)) (sym e) ∙ p in
@@ -261,7 +280,9 @@ deep-tree (tok k s) n ns g left e p q h =
     absurd (omega (arith, ap depths w))
 deep-tree (nod k m) n ns g left e p q h = omega arith
 
-pub at-deep : {ls : List Line} {left : ℕ} {rest : List ℕ} {n : ℕ} → (a : At ls left rest n) → 8 + 8 * n ≤ length rest → 1 ≤ left → Nested (grow (take n (a .ns))) (left - 1) Deep → Nested (grow ls) left Deep
+pub at-deep :
+    {ls : List Line} {left : ℕ} {rest : List ℕ} {n : ℕ} → (a : At ls left rest n) → 8 + 8 * n ≤ length rest → 1 ≤ left
+    → Nested (grow (take n (a .ns))) (left - 1) Deep → Nested (grow ls) left Deep
 unfolding depth
 at-deep {ls} {left} {rest} {n} a h one w f e =
     let b = before-some (a .done) (built (a .line) (pair (grow (take n (a .ns))) (grow (drop n (a .ns))))) f (sym (at-grows a h) ∙ e) in
@@ -301,12 +322,15 @@ turn-end {ls} {left} {rest} w h =
     go (w .ms) (w .spelt) (w .same)
 
 -- what a child's answer says of the whole
-pub at-answer : {ls : List Line} {left : ℕ} {rest : List ℕ} {n : ℕ} → (a : At ls left rest n) → 8 + 8 * n ≤ length rest → (r x : Nest)
-    → ((ms : List Line) → take (8 + 8 * n - 8) (drop 8 rest) ≡ bytesOf ms → LinesFit ms → Nested (grow ms) (left - 1) r) → r ≡ x → Nested (grow (take n (a .ns))) (left - 1) x
-at-answer {ls} {left} {rest} {n} a h r x f e = subst (Nested (grow (take n (a .ns))) (left - 1)) e (f (take n (a .ns)) (at-child a h) (fits-first n (a .ns) (a .fit)))
+pub at-answer :
+    {ls : List Line} {left : ℕ} {rest : List ℕ} {n : ℕ} → (a : At ls left rest n) → 8 + 8 * n ≤ length rest → (r x : Nest)
+    → ((ms : List Line) → take (8 + 8 * n - 8) (drop 8 rest) ≡ bytesOf ms → LinesFit ms → Nested (grow ms) (left - 1) r) → r ≡ x
+    → Nested (grow (take n (a .ns))) (left - 1) x
+at-answer {ls} {left} {rest} {n} a h r x f e =
+    subst (Nested (grow (take n (a .ns))) (left - 1)) e (f (take n (a .ns)) (at-child a h) (fits-first n (a .ns) (a .fit)))
 
 -- the first tree of rows that grow
-pub record Head (l : Line) (ns : List Line) (g : Forest) : Type 0 where
+pub record FirstGrown (l : Line) (ns : List Line) (g : Forest) : Type 0 where
   pub inside : below l ≤ length ns
   pub tree : Tree
   pub others : Forest
@@ -314,9 +338,9 @@ pub record Head (l : Line) (ns : List Line) (g : Forest) : Type 0 where
   pub is : g ≡ more tree others
   pub so-big : size tree ≡ 1 + below l
 
-pub head : (l : Line) (ns : List Line) (g : Forest) → grow (l ∷ ns) ≡ some g → Head l ns g
+pub first-grown : (l : Line) (ns : List Line) (g : Forest) → grow (l ∷ ns) ≡ some g → FirstGrown l ns g
 unfolding size grow
-head l ns g e =
+first-grown l ns g e =
     let short : length ns < below l → ⊥ = λ h. no-some (sym (grow-short l ns h) ∙ e) in
     let le : below l ≤ length ns = elim (decLe (below l) (length ns)) [ yes p ↦ p | no q ↦ absurd (short (omega arith)) ] in
     let c = built-some l (pair (grow (take (below l) ns)) (grow (drop (below l) ns))) g (sym (grow-step l ns le) ∙ e) in
@@ -383,7 +407,7 @@ pub record HopAt (n : ℕ) (f : Forest) (left : ℕ) (rest : List ℕ) (m : ℕ)
   pub spelt : rest ≡ bytesOf (line ∷ ns)
   pub fit : LinesFit ns
   pub number : m ≡ below line
-  pub top : Head line ns g
+  pub top : FirstGrown line ns g
   pub same : isSome (split n f) ≡ isSome (split left g)
   pub long : length rest ≡ 8 + 8 * length ns
 
@@ -399,7 +423,7 @@ hop-at {n} {f} {left} {rest} w h m e =
         spelt = p;
         fit = fits-drop l ns q;
         number = e ∙ ap underOf p ∙ under-is l ns q;
-        top = head l ns (w .g) r;
+        top = first-grown l ns (w .g) r;
         same = w .same;
         long = ap length p ∙ length-bytes (l ∷ ns) ∙ omega arith;
       }
@@ -414,13 +438,20 @@ hop-over {n} {f} {left} {rest} {m} a h le =
 pub hop-never : {n : ℕ} {f : Forest} {left : ℕ} {rest : List ℕ} {m : ℕ} → HopAt n f left rest m → length rest < 8 + 8 * m → ⊥
 hop-never {n} {f} {left} {rest} {m} a h = let t = a .top .inside in let y = a .number in let z = a .long in omega arith
 
-pub hop-next : {n : ℕ} {f : Forest} {left : ℕ} {rest : List ℕ} {m : ℕ} → HopAt n f left rest m → 8 + 8 * m ≤ length rest → m < left → Hop n f (left - m - 1) (take (length rest - (8 + 8 * m)) (drop (8 + 8 * m) rest))
+pub hop-next :
+    {n : ℕ} {f : Forest} {left : ℕ} {rest : List ℕ} {m : ℕ} → HopAt n f left rest m → 8 + 8 * m ≤ length rest → m < left
+    → Hop n f (left - m - 1) (take (length rest - (8 + 8 * m)) (drop (8 + 8 * m) rest))
 hop-next {n} {f} {left} {rest} {m} a h lt =
     let t = a .top in let x = t .so-big in let y = a .number in let z = a .long in
     record {
       ms = drop m (a .ns);
       g = t .others;
-      spelt = part-rest rest (8 + 8 * m) ∙ sym (drop-drop (8 * m) 8 rest) ∙ ap (λ r. drop (8 * m) (drop 8 r)) (a .spelt) ∙ ap (drop (8 * m)) (bytes-one (a .line) (a .ns)) ∙ bytes-past (a .ns) m (omega arith);
+      spelt =
+          part-rest rest (8 + 8 * m)
+          ∙ sym (drop-drop (8 * m) 8 rest)
+          ∙ ap (λ r. drop (8 * m) (drop 8 r)) (a .spelt)
+          ∙ ap (drop (8 * m)) (lines-one (a .line) (a .ns))
+          ∙ lines-past (a .ns) m (omega arith);
       fit = fits-past m (a .ns) (a .fit);
       grown = ap (λ k. grow (drop k (a .ns))) y ∙ t .grown;
       same = a .same ∙ ap (λ x. isSome (split left x)) (t .is) ∙ split-past (t .tree) (t .others) left (omega arith) (omega arith)
@@ -448,7 +479,9 @@ isSome-closed : (k : ℕ) (c : Option Cut) → isSome (closed k c) ≡ isSome c
 isSome-closed k nothing = refl
 isSome-closed k (some (cut g h)) = refl
 
-row-lands : (l : Line) (ns : List Line) (b : Bool) → ((f : Forest) → grow ns ≡ some f → b ≡ isSome (split (below l) f)) → b ≡ true → isSome (grow (l ∷ ns)) ≡ isSome (grow ns)
+row-lands :
+    (l : Line) (ns : List Line) (b : Bool) → ((f : Forest) → grow ns ≡ some f → b ≡ isSome (split (below l) f)) → b ≡ true
+    → isSome (grow (l ∷ ns)) ≡ isSome (grow ns)
 unfolding grow
 row-lands (tok k s) ns b h e = isSome-over (token k s) (grow ns)
 row-lands (nod k n) ns b h e =
@@ -487,7 +520,7 @@ rest-at {ls} {rest} w h n e b k =
     let go : (ms : List Line) → rest ≡ bytesOf ms → LinesFit ms → isSome (grow ls) ≡ isSome (grow ms) → RestAt ls rest b = λ ms. elim ms [
       | [] ↦ λ p q r. absurd (omega (arith, ap length p))
       | _∷_ l ns ↦ λ p q r.
-          let d : take (length rest - 8) (drop 8 rest) ≡ bytesOf ns = part-rest rest 8 ∙ ap (drop 8) p ∙ bytes-one l ns in
+          let d : take (length rest - 8) (drop 8 rest) ≡ bytesOf ns = part-rest rest 8 ∙ ap (drop 8) p ∙ lines-one l ns in
           let m : n ≡ below l = e ∙ ap underOf p ∙ under-is l ns q in
           let fit = fits-drop l ns q in
           record { line = l; ns = ns; spelt = d; fit = fit; same = r; landing = λ f g. k ns f d fit g ∙ ap (λ x. isSome (split x f)) m }

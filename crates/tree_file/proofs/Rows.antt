@@ -17,7 +17,7 @@ use Rattle.mitex_syntax.specs.Syntax.{isNode}
 use Rattle.mitex_syntax.specs.Spells.{tokenFits}
 use Rattle.text.specs.Trailer.{ahead}
 use Rattle.text.proofs.Trailer.{ahead-some}
-use Rattle.tree_file.specs.Layout.{Line, lines, rowAt, after, rowTaken}
+use Rattle.tree_file.specs.Layout.{Line, lines, rowAt, rowAhead, rowTaken}
 use Rattle.tree_file.specs.Layout.Line.{tok, nod}
 use Rattle.tree_file.specs.Parts.{bytesOf, textsIn, LinesFit}
 use Rattle.tree_file.specs.declared.Row.{Row}
@@ -82,10 +82,13 @@ pub record Read (rows text : List ℕ) (ls : List Line) : Type 0 where
   pub text-is : text ≡ textsIn ls
   pub fit : LinesFit ls
 
-same-rows : (rows : List ℕ) (m n : ℕ) (r : List ℕ) → Bytes rows → 8 ≤ length rows → getD rows 1 0 ≡ m → getD rows 2 0 ≡ 0 → getD rows 3 0 ≡ 0 → n ≡ fourAt 4 rows → drop 8 rows ≡ r
+same-rows :
+    (rows : List ℕ) (m n : ℕ) (r : List ℕ) → Bytes rows → 8 ≤ length rows → getD rows 1 0 ≡ m → getD rows 2 0 ≡ 0 → getD rows 3 0 ≡ 0
+    → n ≡ fourAt 4 rows → drop 8 rows ≡ r
     → rows ≡ getD rows 0 0 ∷ m ∷ 0 ∷ 0 ∷ four n r
 same-rows rows m n r by h a b c d e =
-    let f : four (fourAt 4 rows) r ≡ getD rows 4 0 ∷ getD rows 5 0 ∷ getD rows 6 0 ∷ getD rows 7 0 ∷ r = four-of (getD rows 4 0) (getD rows 5 0) (getD rows 6 0) (getD rows 7 0) r (by 4) (by 5) (by 6) (by 7) in
+    let f : four (fourAt 4 rows) r ≡ getD rows 4 0 ∷ getD rows 5 0 ∷ getD rows 6 0 ∷ getD rows 7 0 ∷ r =
+    four-of (getD rows 4 0) (getD rows 5 0) (getD rows 6 0) (getD rows 7 0) r (by 4) (by 5) (by 6) (by 7) in
     let g : four n r ≡ four (fourAt 4 rows) r = ap (λ x. four x r) d in
     let q = eight rows h in
     q
@@ -98,7 +101,9 @@ same-rows rows m n r by h a b c d e =
 num-low : (rows : List ℕ) → Bytes rows → fourAt 4 rows < cap
 num-low rows by = four-low (getD rows 4 0) (getD rows 5 0) (getD rows 6 0) (getD rows 7 0) (by 4) (by 5) (by 6) (by 7)
 
-lines-token : (rows text : List ℕ) (m : ℕ) (ms : List Line) → Bytes rows → 8 ≤ length rows → IsToken rows text m → Read (drop 8 rows) (drop m text) ms → Read rows text (tok (getD rows 0 0) (take m text) ∷ ms)
+lines-token :
+    (rows text : List ℕ) (m : ℕ) (ms : List Line) → Bytes rows → 8 ≤ length rows → IsToken rows text m → Read (drop 8 rows) (drop m text) ms
+    → Read rows text (tok (getD rows 0 0) (take m text) ∷ ms)
 unfolding bytesOf textsIn LinesFit
 lines-token rows text m ms by h i r =
     let lt : length (take m text) ≡ m = length-take m text ∙ (let q = i .room in omega arith) in
@@ -108,7 +113,9 @@ lines-token rows text m ms by h i r =
       fit = (i .fits, subst (λ x. x < cap) (sym (lt ∙ i .number)) (num-low rows by), r .fit);
     }
 
-lines-node : (rows text : List ℕ) (m : ℕ) (ms : List Line) → Bytes rows → 8 ≤ length rows → IsNode rows m → Read (drop 8 rows) text ms → Read rows text (nod (getD rows 0 0) m ∷ ms)
+lines-node :
+    (rows text : List ℕ) (m : ℕ) (ms : List Line) → Bytes rows → 8 ≤ length rows → IsNode rows m → Read (drop 8 rows) text ms
+    → Read rows text (nod (getD rows 0 0) m ∷ ms)
 unfolding bytesOf textsIn LinesFit
 lines-node rows text m ms by h i r =
     record {
@@ -126,7 +133,7 @@ nil-rows (r ∷ rows) text ls h e = absurd (omega arith)
 
 rows-by : (n : ℕ) (rows text : List ℕ) (ls : List Line) → Bytes rows → 8 ≤ length rows
     → ((text : List ℕ) (ls : List Line) → lines n (drop 8 rows) text ≡ some ls → Read (drop 8 rows) text ls)
-    → (r : Row) → RowSays rows text r → after r rows text (lines n (drop 8 rows) (drop (rowTaken r) text)) ≡ some ls → Read rows text ls
+    → (r : Row) → RowSays rows text r → rowAhead r rows text (lines n (drop 8 rows) (drop (rowTaken r) text)) ≡ some ls → Read rows text ls
 rows-by n rows text ls by h i Bad says e = absurd (no-some e)
 rows-by n rows text ls by h i (Token m) says e =
     let w = ahead-some _ _ _ e in
@@ -168,11 +175,11 @@ unfolding lines bytesOf textsIn LinesFit
 lines-complete [] h = refl
 lines-complete (tok k s ∷ ls) h =
     let rows = bytesOf (tok k s ∷ ls) in let text = s ++ textsIn ls in
-    ap (λ r. after r rows text (lines (length ls) (bytesOf ls) (drop (rowTaken r) text))) (row-of-token k s (bytesOf ls) (textsIn ls) (h .0) (h .1))
+    ap (λ r. rowAhead r rows text (lines (length ls) (bytesOf ls) (drop (rowTaken r) text))) (row-of-token k s (bytesOf ls) (textsIn ls) (h .0) (h .1))
     ∙ ap (λ x. ahead (tok k x) (lines (length ls) (bytesOf ls) (drop (length s) text))) (take-append-seam s (textsIn ls))
     ∙ ap (λ x. ahead (tok k s) (lines (length ls) (bytesOf ls) x)) (drop-append-seam s (textsIn ls))
     ∙ ap (ahead (tok k s)) (lines-complete ls (h .2))
 lines-complete (nod k n ∷ ls) h =
     let rows = bytesOf (nod k n ∷ ls) in let text = textsIn ls in
-    ap (λ r. after r rows text (lines (length ls) (bytesOf ls) (drop (rowTaken r) text))) (row-of-node k n (bytesOf ls) text (h .0) (h .1))
+    ap (λ r. rowAhead r rows text (lines (length ls) (bytesOf ls) (drop (rowTaken r) text))) (row-of-node k n (bytesOf ls) text (h .0) (h .1))
     ∙ ap (ahead (nod k n)) (lines-complete ls (h .2))

@@ -11,7 +11,7 @@ use Rattle.text.proofs.Writing.{part-rest}
 use borrow.Author.Tests.{ne-eqb}
 use lib.ListN.{length, take, drop, length-drop}
 use Rattle.text.specs.Trailer.{ahead}
-use Rattle.tree_file.specs.Layout.{Line, rowAt, rowTaken, after, lines}
+use Rattle.tree_file.specs.Layout.{Line, rowAt, rowTaken, rowAhead, lines}
 use Rattle.tree_file.specs.Shape.{isSome}
 use Rattle.tree_file.specs.Parts.{isBad}
 use Rattle.tree_file.specs.declared.Row.{Row}
@@ -31,12 +31,12 @@ isSome-ahead : (l : Line) (o : Option (List Line)) → isSome (ahead l o) ≡ is
 isSome-ahead l nothing = refl
 isSome-ahead l (some ms) = refl
 
-isSome-after : (r : Row) (rows text : List ℕ) (o : Option (List Line)) → isBad r ≡ false → isSome (after r rows text o) ≡ isSome o
-isSome-after Bad rows text o h = absurd (let z : _≡_ {A = ℕ} 0 1 = cc in omega arith)
-isSome-after (Token m) rows text o h = isSome-ahead _ o
-isSome-after (Node m) rows text o h = isSome-ahead _ o
+isSome-rowAhead : (r : Row) (rows text : List ℕ) (o : Option (List Line)) → isBad r ≡ false → isSome (rowAhead r rows text o) ≡ isSome o
+isSome-rowAhead Bad rows text o h = absurd (let z : _≡_ {A = ℕ} 0 1 = cc in omega arith)
+isSome-rowAhead (Token m) rows text o h = isSome-ahead _ o
+isSome-rowAhead (Node m) rows text o h = isSome-ahead _ o
 
-isSome-bad : (r : Row) (rows text : List ℕ) (o : Option (List Line)) → isBad r ≡ true → isSome (after r rows text o) ≡ false
+isSome-bad : (r : Row) (rows text : List ℕ) (o : Option (List Line)) → isBad r ≡ true → isSome (rowAhead r rows text o) ≡ false
 isSome-bad Bad rows text o h = refl
 isSome-bad (Token m) rows text o h = absurd (let z : _≡_ {A = ℕ} 0 1 = cc in omega arith)
 isSome-bad (Node m) rows text o h = absurd (let z : _≡_ {A = ℕ} 0 1 = cc in omega arith)
@@ -59,7 +59,7 @@ left-next {n} {rows} {text} {l} {t} w h r e b x ex =
       | suc k ↦ λ p q. record {
         rest = k;
         so-many = length-drop 8 l ∙ omega arith;
-        same = q ∙ isSome-after (rowAt l t) l t (lines k (drop 8 l) (drop (rowTaken (rowAt l t)) t)) (ap isBad (sym e) ∙ b)
+        same = q ∙ isSome-rowAhead (rowAt l t) l t (lines k (drop 8 l) (drop (rowTaken (rowAt l t)) t)) (ap isBad (sym e) ∙ b)
             ∙ ap (λ x. isSome (lines k (drop 8 l) (drop (rowTaken x) t))) (sym e);
       }
     ] in

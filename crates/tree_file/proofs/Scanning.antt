@@ -1,4 +1,4 @@
--- The scan for shape goes row by row. Behind the row of a node come the rows under it and then those of the elements behind it,
+-- The scan for shape goes row by row. After the row of a node come the rows under it and then those of the elements after it,
 -- which are elements side by side (`opened`); and what is above a row counts only where it is an ItemBegin or ItemEnd.
 use mathlib.Core.Path.{_≡_, refl, sym, ap, subst, _∙_}
 use mathlib.Core.Bool.{Bool, true, false, _&&_, _||_, cond, true≢false}
@@ -22,7 +22,8 @@ use Rattle.mitex_syntax.specs.Tree.Forest.{none, more}
 use Rattle.mitex_syntax.specs.Rows.{extentOf, tokenAt, tokenSum, Spans}
 use Rattle.utf8.specs.Utf8.{valid}
 use Rattle.mitex_syntax.specs.Spells.{tokenFits, Sound, Sounds, Spells, SpellsAll, Begins}
-use Rattle.mitex_syntax.proofs.Trees.{length-rowss, four-says, size-some, left, no-left, First, first-spelt, all-begins, others-exact, spells-alone}
+use Rattle.text.proofs.Numbers.{four-says}
+use Rattle.mitex_syntax.proofs.Trees.{length-rowss, size-some, left, no-left, First, first-spelt, all-begins, others-exact, spells-alone}
 use Rattle.tree_file.specs.Shape.{slashed, backslash, symFits, unless, orElse, lowest, lowests}
 use Rattle.text.specs.Trailer.{fileMost}
 use Rattle.tree_file.specs.Parts.{shapeOf, isFrame, isRuled, firstFits, LowestFrom, PassSays, Scannable, Checkable}
@@ -82,7 +83,7 @@ not-frames up row h (more (node k g) f) = ap (orElse (lowest 0 row (node k g))) 
 
 -- ---- the row that stands first
 
--- the elements behind its row
+-- the elements after its row
 abbrev opened : Tree → Forest → Forest
 opened (token k s) f = f
 opened (node k g) f = join g f

@@ -1,13 +1,11 @@
--- No row breaks a rule exactly where the rules hold throughout; a row that breaks one is one of the tree's.
+-- No row breaks a rule exactly where the rules hold throughout.
 use mathlib.Core.Path.{_≡_, refl, sym, ap, _∙_}
-use mathlib.Core.Logic.{_⊎_, inl, inr}
 use mathlib.Core.Bool.{Bool, true, false}
 use mathlib.Core.Option.{Option}
 use mathlib.Core.Option.Option.{none as nothing, some}
-use Prim.Native.Nat.{ℕ, _+_, _≤_, _<_}
-use native.Mathlib.Omega.{arith}
+use Prim.Native.Nat.{ℕ, _+_}
 use lib.Dec.{T}
-use Rattle.mitex_syntax.specs.Tree.{Tree, Forest, size, sizes}
+use Rattle.mitex_syntax.specs.Tree.{Tree, Forest, size}
 use Rattle.mitex_syntax.specs.Tree.Tree.{token, node}
 use Rattle.mitex_syntax.specs.Tree.Forest.{none, more}
 use Rattle.tree_file.specs.Shape.{symFits, nodeFits, orElse, unless, lowest, lowests, Shaped, ShapedAll}
@@ -54,41 +52,6 @@ mutual
   shaped-lowests up row none h = refl
   shaped-lowests up row (more t f) h =
       ap (λ o. orElse o (lowests up (row + size t) f)) (shaped-lowest up row t (h .0)) ∙ shaped-lowests up (row + size t) f (h .1)
-
--- ---- the row that is given
-
--- it is one of the tree's; the rows of an element lie below those of the elements behind it, so the first that is found is the lowest
-
-pub record Inside (row rows r : ℕ) : Type 0 where
-  pub low : row ≤ r
-  pub high : r < row + rows
-
-or-some : (a b : Option ℕ) (r : ℕ) → orElse a b ≡ some r → (a ≡ some r) ⊎ (b ≡ some r)
-or-some nothing b r e = inr e
-or-some (some x) b r e = inl e
-
-unless-some : (b : Bool) (row r : ℕ) → unless b row ≡ some r → r ≡ row
-unless-some true row r e = absurd (no-some e)
-unless-some false row r e = cc
-
-mutual
-  unfolding lowest size
-
-  pub lowest-inside : (up row : ℕ) (t : Tree) (r : ℕ) → lowest up row t ≡ some r → Inside row (size t) r
-  lowest-inside up row (token k s) r e = let is = unless-some (symFits up k s) row r e in record { low = omega arith; high = omega arith }
-  lowest-inside up row (node k f) r e =
-      elim (or-some (unless (nodeFits k f) row) (lowests k (row + 1) f) r e) [
-        | inl h ↦ let is = unless-some (nodeFits k f) row r h in record { low = omega arith; high = omega arith }
-        | inr h ↦ let x = lowests-inside k (row + 1) f r h in record { low = omega (arith, x .low); high = omega (arith, x .high) }
-      ]
-
-  pub lowests-inside : (up row : ℕ) (f : Forest) (r : ℕ) → lowests up row f ≡ some r → Inside row (sizes f) r
-  lowests-inside up row none r e = absurd (no-some e)
-  lowests-inside up row (more t f) r e =
-      elim (or-some (lowest up row t) (lowests up (row + size t) f) r e) [
-        | inl h ↦ let x = lowest-inside up row t r h in record { low = x .low; high = omega (arith, x .high) }
-        | inr h ↦ let x = lowests-inside up (row + size t) f r h in record { low = omega (arith, x .low); high = omega (arith, x .high) }
-      ]
 
 -- ---- elements under a node
 

@@ -18,7 +18,8 @@ use Rattle.mitex_syntax.specs.Tree.Forest.{none, more}
 use Rattle.mitex_syntax.specs.Rows.{extentOf, tokenSum, Spans}
 use Rattle.mitex_syntax.specs.Views.{childrenOf}
 use Rattle.mitex_syntax.specs.Spells.{tokenFits, Sound, Spells, SpellsAll, Begins, SomeForest}
-use Rattle.mitex_syntax.proofs.Trees.{length-rows, size-some, Element, element, all-begins, no-left, rows-e, past-exact, spans, part, part-spells, Child, child, kind-spelt, token-spelt, node-spelt, under}
+use Rattle.mitex_syntax.proofs.Trees.{length-rows, size-some, Element, element, all-begins, no-left, rows-e, past-exact, spans}
+use Rattle.mitex_syntax.proofs.Trees.{part, part-spells, Child, child, kind-spelt, token-spelt, node-spelt, under}
 use Rattle.mitex_syntax.proofs.Places.{some-children}
 use Rattle.tree_file.specs.Shape.{slashed, backslash, symFits, lrFits, nodeFits, unless, orElse, lowest, lowests}
 use Rattle.tree_file.specs.Parts.{shapeOf, Checkable}

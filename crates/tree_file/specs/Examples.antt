@@ -7,7 +7,8 @@ use Rattle.text.specs.Ascii.{ascii}
 use Rattle.text.specs.Compare.{same}
 use Rattle.text.specs.Numbers.{four}
 use Rattle.utf8.specs.Utf8.{charSteps, valid}
-use Rattle.mitex_syntax.specs.Syntax.{ClauseArgument, ScopeRoot, ItemBracket, ItemCurly, ClauseLR, ClauseCommandName, ItemBegin, ItemEnd, TokenWord, ItemBlockComment, TokenCommandSym, ItemCmd, ItemEnv}
+use Rattle.mitex_syntax.specs.Syntax.{ClauseArgument, ScopeRoot, ItemBracket, ItemCurly, ClauseLR, ClauseCommandName}
+use Rattle.mitex_syntax.specs.Syntax.{ItemBegin, ItemEnd, TokenWord, ItemBlockComment, TokenCommandSym, ItemCmd, ItemEnv}
 use Rattle.mitex_syntax.specs.Tree.{Tree, Forest, size, rowsOf, textOf, fileOf, count}
 use Rattle.mitex_syntax.specs.Tree.Tree.{token, node}
 use Rattle.mitex_syntax.specs.Tree.Forest.{none, more}

@@ -51,16 +51,16 @@ rowTaken (Token m) = m
 rowTaken (Node m) = 0
 
 -- a row before those that come after it
-abbrev pub after : Row → List ℕ → List ℕ → Option (List Line) → Option (List Line)
-after Bad rows text o = nothing
-after (Token m) rows text o = ahead (tok (getD rows 0 0) (take m text)) o
-after (Node m) rows text o = ahead (nod (getD rows 0 0) m) o
+abbrev pub rowAhead : Row → List ℕ → List ℕ → Option (List Line) → Option (List Line)
+rowAhead Bad rows text o = nothing
+rowAhead (Token m) rows text o = ahead (tok (getD rows 0 0) (take m text)) o
+rowAhead (Node m) rows text o = ahead (nod (getD rows 0 0) m) o
 
 -- as many rows as said, whose token texts fill the text in order
 unfoldable pub lines : ℕ → List ℕ → List ℕ → Option (List Line)
 lines zero rows [] = some []
 lines zero rows (b ∷ s) = nothing
-lines (suc n) rows text = after (rowAt rows text) rows text (lines n (drop 8 rows) (drop (rowTaken (rowAt rows text)) text))
+lines (suc n) rows text = rowAhead (rowAt rows text) rows text (lines n (drop 8 rows) (drop (rowTaken (rowAt rows text)) text))
 
 -- ---- rows in preorder: a child's rows end no later than its parent's
 

@@ -45,7 +45,8 @@ pub chars-unroll : (b : ℕ) (s : List ℕ) → chars (b ∷ s) ≡ take (charLe
 unfolding chars
 chars-unroll b [] = refl
 chars-unroll b (c ∷ s) =
-    let by : (g : Bool) → goesOn (c ∷ s) ≡ g → chars (b ∷ c ∷ s) ≡ take (charLen (b ∷ c ∷ s)) (b ∷ c ∷ s) ∷ chars (drop (charLen (b ∷ c ∷ s)) (b ∷ c ∷ s)) = λ g. elim g [
+    let by : (g : Bool) → goesOn (c ∷ s) ≡ g → chars (b ∷ c ∷ s) ≡ take (charLen (b ∷ c ∷ s)) (b ∷ c ∷ s) ∷ chars
+    (drop (charLen (b ∷ c ∷ s)) (b ∷ c ∷ s)) = λ g. elim g [
       | true ↦ λ e. rw (charLen-on b (c ∷ s) e, e) (ap (joined true b) (chars-unroll c s))
       | false ↦ λ e. rw (charLen-alone b (c ∷ s) e, e)
     ] in

@@ -50,7 +50,8 @@ module _ {b : ℕ} where
   pub leads-f1 : Between 0xF1 0xF3 b → Leads b 3 0x80 0xBF
   leads-f1 w =
       let l = w .low in let h = w .high in
-      leads-plain b 3 (rw (lt-leb b 0x7F (omega arith), lt-leb b 0xC1 (omega arith), lt-leb b 0xDF (omega arith), lt-leb b 0xEF (omega arith), le-leb b 0xF4 (omega arith)))
+      leads-plain b 3
+      (rw (lt-leb b 0x7F (omega arith), lt-leb b 0xC1 (omega arith), lt-leb b 0xDF (omega arith), lt-leb b 0xEF (omega arith), le-leb b 0xF4 (omega arith)))
       (omega arith) (omega arith) (omega arith) (omega arith)
 
 abbrev leads : {b n lo hi : ℕ} → lengthBy b ≡ suc n → secondLow b ≡ lo → secondHigh b ≡ hi → Leads b n lo hi
@@ -166,7 +167,8 @@ line-of a =
     dite (decLe a 0xF0) (λ h. let e : 0xF0 ≡ a = omega arith in subst Line e line-f0) (λ n8.
     dite (decLe a 0xF3) (λ h. line-f1 (from-to (omega arith) h)) (λ n9.
     dite (decLe a 0xF4) (λ h. let e : 0xF4 ≡ a = omega arith in subst Line e line-f4) (λ n10.
-    line-none (rw (lt-leb a 0x7F (omega arith), lt-leb a 0xC1 (omega arith), lt-leb a 0xDF (omega arith), lt-leb a 0xEF (omega arith), lt-leb a 0xF4 (omega arith)))))))))))))
+    line-none
+    (rw (lt-leb a 0x7F (omega arith), lt-leb a 0xC1 (omega arith), lt-leb a 0xDF (omega arith), lt-leb a 0xEF (omega arith), lt-leb a 0xF4 (omega arith)))))))))))))
 
 -- what the state after a first byte asks
 asked : {a n lo hi : ℕ} (s : List ℕ) → Leads a n lo hi → Completes (lengthBy a - 1) (secondLow a) (secondHigh a) s → Completes n lo hi s

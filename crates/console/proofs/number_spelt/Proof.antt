@@ -21,21 +21,21 @@ returns c = number-empty (c .before .before .args .digits .now) (c .if1 .taken)
 loop-holds : tie.Need-loop-holds Inv-loop μ-loop
 loop-holds c = (omega arith, number-starts (c .before .before .args .digits .now) (c .if1 .left))
 
-goes-on-requires : tie.Need-goes-on-requires Inv-loop μ-loop
-goes-on-requires c κs = tt
+digit-fits-requires : tie.Need-digit-fits-requires Inv-loop μ-loop
+digit-fits-requires c κs = tt
 
 returns-2 : tie.Need-returns-2 Inv-loop μ-loop
 returns-2 c =
     let d = c .before .before .before in
-    number-stops _ _ _ (d .loop-test .taken) (sym (c .before .goes-on .ensures) ∙ not-true _ (c .if2 .taken)) (d .before .loop .inv .1)
+    number-stops _ _ _ (d .loop-test .taken) (sym (c .before .digit-fits .ensures) ∙ not-true _ (c .if2 .taken)) (d .before .loop .inv .1)
 
 with-digit-requires : tie.Need-with-digit-requires Inv-loop μ-loop
-with-digit-requires c κs = sym (c .before .goes-on .ensures) ∙ not-false _ (c .if2 .left)
+with-digit-requires c κs = sym (c .before .digit-fits .ensures) ∙ not-false _ (c .if2 .left)
 
 loop-again : tie.Need-loop-again Inv-loop μ-loop
 loop-again c =
     let d = c .before .before .before .before in
-    let more = sym (c .before .before .goes-on .ensures) ∙ not-false _ (c .before .if2 .left) in (
+    let more = sym (c .before .before .digit-fits .ensures) ∙ not-false _ (c .before .if2 .left) in (
       omega arith,
       number-next _ _ _ (d .loop-test .taken) more (d .before .loop .inv .1)
           ∙ ap (λ k. numberFrom k (drop (d .before .loop .i + 1) (d .before .before .before .before .args .digits .now)))
@@ -54,7 +54,7 @@ number-spelt-spec =
     returns
     loop-holds
     (λ c. omega arith)
-    goes-on-requires
+    digit-fits-requires
     returns-2
     with-digit-requires
     (λ c. omega arith)

@@ -1,4 +1,5 @@
--- The invariant is `Tabled`: what is to be stored from 0 on is what stands and what is to be stored from b on. The offsets stand before the table, so that names can be read all along.
+-- The invariant is `Tabled`: what is to be stored from 0 on is what stands and what is to be stored from b on. The offsets stand
+-- before the table, so that names can be read all along.
 use native.Mathlib.Omega.{arith}
 use mathlib.Core.Path.{_≡_, refl, subst, ap, _∙_}
 use mathlib.Core.Option.Option.{some}
@@ -50,9 +51,11 @@ store-requires c κs =
 
 loop-again : tie.Need-loop-again Inv-loop μ-loop
 loop-again c =
-    let store = c .before .before .store in
-    let found = c .before .before .before .before .firsts-below in
-    let turn = c .before .before .before .before .before .before in
+    let at-store = c .before .before in
+    let at-found = at-store .before .before in
+    let turn = at-found .before .before in
+    let store = at-store .store in
+    let found = at-found .firsts-below in
     let at = turn .before in
     let loop = at .loop in
     let t = turn .loop-test .taken in (

@@ -1,4 +1,5 @@
--- The invariant is `Filled`: what is to be stored for all rows is what stands and what is to be stored for those left. Offsets stay small, as each row takes fewer than 131,072 bytes.
+-- The invariant is `Filled`: what is to be stored for all rows is what stands and what is to be stored for those left. Offsets stay
+-- small, as each row takes fewer than 131,072 bytes.
 use native.Mathlib.Omega.{arith}
 use mathlib.Core.Path.{_≡_, refl, _∙_, ap}
 use Prim.Native.Nat.{ℕ, _+_, _*_, _≤_}
@@ -9,7 +10,9 @@ use Rattle.mitex_spec.proofs.fill_index.Statement.{statement}
 use Rattle.mitex_spec.proofs.fill_index.Tie as tie
 
 abbrev Inv-loop : tie.InvT-loop
-Inv-loop rows index₀ l₀ at₀ k₀ index l at k = (at ≤ 131072 * k) × (8 * k + length l ≤ length rows) × (length index ≡ length index₀) × ((n : ℕ) → length rows ≡ 8 * n → Filled n rows index₀ index l at k)
+Inv-loop rows index₀ l₀ at₀ k₀ index l at k =
+    (at ≤ 131072 * k) × (8 * k + length l ≤ length rows) × (length index ≡ length index₀)
+    × ((n : ℕ) → length rows ≡ 8 * n → Filled n rows index₀ index l at k)
 
 abbrev μ-loop : tie.MeasureT-loop
 μ-loop rows index₀ l₀ at₀ k₀ index l at k = length l
@@ -17,31 +20,31 @@ abbrev μ-loop : tie.MeasureT-loop
 loop-holds : tie.Need-loop-holds Inv-loop μ-loop
 loop-holds c = (omega arith, omega arith, refl, λ n e. filled-start n _ _ e)
 
+-- the turn in which a row is stored
+abbrev turn : tie.After-store Inv-loop μ-loop → tie.In-loop Inv-loop μ-loop
+turn c = c .before .before
+
+abbrev stored : tie.After-rule-taken Inv-loop μ-loop → tie.After-store Inv-loop μ-loop
+stored c = c .before .before .before
+
 rule-taken-requires : tie.Need-rule-taken-requires Inv-loop μ-loop
-rule-taken-requires c κs =
-    let c₁ = c .before .before .before .before in
-    c₁ .loop-test .taken
+rule-taken-requires c κs = turn (c .before .before) .loop-test .taken
 
 loop-less : tie.Need-loop-less Inv-loop μ-loop
-loop-less c =
-    let c₁ = c .before .before .before .before .before in
-    let c₂ = c₁ .before .before in
-    omega (arith, rest-length (c₂ .loop .l .now) 8)
+loop-less c = omega (arith, rest-length (turn (stored (c .before)) .before .loop .l .now) 8)
 
 loop-again : tie.Need-loop-again Inv-loop μ-loop
 loop-again c =
-    let c₁ = c .before in
-    let c₂ = c₁ .before .before .before in
-    let c₃ = c₂ .before .before in
-    let c₄ = c₃ .before in
-    let loop = c₄ .loop in
-    let store = c₂ .store in
-    let taken = c₁ .rule-taken in
+    let at-taken = c .before in
+    let in-loop = turn (stored at-taken) in
+    let loop = in-loop .before .loop in
+    let store = stored at-taken .store in
+    let taken = at-taken .rule-taken in
     let n = rest-length (loop .l .now) 8 in (
       omega arith,
       omega arith,
       ap length (store .ensures) ∙ length-set (loop .index) (loop .k) (loop .at) ∙ loop .inv .2,
-      λ n e. filled-next (loop .inv .3 n e) _ (taken .result) (c₃ .loop-test .taken) (store .ensures) (taken .ensures .0),
+      λ n e. filled-next (loop .inv .3 n e) _ (taken .result) (in-loop .loop-test .taken) (store .ensures) (taken .ensures .0),
     )
 
 same-length : tie.Need-same-length Inv-loop μ-loop

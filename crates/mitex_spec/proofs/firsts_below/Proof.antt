@@ -7,7 +7,7 @@ use Prim.Native.Nat.{_-_, _≤_, _<_}
 use lib.ListN.{length}
 use Rattle.mitex_spec.specs.Rules.{Rule}
 use Rattle.mitex_spec.specs.RuleFile.{rulesOf}
-use Rattle.mitex_spec.specs.Index.{firstOf, firstsBelow, ruleNo}
+use Rattle.mitex_spec.specs.Index.{firstByte, firstsBelow, ruleNo}
 use Rattle.mitex_spec.proofs.RuleFile.{rules-tested, file-rules}
 use Rattle.mitex_spec.proofs.Firsts.{firsts-most, firsts-next, firsts-stop}
 use borrow.Author.Needs.{needs}
@@ -27,15 +27,19 @@ abbrev Rules : tie.At-loop Inv-loop μ-loop → List Rule → Type 0
 Rules c rs = rulesOf (entry c .args .file .now) ≡ some rs
 
 many : (c : tie.At-loop Inv-loop μ-loop) (rs : List Rule) → Rules c rs → c .before .count-of .result ≡ length rs
-many c rs e = c .before .count-of .ensures .0 ∙ file-rules (entry c .args .file .now) rs (λ i. omega (arith, c .before .before .before .shared-slice-known .given i)) e .count
+many c rs e =
+    let known = c .before .before .before .shared-slice-known .given in
+    c .before .count-of .ensures .0 ∙ file-rules (entry c .args .file .now) rs (λ i. omega (arith, known i)) e .count
 
 -- in a turn there is a rule
 few : (c : tie.In-loop Inv-loop μ-loop) (rs : List Rule) → Rules (c .before) rs → c .before .loop .k < length rs
 few c rs e = let n = many (c .before) rs e in let t = c .loop-test .taken in omega arith
 
 -- and the byte that its name begins with
-first : (c : tie.After-first-byte Inv-loop μ-loop) (rs : List Rule) → Rules (c .before .before .before) rs → c .first-byte .result ≡ firstOf (ruleNo rs (c .before .before .before .loop .k) .name)
-first c rs e = c .first-byte .ensures .0 ∙ ap firstOf (c .before .name-at .ensures rs e)
+first :
+    (c : tie.After-first-byte Inv-loop μ-loop) (rs : List Rule) → let at-loop = c .before .before .before in
+    Rules at-loop rs → c .first-byte .result ≡ firstByte (ruleNo rs (at-loop .loop .k) .name)
+first c rs e = c .first-byte .ensures .0 ∙ ap firstByte (c .before .name-at .ensures rs e)
 
 count-of-requires : tie.Need-count-of-requires Inv-loop μ-loop
 count-of-requires c κs = rules-tested _ _ (c .before .before .pre .0 .decodes) .long

@@ -18,25 +18,27 @@ entry c = let a = c .before .before .before in a .before .before .before
 few : (c : tie.Else1) → SomeRule (entry c .args .file .now) (entry c .args .index .now) (c .before .before .rank .result)
 few c =
     let s = entry c .pre in
-    let d = file-rules (entry c .args .file .now) (s .rules) (λ i. omega (arith, c .before .before .before .before .before .shared-slice-known .given i)) (s .ready .decodes) in
+    let known = c .before .before .before .before .before .shared-slice-known .given in
+    let d = file-rules (entry c .args .file .now) (s .rules) (λ i. omega (arith, known i)) (s .ready .decodes) in
     let q = d .count in
     let n = c .before .count-of .ensures .0 in
     record { numbered = ready-numbered s; few = omega arith }
 
 count-of-requires : tie.Need-count-of-requires
 count-of-requires c κs =
-    let c₁ = c .before .before .before .before in
-    rules-tested _ _ (c₁ .pre .ready .decodes) .long
+    let start = c .before .before .before .before in
+    rules-tested _ _ (start .pre .ready .decodes) .long
 
 returns : tie.Need-returns
 returns c =
-    let c₁ = c .before in
-    let c₂ = c₁ .before in
-    let c₃ = c₂ .before .before .before in
-    let c₄ = c₃ .before in
-    λ rs e. let d = file-rules (c₄ .args .file .now) rs (λ i. omega (arith, c₃ .shared-slice-known .given i)) e in
-    let q = d .count in let n = c₁ .count-of .ensures .0 in
-    finds-absent (c₄ .args .file .now) (c₄ .args .name .now) _ (get-past rs (c₄ .args .name .now) (c₂ .rank .result) (d .rise) (c₂ .rank .ensures rs e) (omega arith))
+    let at-count-of = c .before in
+    let at-rank = at-count-of .before in
+    let at-shared-slice-known = at-rank .before .before .before in
+    let start = at-shared-slice-known .before in
+    λ rs e. let d = file-rules (start .args .file .now) rs (λ i. omega (arith, at-shared-slice-known .shared-slice-known .given i)) e in
+    let q = d .count in let n = at-count-of .count-of .ensures .0 in
+    finds-absent (start .args .file .now) (start .args .name .now) _
+    (get-past rs (start .args .name .now) (at-rank .rank .result) (d .rise) (at-rank .rank .ensures rs e) (omega arith))
 
 name-at-requires : tie.Need-name-at-requires
 name-at-requires c κs = few (c)
@@ -46,30 +48,32 @@ rule-at-requires c κs = few (c .before .before .before)
 
 returns-2 : tie.Need-returns-2
 returns-2 c =
-    let c₁ = c .before in
-    let c₂ = c₁ .before in
-    let c₃ = c₂ .before in
-    let c₄ = c₃ .before .before in
-    let c₅ = c₄ .before in
-    let c₆ = c₅ .before .before .before in
-    let c₇ = c₆ .before in
-    λ rs e. let d = file-rules (c₇ .args .file .now) rs (λ i. omega (arith, c₆ .shared-slice-known .given i)) e in
-    let q = d .count in let n = c₄ .count-of .ensures .0 in
-    let t = ap (λ x. same x (c₇ .args .name .now)) (sym (c₃ .name-at .ensures rs e)) ∙ sym (c₂ .same .ensures) ∙ c₁ .if2 .taken in
-    finds-as (same-true _ _ t) (get-same rs (c₇ .args .name .now) (c₅ .rank .result) (d .rise) (c₅ .rank .ensures rs e) (omega arith) t) (c .rule-at .ensures rs e)
+    let past-if2 = c .before in
+    let at-same = past-if2 .before in
+    let at-name-at = at-same .before in
+    let at-count-of = at-name-at .before .before in
+    let at-rank = at-count-of .before in
+    let at-shared-slice-known = at-rank .before .before .before in
+    let start = at-shared-slice-known .before in
+    λ rs e. let d = file-rules (start .args .file .now) rs (λ i. omega (arith, at-shared-slice-known .shared-slice-known .given i)) e in
+    let q = d .count in let n = at-count-of .count-of .ensures .0 in
+    let t = ap (λ x. same x (start .args .name .now)) (sym (at-name-at .name-at .ensures rs e)) ∙ sym (at-same .same .ensures) ∙ past-if2 .if2 .taken in
+    finds-as (same-true _ _ t) (get-same rs (start .args .name .now) (at-rank .rank .result) (d .rise) (at-rank .rank .ensures rs e) (omega arith) t)
+    (c .rule-at .ensures rs e)
 
 returns-3 : tie.Need-returns-3
 returns-3 c =
-    let c₁ = c .before in
-    let c₂ = c₁ .before in
-    let c₃ = c₂ .before .before in
-    let c₄ = c₃ .before in
-    let c₅ = c₄ .before .before .before in
-    let c₆ = c₅ .before in
-    λ rs e. let d = file-rules (c₆ .args .file .now) rs (λ i. omega (arith, c₅ .shared-slice-known .given i)) e in
-    let q = d .count in let n = c₃ .count-of .ensures .0 in
-    let t = ap (λ x. same x (c₆ .args .name .now)) (sym (c₂ .name-at .ensures rs e)) ∙ sym (c₁ .same .ensures) ∙ c .if2 .left in
-    finds-absent (c₆ .args .file .now) (c₆ .args .name .now) _ (get-other rs (c₆ .args .name .now) (c₄ .rank .result) (d .rise) (c₄ .rank .ensures rs e) (omega arith) t)
+    let at-same = c .before in
+    let at-name-at = at-same .before in
+    let at-count-of = at-name-at .before .before in
+    let at-rank = at-count-of .before in
+    let at-shared-slice-known = at-rank .before .before .before in
+    let start = at-shared-slice-known .before in
+    λ rs e. let d = file-rules (start .args .file .now) rs (λ i. omega (arith, at-shared-slice-known .shared-slice-known .given i)) e in
+    let q = d .count in let n = at-count-of .count-of .ensures .0 in
+    let t = ap (λ x. same x (start .args .name .now)) (sym (at-name-at .name-at .ensures rs e)) ∙ sym (at-same .same .ensures) ∙ c .if2 .left in
+    finds-absent (start .args .file .now) (start .args .name .now) _
+    (get-other rs (start .args .name .now) (at-rank .rank .result) (d .rise) (at-rank .rank .ensures rs e) (omega arith) t)
 
 pub get-spec : {M : Type 1} → statement M
 get-spec =

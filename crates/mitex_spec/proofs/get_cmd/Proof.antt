@@ -9,10 +9,11 @@ use Rattle.mitex_spec.proofs.get_cmd.Tie as tie
 
 returns : tie.Need-returns
 returns c =
-    let c₁ = c .before in
-    let c₂ = c₁ .before in
-    let c₃ = c₂ .before .before .before .before in
-    λ rs e. finds-cmd (c₃ .args .file .now) (c₃ .args .name .now) _ (c₂ .get .result) _ (c₂ .get .ensures rs e) (c .kept .ensures ∙ ap (λ b. cond b (c₂ .get .result) Absent) (c₁ .is-cmd .ensures))
+    let at-is-cmd = c .before in
+    let at-get = at-is-cmd .before in
+    let start = at-get .before .before .before .before in
+    λ rs e. finds-cmd (start .args .file .now) (start .args .name .now) _ (at-get .get .result) _ (at-get .get .ensures rs e)
+    (c .kept .ensures ∙ ap (λ b. cond b (at-get .get .result) Absent) (at-is-cmd .is-cmd .ensures))
 
 pub get-cmd-spec : {M : Type 1} → statement M
 get-cmd-spec = tie.close (tie.spec (λ c κs. search needs) (λ c κs. search needs) (λ c κs. search needs) returns)

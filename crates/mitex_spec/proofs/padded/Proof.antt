@@ -13,18 +13,20 @@ returns c = let rows = c .before .before .args .rows .now in and-first (eqb (get
 
 returns-2 : tie.Need-returns-2
 returns-2 c =
-    let c₁ = c .before .before in
-    let c₂ = c₁ .before .before in
-    let rows = c₂ .args .rows .now in
-    and-later (eqb (getD rows 5 0) 0) _ _ (eq-eqb (getD rows 5 0) 0 (c₁ .if1 .left)) (and-first (eqb (getD rows 6 0) 0) _ (ne-eqb (getD rows 6 0) 0 (c .if2 .taken)))
+    let past-if1 = c .before .before in
+    let start = past-if1 .before .before in
+    let rows = start .args .rows .now in
+    and-later (eqb (getD rows 5 0) 0) _ _ (eq-eqb (getD rows 5 0) 0 (past-if1 .if1 .left))
+    (and-first (eqb (getD rows 6 0) 0) _ (ne-eqb (getD rows 6 0) 0 (c .if2 .taken)))
 
 returns-3 : tie.Need-returns-3
 returns-3 c =
-    let c₁ = c .before in
-    let c₂ = c₁ .before .before in
-    let c₃ = c₂ .before .before in
-    let rows = c₃ .args .rows .now in
-    and-later (eqb (getD rows 5 0) 0) _ _ (eq-eqb (getD rows 5 0) 0 (c₂ .if1 .left)) (and-later (eqb (getD rows 6 0) 0) _ _ (eq-eqb (getD rows 6 0) 0 (c₁ .if2 .left)) refl)
+    let past-if2 = c .before in
+    let past-if1 = past-if2 .before .before in
+    let start = past-if1 .before .before in
+    let rows = start .args .rows .now in
+    and-later (eqb (getD rows 5 0) 0) _ _ (eq-eqb (getD rows 5 0) 0 (past-if1 .if1 .left))
+    (and-later (eqb (getD rows 6 0) 0) _ _ (eq-eqb (getD rows 6 0) 0 (past-if2 .if2 .left)) refl)
 
 pub padded-spec : {M : Type 1} → statement M
 padded-spec =

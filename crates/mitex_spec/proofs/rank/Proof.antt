@@ -1,4 +1,5 @@
--- The invariant: the rank lies from low to high, as it does at first by the table (`rank-between`). A name that precedes brings low above it (`rank-high`), another high down to it (`rank-low`).
+-- The invariant: the rank lies from low to high, as it does at first by the table (`rank-between`). A name that precedes brings low
+-- above it (`rank-high`), another high down to it (`rank-low`).
 use native.Mathlib.Omega.{arith}
 use borrow.Author.Needs.{needs}
 use mathlib.Core.Path.{_≡_, sym, ap, _∙_}
@@ -64,7 +65,9 @@ loop-holds c =
     let s = entry found .pre in
     let name = entry found .args .name .now in
     let between : Between (entry found .args .file .now) name (low .result) (high .result)
-    = λ rs e. rank-between (ready-for s rs e) name (byte .result) (low .result) (high .result) (byte .ensures .0) (byte .ensures .1) (low .ensures .0) (high .ensures .0) in
+    = λ rs e.
+    rank-between (ready-for s rs e) name (byte .result) (low .result) (high .result) (byte .ensures .0) (byte .ensures .1) (low .ensures .0)
+    (high .ensures .0) in
     let b = between (s .rules) (s .ready .decodes) in
     let l = b .0 in
     let h = b .1 in

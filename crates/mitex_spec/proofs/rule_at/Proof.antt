@@ -1,15 +1,34 @@
 -- The rule is `Located` by the trailer and the index; its alias follows its name.
+use mathlib.Core.List.{List}
+use mathlib.Core.Option.Option.{some}
+use Rattle.mitex_spec.specs.Rules.{Rule}
+use Rattle.mitex_spec.specs.RuleFile.{rulesOf}
 use Rattle.mitex_spec.specs.Index.{ruleNo}
 use Rattle.mitex_spec.proofs.LookUp.{Located, located, finds-plain, finds-aliased}
 use native.Mathlib.Omega.{arith}
-use mathlib.Core.Path.{refl}
+use mathlib.Core.Path.{_≡_, refl}
 use borrow.Author.Needs.{needs}
 use Rattle.mitex_spec.proofs.rule_at.Statement.{statement}
 use Rattle.mitex_spec.proofs.rule_at.Tie as tie
 
 -- the rule stands where the trailer and the index say
-here : (c : tie.After-shared-slice-known) → Located (c .before .args .file .now) (c .before .args .index .now) (c .before .args .k) (ruleNo (c .before .pre .numbered .rules) (c .before .args .k))
-here c = located (c .before .pre) (λ i. omega (arith, c .shared-slice-known .given i)) (c .before .pre .numbered .rules) (c .before .pre .numbered .decodes)
+at-rules :
+    (c : tie.After-shared-slice-known) (rs : List Rule) → rulesOf (c .before .args .file .now) ≡ some rs
+    → Located (c .before .args .file .now) (c .before .args .index .now) (c .before .args .k) (ruleNo rs (c .before .args .k))
+at-rules c rs e = located (c .before .pre) (λ i. omega (arith, c .shared-slice-known .given i)) rs e
+
+here :
+    (c : tie.After-shared-slice-known)
+    → Located (c .before .args .file .now) (c .before .args .index .now) (c .before .args .k)
+    (ruleNo (c .before .pre .numbered .rules) (c .before .args .k))
+here c = let given = c .before .pre .numbered in at-rules c (given .rules) (given .decodes)
+
+-- the places, each from the next: where the rows start, and the alias's size
+abbrev file : tie.After-start-of → tie.After-shared-slice-known
+file c = c .before .before
+
+abbrev rows : tie.After-read-u16 → tie.After-start-of
+rows c = c .before .before
 
 start-of-requires : tie.Need-start-of-requires
 start-of-requires c κs = let h = here (c .before) in let r = h .row-end in omega arith
@@ -34,38 +53,31 @@ read-u16-requires c κs = let h = here (c .before .before .before) in let r = h 
 
 returns : tie.Need-returns
 returns c =
-    let c₁ = c .before in
-    let c₂ = c₁ .before .before in
-    let c₃ = c₂ .before .before in
-    let c₄ = c₃ .before in
-    λ rs e. finds-plain (located (c₄ .pre) (λ i. omega (arith, c₃ .shared-slice-known .given i)) rs e) (c₂ .start-of .result) (c₁ .read-u16 .result) _ (c₂ .start-of .ensures .0) (c₁ .read-u16 .ensures .0) refl (c .if1 .taken)
+    let at-size = c .before in
+    let at-start = rows at-size in
+    λ rs e. finds-plain (at-rules (file at-start) rs e) (at-start .start-of .result) (at-size .read-u16 .result) _ (at-start .start-of .ensures .0)
+    (at-size .read-u16 .ensures .0) refl (c .if1 .taken)
 
 mul-wide-u32 : tie.Need-mul-wide-u32
-mul-wide-u32 c =
-    let c₁ = c .before .before .before .before .before in
-    let h = here c₁ in let r = h .row-end in let m = h .most in omega arith
+mul-wide-u32 c = let h = here (file (rows (c .before))) in let r = h .row-end in let m = h .most in omega arith
 
 shared-slice-read-wide-u32 : tie.Need-shared-slice-read-wide-u32
-shared-slice-read-wide-u32 c =
-    let c₁ = c .before .before .before .before .before in
-    let c₂ = c₁ .before in
-    here c₂ .room
+shared-slice-read-wide-u32 c = here (file (rows (c .before .before))) .room
 
 read-u16-requires-2 : tie.Need-read-u16-requires-2
 read-u16-requires-2 c κs =
-    let c₁ = c .before .before .before .before .before in
-    let c₂ = c₁ .before .before in
-    let h = here c₂ in let r = h .row-end in let q = c₁ .start-of .ensures .0 in omega arith
+    let at-start = rows (c .before .before .before) in
+    let h = here (file at-start) in let r = h .row-end in let q = at-start .start-of .ensures .0 in omega arith
 
 returns-2 : tie.Need-returns-2
 returns-2 c =
-    let c₁ = c .before in
-    let c₂ = c₁ .before .before in
-    let c₃ = c₂ .before in
-    let c₄ = c₃ .before .before in
-    let c₅ = c₄ .before .before in
-    let c₆ = c₅ .before in
-    λ rs e. finds-aliased (located (c₆ .pre) (λ i. omega (arith, c₅ .shared-slice-known .given i)) rs e) (c₄ .start-of .result) (c₃ .read-u16 .result) _ (c₄ .start-of .ensures .0) (c₃ .read-u16 .ensures .0) refl (c₁ .wide-u32 .result) (c .read-u162 .result) (c₁ .wide-u32 .ensures .0) (c .read-u162 .ensures .0) (c₂ .if1 .left)
+    let at-offset = c .before in
+    let past-if1 = at-offset .before .before in
+    let at-size = past-if1 .before in
+    let at-start = rows at-size in
+    λ rs e. finds-aliased (at-rules (file at-start) rs e) (at-start .start-of .result) (at-size .read-u16 .result) _ (at-start .start-of .ensures .0)
+    (at-size .read-u16 .ensures .0) refl (at-offset .wide-u32 .result) (c .read-u162 .result) (at-offset .wide-u32 .ensures .0)
+    (c .read-u162 .ensures .0) (past-if1 .if1 .left)
 
 pub rule-at-spec : {M : Type 1} → statement M
 rule-at-spec =

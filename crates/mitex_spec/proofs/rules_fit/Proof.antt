@@ -4,11 +4,12 @@ use Prim.Native.Nat.{_≤_, ℕ, _*_}
 use Rattle.text.proofs.Writing.{part-rest, rest-length}
 use Rattle.utf8.specs.Utf8.{oneByteEach}
 use Rattle.utf8.proofs.Texts.{one-drop}
-use Rattle.mitex_spec.specs.RuleFile.{ruleRowFits, ruleTaken}
+use Rattle.mitex_spec.specs.RuleFile.{ruleRowFits}
 use mathlib.Core.Bool.{true}
 use Rattle.mitex_spec.proofs.RuleFile.{row-says}
 use native.Mathlib.Omega.{arith}
 use borrow.Author.Needs.{needs}
+use mathlib.Core.List.{List}
 use mathlib.Core.Path.{_≡_, sym, ap, _∙_}
 use borrow.Author.Tests.{not-true, not-false}
 use lib.ListN.{length}
@@ -18,17 +19,37 @@ use Rattle.mitex_spec.proofs.rules_fit.Statement.{statement}
 use Rattle.mitex_spec.proofs.rules_fit.Tie as tie
 
 abbrev Inv-loop : tie.InvT-loop
-Inv-loop rows text plain l₀ t₀ last₀ first₀ l t last first = (plain ≡ true → oneByteEach t ≡ true) × ((n : ℕ) → length rows ≡ 8 * n → RulesLeft n rows text first last l t)
+Inv-loop rows text plain l₀ t₀ last₀ first₀ l t last first =
+    (plain ≡ true → oneByteEach t ≡ true) × ((n : ℕ) → length rows ≡ 8 * n → RulesLeft n rows text first last l t)
 
 abbrev μ-loop : tie.MeasureT-loop
 μ-loop rows text plain l₀ t₀ last₀ first₀ l t last first = length l
 
--- in a turn the first row fits
-fit-true : (c : tie.Else1 Inv-loop μ-loop) → ruleRowFits (c .before .before .before .loop .l .now) (c .before .before .before .loop .t .now) ≡ true
+-- the places of a turn, each from the next: the test of the row, its name's length, and the bytes that it takes
+abbrev turn : tie.Else1 Inv-loop μ-loop → tie.In-loop Inv-loop μ-loop
+turn c = c .before .before
+
+abbrev row : tie.After-read-u16 Inv-loop μ-loop → tie.Else1 Inv-loop μ-loop
+row c = c .before
+
+abbrev name : tie.After-rule-taken Inv-loop μ-loop → tie.After-read-u16 Inv-loop μ-loop
+name c = c .before .before .before .before
+
+abbrev rowsAt : tie.Else1 Inv-loop μ-loop → List ℕ
+rowsAt c = turn c .before .loop .l .now
+
+abbrev textAt : tie.Else1 Inv-loop μ-loop → List ℕ
+textAt c = turn c .before .loop .t .now
+
+-- in a turn the first row fits, and its texts are there
+fit-true : (c : tie.Else1 Inv-loop μ-loop) → ruleRowFits (rowsAt c) (textAt c) ≡ true
 fit-true c = sym (c .before .rule-row-fits .ensures) ∙ not-false _ (c .if1 .left)
 
-room : (c : tie.Else1 Inv-loop μ-loop) → ruleTaken (c .before .before .before .loop .l .now) ≤ length (c .before .before .before .loop .t .now)
-room c = row-says _ _ (fit-true c) .room
+name-room : (c : tie.After-read-u16 Inv-loop μ-loop) → c .read-u16 .result ≤ length (textAt (row c))
+name-room c = let f = row-says _ _ (fit-true (row c)) .room in let n = c .read-u16 .ensures .0 in omega arith
+
+room : (c : tie.After-rule-taken Inv-loop μ-loop) → c .rule-taken .result ≤ length (textAt (row (name c)))
+room c = let f = row-says _ _ (fit-true (row (name c))) .room in let n = c .rule-taken .ensures .0 in omega arith
 
 loop-holds : tie.Need-loop-holds Inv-loop μ-loop
 loop-holds c = (λ e. sym (c .before .one-byte-each .ensures) ∙ e, λ n e. left-start n _ _ _ e)
@@ -37,71 +58,54 @@ rule-row-fits-requires : tie.Need-rule-row-fits-requires Inv-loop μ-loop
 rule-row-fits-requires c κs = (c .loop-test .taken, c .before .loop .inv .0)
 
 returns : tie.Need-returns Inv-loop μ-loop
-returns c = λ n e. left-unfit (c .before .before .before .loop .inv .1 n e) (c .before .before .loop-test .taken) (sym (c .before .rule-row-fits .ensures) ∙ not-true _ (c .if1 .taken))
+returns c =
+    let at-row = c .before in
+    let in-loop = at-row .before in
+    λ n e. left-unfit (in-loop .before .loop .inv .1 n e) (in-loop .loop-test .taken) (sym (at-row .rule-row-fits .ensures) ∙ not-true _ (c .if1 .taken))
 
 slice-aggregate-follows : tie.Need-slice-aggregate-follows Inv-loop μ-loop
-slice-aggregate-follows c = let f = room (c .before .before) in let n = c .before .read-u16 .ensures .0 in sym (length-take-le _ _ (omega arith))
+slice-aggregate-follows c = sym (length-take-le _ _ (name-room (c .before)))
 
 returns-2 : tie.Need-returns-2 Inv-loop μ-loop
 returns-2 c =
-    let c₁ = c .before in
-    let c₂ = c₁ .before .before in
-    let c₃ = c₂ .before in
-    let c₄ = c₃ .before .before in
-    let c₅ = c₄ .before in
-    λ n e. left-falls (c₅ .loop .inv .1 n e) (c₁ .follows .result) (c₂ .read-u16 .result) (c₄ .loop-test .taken) (fit-true c₃) (c₂ .read-u16 .ensures .0) (c₁ .follows .ensures) (not-true _ (c .if2 .taken))
+    let at-follows = c .before in
+    let at-name = at-follows .before .before in
+    let in-loop = turn (row at-name) in
+    λ n e. left-falls (in-loop .before .loop .inv .1 n e) (at-follows .follows .result) (at-name .read-u16 .result) (in-loop .loop-test .taken)
+    (fit-true (row at-name)) (at-name .read-u16 .ensures .0) (at-follows .follows .ensures) (not-true _ (c .if2 .taken))
 
 rule-taken-requires : tie.Need-rule-taken-requires Inv-loop μ-loop
-rule-taken-requires c κs =
-    let c₁ = c .before .before .before .before .before in
-    let c₂ = c₁ .before in
-    c₂ .loop-test .taken
+rule-taken-requires c κs = turn (row (c .before .before .before)) .loop-test .taken
 
 slice-aggregate-last-2 : tie.Need-slice-aggregate-last-2 Inv-loop μ-loop
-slice-aggregate-last-2 c =
-    let c₁ = c .before .before .before .before .before in
-    let c₂ = c₁ .before in
-    let f = room c₂ in let n = c₁ .read-u16 .ensures .0 in sym (length-take-le _ _ (omega arith))
+slice-aggregate-last-2 c = sym (length-take-le _ _ (name-room (name (c .before))))
 
 sub-t : tie.Need-sub-t Inv-loop μ-loop
-sub-t c =
-    let c₁ = c .before in
-    let c₂ = c₁ .before .before .before .before .before in
-    let f = room c₂ in let n = c₁ .rule-taken .ensures .0 in omega arith
+sub-t c = room (c .before)
 
 part-t-start : tie.Need-part-t-start Inv-loop μ-loop
-part-t-start c =
-    let c₁ = c .before in
-    let c₂ = c₁ .before .before .before .before .before in
-    let f = room c₂ in let n = c₁ .rule-taken .ensures .0 in omega arith
+part-t-start c = room (c .before)
 
 part-t-end : tie.Need-part-t-end Inv-loop μ-loop
-part-t-end c =
-    let c₁ = c .before in
-    let c₂ = c₁ .before .before .before .before .before in
-    let f = room c₂ in let n = c₁ .rule-taken .ensures .0 in omega arith
+part-t-end c = let h = room (c .before) in omega arith
 
 loop-less : tie.Need-loop-less Inv-loop μ-loop
-loop-less c =
-    let c₁ = c .before .before .before .before .before in
-    let c₂ = c₁ .before .before .before .before .before in
-    let c₃ = c₂ .before in
-    omega (arith, rest-length (c₃ .loop .l .now) 8)
+loop-less c = omega (arith, rest-length (rowsAt (row (name (c .before .before .before)))) 8)
 
 loop-again : tie.Need-loop-again Inv-loop μ-loop
 loop-again c =
-    let c₁ = c .before .before .before in
-    let c₂ = c₁ .before in
-    let c₃ = c₂ .before in
-    let c₄ = c₃ .before .before in
-    let c₅ = c₄ .before in
-    let c₆ = c₅ .before .before in
-    let c₇ = c₆ .before in
-    let at = c₇ .loop in (
-      λ e. ap oneByteEach (part-rest (at .t .now) (c₁ .rule-taken .result)) ∙ one-drop (c₁ .rule-taken .result) (at .t .now) (at .inv .0 e),
+    let at-taken = c .before .before .before in
+    let past-if2 = at-taken .before in
+    let at-follows = past-if2 .before in
+    let at-name = name at-taken in
+    let in-loop = turn (row at-name) in
+    let loop = in-loop .before .loop in
+    let m = at-taken .rule-taken .result in (
+      λ e. ap oneByteEach (part-rest (loop .t .now) m) ∙ one-drop m (loop .t .now) (loop .inv .0 e),
       λ n e.
-          left-next (at .inv .1 n e) (c₃ .follows .result) (c₄ .read-u16 .result) (c₁ .rule-taken .result) (c₆ .loop-test .taken) (fit-true c₅) (c₄ .read-u16 .ensures .0)
-          (c₃ .follows .ensures) (not-false _ (c₂ .if2 .left)) (c₁ .rule-taken .ensures .0),
+          left-next (loop .inv .1 n e) (at-follows .follows .result) (at-name .read-u16 .result) m (in-loop .loop-test .taken)
+          (fit-true (row at-name)) (at-name .read-u16 .ensures .0) (at-follows .follows .ensures) (not-false _ (past-if2 .if2 .left))
+          (at-taken .rule-taken .ensures .0),
     )
 
 returns-3 : tie.Need-returns-3 Inv-loop μ-loop

@@ -10,10 +10,10 @@ returns c = extent-token (c .before .before .before .args .rows .now) (c .before
 returns-2 : tie.Need-returns-2
 returns-2 c =
     let number = c .number in
-    let c₁ = c .before in
-    let if1 = c₁ .if1 in
-    let c₂ = c₁ .before .before .before in
-    let args = c₂ .args in
+    let past-if1 = c .before in
+    let if1 = past-if1 .if1 in
+    let start = past-if1 .before .before .before in
+    let args = start .args in
     extent-node (args .rows .now) (args .i) _ (if1 .left) (number .ensures .0)
 
 pub extent-spec : {M : Type 1} → statement M

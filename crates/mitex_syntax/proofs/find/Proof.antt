@@ -6,7 +6,7 @@ use lib.ListN.{length, drop}
 use native.Mathlib.Omega.{arith}
 use Rattle.mitex_syntax.specs.Tree.{Forest}
 use Rattle.mitex_syntax.specs.Spells.{Begins}
-use Rattle.mitex_syntax.specs.Places.{picks}
+use Rattle.mitex_syntax.specs.Places.{isWanted}
 use Rattle.mitex_syntax.specs.Places.Placed.{missing, there}
 use Rattle.mitex_syntax.proofs.Trees.{Element, Child, child, spans}
 use Rattle.mitex_syntax.proofs.Seeking.{Seeks, seek-start, seek-element, seek-found, seek-next, seek-none}
@@ -16,7 +16,7 @@ use Rattle.mitex_syntax.proofs.find.Tie as tie
 abbrev Inv-loop : tie.InvT-loop
 Inv-loop rows text wanted i₀ j₀ i j =
     (i ≤ length rows) × (j ≤ length text)
-    × ((f : Forest) → Begins f (drop i₀ rows) (drop j₀ text) → Seeks (picks wanted) f rows text i₀ i j)
+    × ((f : Forest) → Begins f (drop i₀ rows) (drop j₀ text) → Seeks (isWanted wanted) f rows text i₀ i j)
 
 abbrev μ-loop : tie.MeasureT-loop
 μ-loop rows text wanted i₀ j₀ i j = length rows - i

@@ -18,9 +18,9 @@ returns-3 c = token-not-node (c .before .before .before .before .args .k) (c .be
 returns-4 : tie.Need-returns-4
 returns-4 c =
     let b = c .before in
-    let c₂ = b .before in
-    let c₁ = c₂ .before in
-    other-node (c₁ .before .args .k) (c₁ .if1 .left) _ (b .is-token .ensures) (c .if3 .left) (c₂ .if2 .left)
+    let past-if2 = b .before in
+    let past-if1 = past-if2 .before in
+    other-node (past-if1 .before .args .k) (past-if1 .if1 .left) _ (b .is-token .ensures) (c .if3 .left) (past-if2 .if2 .left)
 
 pub is-node-spec : {M : Type 1} → statement M
 is-node-spec = tie.close (tie.spec returns returns-2 (λ c κs. search needs) returns-3 returns-4)

@@ -19,10 +19,10 @@ returns-4 c = ap isToken (sym (c .if4 .taken))
 
 returns-5 : tie.Need-returns-5
 returns-5 c =
-    let c₃ = c .before in
-    let c₂ = c₃ .before in
-    let c₁ = c₂ .before in
-    high-token (c₁ .before .args .k) (c₁ .if1 .left) (c₂ .if2 .left) (c₃ .if3 .left) (c .if4 .left)
+    let past-if3 = c .before in
+    let past-if2 = past-if3 .before in
+    let past-if1 = past-if2 .before in
+    high-token (past-if1 .before .args .k) (past-if1 .if1 .left) (past-if2 .if2 .left) (past-if3 .if3 .left) (c .if4 .left)
 
 pub is-token-spec : {M : Type 1} → statement M
 is-token-spec = tie.close (tie.spec returns returns-2 returns-3 returns-4 returns-5)

@@ -1,9 +1,9 @@
--- `is_wanted`: each wish is its test (`picks`).
+-- `is_wanted`: each wish is its test (`isWanted`).
 use Prim.Native.Nat.{_≤_}
 use lib.ListN.{length}
 use mathlib.Core.Path.{sym, ap, _∙_}
 use native.Mathlib.Omega.{arith}
-use Rattle.mitex_syntax.specs.Places.{picks}
+use Rattle.mitex_syntax.specs.Places.{isWanted}
 use Rattle.mitex_syntax.specs.declared.Wanted.{Wanted}
 use Rattle.mitex_syntax.proofs.Seeking.{rows-eight, wanted-kind, wanted-any-other}
 use borrow.Author.Needs.{needs}
@@ -20,13 +20,13 @@ shared-slice-read-result-2 : tie.Need-shared-slice-read-result-2
 shared-slice-read-result-2 c = omega (arith, eight (c .before .before .before .before .before))
 
 returns : tie.Need-returns
-returns c = λ t e. wanted-kind t _ e _ ∙ ap (λ (w : Wanted). picks w t) (sym (c .before .before .wanted .given .1))
+returns c = λ t e. wanted-kind t _ e _ ∙ ap (λ (w : Wanted). isWanted w t) (sym (c .before .before .wanted .given .1))
 
 returns-2 : tie.Need-returns-2
-returns-2 c = λ t e. c .is-argument-with .ensures t e ∙ ap (λ (w : Wanted). picks w t) (sym (c .before .before .wanted2 .given .1))
+returns-2 c = λ t e. c .is-argument-with .ensures t e ∙ ap (λ (w : Wanted). isWanted w t) (sym (c .before .before .wanted2 .given .1))
 
 returns-3 : tie.Need-returns-3
-returns-3 c = λ t e. wanted-any-other t _ e _ ∙ ap (λ (w : Wanted). picks w t) (sym (c .before .before .wanted3 .given .1))
+returns-3 c = λ t e. wanted-any-other t _ e _ ∙ ap (λ (w : Wanted). isWanted w t) (sym (c .before .before .wanted3 .given .1))
 
 pub is-wanted-spec : {M : Type 1} → statement M
 is-wanted-spec =

@@ -6,20 +6,20 @@ use Rattle.mitex_syntax.proofs.span_at.Tie as tie
 
 text-len-requires : tie.Need-text-len-requires
 text-len-requires c κs =
-    let c₁ = c .before in
-    let extent = c₁ .extent in
-    let c₂ = c₁ .before .before in
-    let args = c₂ .args in
-    let pre = c₂ .pre in
+    let at-extent = c .before in
+    let extent = at-extent .extent in
+    let start = at-extent .before .before in
+    let args = start .args in
+    let pre = start .pre in
     part-asks _ (args .i) (extent .result) (extent .ensures) (pre .inside) (pre .short)
 
 returns : tie.Need-returns
 returns c =
     let text-len = c .text-len in
-    let c₁ = c .before .before in
-    let extent = c₁ .extent in
-    let c₂ = c₁ .before .before in
-    let args = c₂ .args in
+    let at-extent = c .before .before in
+    let extent = at-extent .extent in
+    let start = at-extent .before .before in
+    let args = start .args in
     (extent .ensures, part-says _ (args .i) (extent .result) (extent .ensures) (text-len .result) (text-len .ensures))
 
 pub span-at-spec : {M : Type 1} → statement M

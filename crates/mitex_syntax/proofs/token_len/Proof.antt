@@ -5,10 +5,13 @@ use Rattle.mitex_syntax.proofs.token_len.Statement.{statement}
 use Rattle.mitex_syntax.proofs.token_len.Tie as tie
 
 returns : tie.Need-returns
-returns c = token-len (c .before .before .before .before .args .rows .now) (c .before .before .before .before .args .i) _ (c .if1 .taken) (c .before .before .number .ensures .0)
+returns c =
+    let at-number = c .before .before in
+    let args = at-number .before .before .args in
+    token-len (args .rows .now) (args .i) _ (c .if1 .taken) (at-number .number .ensures .0)
 
 returns-2 : tie.Need-returns-2
-returns-2 c = node-len (c .before .before .before .before .args .rows .now) (c .before .before .before .before .args .i) (c .if1 .left)
+returns-2 c = let args = c .before .before .before .before .args in node-len (args .rows .now) (args .i) (c .if1 .left)
 
 pub token-len-spec : {M : Type 1} → statement M
 token-len-spec =

@@ -14,12 +14,12 @@ returns c = sym (ends-short (c .before .before .before .args .s .now) (c .before
 
 returns-2 : tie.Need-returns-2
 returns-2 c =
-    let c₁ = c .before .before in
-    let c₂ = c₁ .before .before .before in
-    let args = c₂ .args in
+    let past-if1 = c .before .before in
+    let start = past-if1 .before .before .before in
+    let args = start .args in
     let s = args .s .now in
     let p = args .p .now in
-    c .same .ensures ∙ ap (λ r. same r p) (part-rest s (length s - length p)) ∙ sym (ends-same s p (c₁ .if1 .left))
+    c .same .ensures ∙ ap (λ r. same r p) (part-rest s (length s - length p)) ∙ sym (ends-same s p (past-if1 .if1 .left))
 
 pub ends-with-spec : {M : Type 1} → statement M
 ends-with-spec =

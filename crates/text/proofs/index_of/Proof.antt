@@ -19,17 +19,17 @@ loop-holds c = (omega arith, omega arith)
 
 returns : tie.Need-returns Inv-loop μ-loop
 returns c =
-    let c₁ = c .before .before in
-    let c₂ = c₁ .before in
-    let c₃ = c₂ .before in
-    let loop = c₂ .loop in index-here (c₃ .args .b) (c₃ .args .s .now) (loop .i) (c₁ .loop-test .taken) (c .if1 .taken) (loop .inv .1)
+    let in-loop = c .before .before in
+    let at-loop = in-loop .before in
+    let start = at-loop .before in
+    let loop = at-loop .loop in index-here (start .args .b) (start .args .s .now) (loop .i) (in-loop .loop-test .taken) (c .if1 .taken) (loop .inv .1)
 
 loop-again : tie.Need-loop-again Inv-loop μ-loop
 loop-again c =
-    let c₁ = c .before .before in
-    let c₂ = c₁ .before in
-    let c₃ = c₂ .before in
-    let loop = c₂ .loop in (omega arith, index-next (c₃ .args .b) (c₃ .args .s .now) (loop .i) (c₁ .loop-test .taken) (c .if1 .left) (loop .inv .1))
+    let in-loop = c .before .before in
+    let at-loop = in-loop .before in
+    let start = at-loop .before in
+    let loop = at-loop .loop in (omega arith, index-next (start .args .b) (start .args .s .now) (loop .i) (in-loop .loop-test .taken) (c .if1 .left) (loop .inv .1))
 
 returns-2 : tie.Need-returns-2 Inv-loop μ-loop
 returns-2 c = let loop = c .before .loop in index-end (c .before .before .args .b) (c .before .before .args .s .now) (loop .i) (c .loop-test .left) (loop .inv .1)

@@ -20,10 +20,10 @@ loop-holds c = (omega arith, refl, refl)
 
 loop-again : tie.Need-loop-again Inv-loop μ-loop
 loop-again c =
-    let c₁ = c .before .before in
-    let args = c₁ .before .args in
-    let pre = c₁ .before .pre in
-    let loop = c₁ .loop in
+    let at-loop = c .before .before in
+    let args = at-loop .before .args in
+    let pre = at-loop .before .pre in
+    let loop = at-loop .loop in
     let moves = moved-down (args .out .now) (args .old) (args .new) (args .n) (pre .1) (loop .out) (loop .i) in
     let e = moves (pre .0) (c .before .loop-test .taken) (loop .inv .2) in
     let w = take (loop .i + 1) (take (args .n) (drop (args .old) (args .out .now))) in
@@ -34,10 +34,10 @@ same-length c = c .before .loop .inv .1
 
 returns : tie.Need-returns Inv-loop μ-loop
 returns c =
-    let c₁ = c .before in
-    let args = c₁ .before .args in
-    let loop = c₁ .loop in
-    moved-all-down (args .out .now) (args .old) (args .new) (args .n) (c₁ .before .pre .1) (loop .out) (loop .i) (c .loop-test .left)
+    let at-loop = c .before in
+    let args = at-loop .before .args in
+    let loop = at-loop .loop in
+    moved-all-down (args .out .now) (args .old) (args .new) (args .n) (at-loop .before .pre .1) (loop .out) (loop .i) (c .loop-test .left)
     (loop .inv .2)
 
 pub move-down-spec : {M : Type 1} → statement M

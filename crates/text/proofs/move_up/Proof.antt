@@ -22,11 +22,11 @@ loop-holds c =
 
 loop-again : tie.Need-loop-again Inv-loop μ-loop
 loop-again c =
-    let c₁ = c .before .before in
-    let args = c₁ .before .args in
-    let loop = c₁ .loop in
+    let at-loop = c .before .before in
+    let args = at-loop .before .args in
+    let loop = at-loop .loop in
     let moves = moved-up (args .out .now) (args .old) (args .new) (args .n) (omega arith) (loop .out) (loop .i) in
-    let e = moves (c₁ .before .pre .0) (c .before .loop-test .taken) (loop .inv .0) (loop .inv .2) in
+    let e = moves (at-loop .before .pre .0) (c .before .loop-test .taken) (loop .inv .0) (loop .inv .2) in
     let w = drop (loop .i - 1) (take (args .n) (drop (args .old) (args .out .now))) in
     (omega arith, sets-long (args .out .now) _ (args .new + (loop .i - 1)) w e, e)
 
@@ -35,9 +35,9 @@ same-length c = c .before .loop .inv .1
 
 returns : tie.Need-returns Inv-loop μ-loop
 returns c =
-    let c₁ = c .before in
-    let args = c₁ .before .args in
-    let loop = c₁ .loop in
+    let at-loop = c .before in
+    let args = at-loop .before .args in
+    let loop = at-loop .loop in
     moved-all-up (args .out .now) (args .old) (args .new) (args .n) (omega arith) (loop .out) (loop .i) (c .loop-test .left) (loop .inv .2)
 
 pub move-up-spec : {M : Type 1} → statement M

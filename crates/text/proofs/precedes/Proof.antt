@@ -20,27 +20,36 @@ loop-holds c = (omega arith, refl)
 
 returns : tie.Need-returns Inv-loop μ-loop
 returns c =
-    let c₁ = c .before .before in
-    let c₂ = c₁ .before .before .before in
-    let c₃ = c₂ .before in
-    let c₄ = c₃ .before in
-    let c₅ = c₄ .before .before .before in
-    let loop = c₃ .loop in let args = c₅ .args in precedes-stop (args .a .now) (args .b .now) (loop .i) _ (c₄ .least .ensures) (c₂ .loop-test .taken) (c₁ .if1 .taken) (loop .inv .1)
+    let past-if1 = c .before .before in
+    let in-loop = past-if1 .before .before .before in
+    let at-loop = in-loop .before in
+    let at-least = at-loop .before in
+    let start = at-least .before .before .before in
+    let loop = at-loop .loop in
+    let args = start .args in
+    precedes-stop (args .a .now) (args .b .now) (loop .i) _ (at-least .least .ensures) (in-loop .loop-test .taken) (past-if1 .if1 .taken)
+    (loop .inv .1)
 
 loop-again : tie.Need-loop-again Inv-loop μ-loop
 loop-again c =
-    let c₁ = c .before .before .before in
-    let c₂ = c₁ .before in
-    let c₃ = c₂ .before in
-    let c₄ = c₃ .before .before .before in
-    let loop = c₂ .loop in let args = c₄ .args in (omega arith, precedes-next (args .a .now) (args .b .now) (loop .i) _ (c₃ .least .ensures) (c₁ .loop-test .taken) (c .if1 .left) (loop .inv .1))
+    let in-loop = c .before .before .before in
+    let at-loop = in-loop .before in
+    let at-least = at-loop .before in
+    let start = at-least .before .before .before in
+    let loop = at-loop .loop in
+    let args = start .args in (
+      omega arith,
+      precedes-next (args .a .now) (args .b .now) (loop .i) _ (at-least .least .ensures) (in-loop .loop-test .taken) (c .if1 .left) (loop .inv .1),
+    )
 
 returns-2 : tie.Need-returns-2 Inv-loop μ-loop
 returns-2 c =
-    let c₁ = c .before in
-    let c₂ = c₁ .before in
-    let c₃ = c₂ .before .before .before in
-    let loop = c₁ .loop in let args = c₃ .args in precedes-end (args .a .now) (args .b .now) (loop .i) _ (c₂ .least .ensures) (loop .inv .0) (c .loop-test .left) (loop .inv .1)
+    let at-loop = c .before in
+    let at-least = at-loop .before in
+    let start = at-least .before .before .before in
+    let loop = at-loop .loop in
+    let args = start .args in
+    precedes-end (args .a .now) (args .b .now) (loop .i) _ (at-least .least .ensures) (loop .inv .0) (c .loop-test .left) (loop .inv .1)
 
 pub precedes-spec : {M : Type 1} → statement M
 precedes-spec =

@@ -20,31 +20,32 @@ loop-holds c = (omega arith, refl, refl)
 
 loop-again : tie.Need-loop-again Inv-loop μ-loop
 loop-again c =
-    let c₁ = c .before .before in
-    let c₂ = c₁ .before .before .before .before in
-    let loop = c₁ .loop in
-    let args = c₂ .args in
+    let at-loop = c .before .before in
+    let start = at-loop .before .before .before .before in
+    let loop = at-loop .loop in
+    let args = start .args in
     let e = sets-more (args .s .now) (args .out .now) (loop .out) (args .at) (loop .i) (omega arith) (loop .inv .2) in
     (omega arith, sets-long (args .out .now) _ (args .at) (take (loop .i + 1) (args .s .now)) e, e)
 
 forth-requires : tie.Need-forth-requires Inv-loop μ-loop
 forth-requires c κs =
-    let c₁ = c .before .before .before .before .before in
-    c₁ .pre .0
+    let start = c .before .before .before .before .before in
+    start .pre .0
 
 same-length : tie.Need-same-length Inv-loop μ-loop
 same-length c = c .before .before .loop .inv .1
 
 returns : tie.Need-returns Inv-loop μ-loop
 returns c =
-    let c₁ = c .before in
-    let c₂ = c₁ .before in
-    let c₃ = c₂ .before in
-    let c₄ = c₃ .before .before .before in
-    let loop = c₂ .loop in
-    let args = c₄ .args in
-    let inside = c₃ .inside in
-    wrote-inside (args .s .now) (args .out .now) (loop .out) (args .at) _ (loop .i) _ (inside .ensures .0) (inside .ensures .2) (loop .inv .0) (c₁ .loop-test .left) (loop .inv .2) (c .forth .ensures)
+    let in-loop = c .before in
+    let at-loop = in-loop .before in
+    let at-inside = at-loop .before in
+    let start = at-inside .before .before .before in
+    let loop = at-loop .loop in
+    let args = start .args in
+    let inside = at-inside .inside in
+    wrote-inside (args .s .now) (args .out .now) (loop .out) (args .at) _ (loop .i) _ (inside .ensures .0) (inside .ensures .2) (loop .inv .0)
+    (in-loop .loop-test .left) (loop .inv .2) (c .forth .ensures)
 
 pub put-spec : {M : Type 1} → statement M
 put-spec =

@@ -37,30 +37,29 @@ sub-put c = let r = c .before .before .before .loop .inv .room in omega arith
 
 part-put-start : tie.Need-part-put-start Inv-loop μ-loop
 part-put-start c =
-    let c₁ = c .before .before .before .before in
-    let r = c₁ .loop .inv .room in omega arith
+    let at-loop = c .before .before .before .before in
+    let r = at-loop .loop .inv .room in omega arith
 
 part-put-end : tie.Need-part-put-end Inv-loop μ-loop
 part-put-end c =
-    let c₁ = c .before .before .before .before in
-    let s = c₁ .loop .inv in let l = s .long in let r = s .room in simp length-set (omega arith)
+    let at-loop = c .before .before .before .before in
+    let s = at-loop .loop .inv in let l = s .long in let r = s .room in simp length-set (omega arith)
 
 put-requires : tie.Need-put-requires Inv-loop μ-loop
 put-requires c κs =
-    let c₁ = c .before .before .before .before .before in
-    let c₂ = c₁ .before .before in
-    c₂ .pre
+    let at-loop = c .before .before .before .before .before in
+    at-loop .before .before .pre
 
 same-length : tie.Need-same-length Inv-loop μ-loop
 same-length c = wrote-long (c .before .before .put .ensures)
 
 returns : tie.Need-returns Inv-loop μ-loop
 returns c =
-    let c₁ = c .before .before in
-    let c₂ = c₁ .before .before .before .before in
-    let c₃ = c₂ .before in
-    let c₄ = c₃ .before in
-    wrote-as (left-end (c₂ .low-byte2 .result) (c₄ .loop .inv) (c₃ .loop-test .left) (c₂ .low-byte2 .ensures)) (c₁ .put .ensures)
+    let at-put = c .before .before in
+    let at-low-byte2 = at-put .before .before .before .before in
+    let in-loop = at-low-byte2 .before in
+    let at-loop = in-loop .before in
+    wrote-as (left-end (at-low-byte2 .low-byte2 .result) (at-loop .loop .inv) (in-loop .loop-test .left) (at-low-byte2 .low-byte2 .ensures)) (at-put .put .ensures)
 
 pub put-decimal-spec : {M : Type 1} → statement M
 put-decimal-spec =

@@ -22,27 +22,35 @@ loop-holds c = (omega arith, refl)
 
 shared-slice-read-if2-2 : tie.Need-shared-slice-read-if2-2 Inv-loop μ-loop
 shared-slice-read-if2-2 c =
-    let c₁ = c .before .before .before .before in
-    omega (arith, c₁ .if1 .left)
+    let past-if1 = c .before .before .before .before in
+    omega (arith, past-if1 .if1 .left)
 
 returns-2 : tie.Need-returns-2 Inv-loop μ-loop
 returns-2 c =
-    let c₁ = c .before .before .before in
-    let c₂ = c₁ .before in
-    let c₃ = c₂ .before in
-    let c₄ = c₃ .before in
-    let loop = c₂ .loop in let args = c₄ .args in same-stop (args .a .now) (args .b .now) (loop .i) (c₁ .loop-test .taken) (c₃ .if1 .left) (c .if2 .taken) (loop .inv .1)
+    let in-loop = c .before .before .before in
+    let at-loop = in-loop .before in
+    let past-if1 = at-loop .before in
+    let start = past-if1 .before in
+    let loop = at-loop .loop in
+    let args = start .args in
+    same-stop (args .a .now) (args .b .now) (loop .i) (in-loop .loop-test .taken) (past-if1 .if1 .left) (c .if2 .taken) (loop .inv .1)
 
 loop-again : tie.Need-loop-again Inv-loop μ-loop
 loop-again c =
-    let c₁ = c .before .before .before in
-    let c₂ = c₁ .before in
-    let c₃ = c₂ .before in
-    let c₄ = c₃ .before in
-    let loop = c₂ .loop in let args = c₄ .args in (omega arith, same-next (args .a .now) (args .b .now) (loop .i) (c₁ .loop-test .taken) (c₃ .if1 .left) (c .if2 .left) (loop .inv .1))
+    let in-loop = c .before .before .before in
+    let at-loop = in-loop .before in
+    let past-if1 = at-loop .before in
+    let start = past-if1 .before in
+    let loop = at-loop .loop in
+    let args = start .args in
+    (omega arith, same-next (args .a .now) (args .b .now) (loop .i) (in-loop .loop-test .taken) (past-if1 .if1 .left) (c .if2 .left) (loop .inv .1))
 
 returns-3 : tie.Need-returns-3 Inv-loop μ-loop
-returns-3 c = let loop = c .before .loop in let args = c .before .before .before .args in same-end (args .a .now) (args .b .now) (loop .i) (c .loop-test .left) (c .before .before .if1 .left) (loop .inv .1)
+returns-3 c =
+    let past-if1 = c .before .before in
+    let loop = c .before .loop in
+    let args = past-if1 .before .args in
+    same-end (args .a .now) (args .b .now) (loop .i) (c .loop-test .left) (past-if1 .if1 .left) (loop .inv .1)
 
 pub same-spec : {M : Type 1} → statement M
 same-spec =

@@ -14,9 +14,9 @@ slice-aggregate-same c = sym (length-take-le _ _ (c .before .if1 .left))
 
 returns-2 : tie.Need-returns-2
 returns-2 c =
-    let c₁ = c .before .before in
-    let c₂ = c₁ .before .before .before in
-    c .same .ensures ∙ sym (starts-same (c₂ .args .s .now) (c₂ .args .p .now) (c₁ .if1 .left))
+    let past-if1 = c .before .before in
+    let start = past-if1 .before .before .before in
+    c .same .ensures ∙ sym (starts-same (start .args .s .now) (start .args .p .now) (past-if1 .if1 .left))
 
 pub starts-with-spec : {M : Type 1} → statement M
 starts-with-spec = tie.close (tie.spec returns slice-aggregate-same (λ c κs. search needs) returns-2)

@@ -17,11 +17,13 @@ slice-write-out-4 c = simp length-set (omega arith)
 
 returns : tie.Need-returns
 returns c =
-    let c₁ = c .before in
-    let c₂ = c₁ .before in
-    let c₃ = c₂ .before in
-    let c₄ = c₃ .before .before in
-    let args = c₄ .args in sets-four (args .out .now) (args .i) (args .n) (c₃ .low-byte .ensures) (c₂ .low-byte2 .ensures) (c₁ .low-byte3 .ensures) (c .low-byte4 .ensures)
+    let at-low-byte3 = c .before in
+    let at-low-byte2 = at-low-byte3 .before in
+    let at-low-byte = at-low-byte2 .before in
+    let start = at-low-byte .before .before in
+    let args = start .args in
+    sets-four (args .out .now) (args .i) (args .n) (at-low-byte .low-byte .ensures) (at-low-byte2 .low-byte2 .ensures)
+    (at-low-byte3 .low-byte3 .ensures) (c .low-byte4 .ensures)
 
 pub write-u32-spec : {M : Type 1} → statement M
 write-u32-spec =

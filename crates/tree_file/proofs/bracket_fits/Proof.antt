@@ -8,7 +8,10 @@ use Rattle.tree_file.proofs.bracket_fits.Statement.{statement}
 use Rattle.tree_file.proofs.bracket_fits.Tie as tie
 
 text-at-requires : tie.Need-text-at-requires
-text-at-requires c κs = place-inside (c .before .before .argument-with .ensures (c .before .before .before .before .before .pre .forest) (c .before .before .before .before .before .pre .begins))
+text-at-requires c κs =
+    let at-found = c .before .before in
+    let given = at-found .before .before .before .pre in
+    place-inside (at-found .argument-with .ensures (given .forest) (given .begins))
 
 returns : tie.Need-returns
 returns c =

@@ -21,7 +21,8 @@ entry c = c .before .before .before .before
 -- the rows are lines
 lined-here : (c : tie.Else1) (n : ℕ) → length (entry c .args .rows .now) ≡ 8 * n → Lined n (entry c .args .rows .now) (entry c .args .text .now)
 lined-here c n e =
-    lined n _ _ (λ i. omega (arith, c .before .before .before .shared-slice-known .given i)) e (c .before .lines-fit .result) (c .before .lines-fit .ensures n e) (not-false _ (c .if1 .left))
+    lined n _ _ (λ i. omega (arith, c .before .before .before .shared-slice-known .given i)) e (c .before .lines-fit .result)
+    (c .before .lines-fit .ensures n e) (not-false _ (c .if1 .left))
 
 -- and nest, or not
 nested : (c : tie.After-check-rows) (x : Nest) → c .check-rows .result ≡ x → (n : ℕ) (e : length (entry (c .before) .args .rows .now) ≡ 8 * n)
@@ -58,7 +59,8 @@ returns-3 c =
     let called = c .before .before .before in
     λ n e.
     let w = lined-here (called .before) n e in
-    answer-lines w (c .check-deep .result) (c .check-deep .ensures (w .ls) (w .read .rows-are) (w .read .fit) (nested called Deep (c .before .enum-told2 .given .1) n e))
+    answer-lines w (c .check-deep .result)
+    (c .check-deep .ensures (w .ls) (w .read .rows-are) (w .read .fit) (nested called Deep (c .before .enum-told2 .given .1) n e))
 
 returns-4 : tie.Need-returns-4
 returns-4 c =

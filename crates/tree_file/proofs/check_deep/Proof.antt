@@ -29,7 +29,8 @@ returns-2 c =
     let here = c .before .before .before in
     λ ls e h d.
     let w = found here ls e h in
-    answer-amiss (w .0) (c .before .before .root-blocks .result) (c .before .before .root-blocks .ensures (w .0) (grown-rows ls (w .0) e (w .1))) (c .enum-told .given .1)
+    answer-amiss (w .0) (c .before .before .root-blocks .result) (c .before .before .root-blocks .ensures (w .0) (grown-rows ls (w .0) e (w .1)))
+    (c .enum-told .given .1)
     ∙ sym (ap answerTo (w .1))
 
 returns-3 : tie.Need-returns-3

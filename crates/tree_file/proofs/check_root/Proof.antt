@@ -12,7 +12,9 @@ entry c = c .before .before .before .before .before
 
 -- the rows are those of a root
 rooted : (c : tie.After-blocks2) (f : Forest) → SpellsAll f (entry c .args .rows .now) (entry c .args .text .now) → Rooted-as f (c .blocks2 .given .0 .0)
-rooted c f sp = blocks-are f (c .before .before .root-blocks .result) (c .blocks2 .given .0 .0) (c .before .before .root-blocks .ensures f (sp .rows-are)) (c .blocks2 .given .1)
+rooted c f sp =
+    blocks-are f (c .before .before .root-blocks .result) (c .blocks2 .given .0 .0) (c .before .before .root-blocks .ensures f (sp .rows-are))
+    (c .blocks2 .given .1)
 
 scan-shape-requires : tie.Need-scan-shape-requires
 scan-shape-requires c κs =
@@ -34,7 +36,8 @@ returns-2 c =
     let called = c .before .before .before in
     λ f sp d.
     let a = rooted (called .before .before) f sp in
-    answer-breaks a d (called .scan-shape .result) (called .scan-shape .ensures (a .tree) (root-spells a sp)) (c .before .row .given .0 .0) (c .before .row .given .1)
+    answer-breaks a d (called .scan-shape .result) (called .scan-shape .ensures (a .tree) (root-spells a sp)) (c .before .row .given .0 .0)
+    (c .before .row .given .1)
 
 returns-3 : tie.Need-returns-3
 returns-3 c =

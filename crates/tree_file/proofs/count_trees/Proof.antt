@@ -16,15 +16,26 @@ Inv-loop rows rest₀ m₀ rest m = (8 * m + length rest ≤ length rows) × ((f
 abbrev μ-loop : tie.MeasureT-loop
 μ-loop rows rest₀ m₀ rest m = length rest
 
+-- the places of a turn, each from the next
+abbrev start : tie.At-loop Inv-loop μ-loop → tie.Start Inv-loop μ-loop
+start c = c .before .before
+
+abbrev turn : tie.After-extent Inv-loop μ-loop → tie.At-loop Inv-loop μ-loop
+turn c = c .before .before
+
 -- the tree at which the loop stands
-here : (c : tie.After-extent Inv-loop μ-loop) (f : Forest) → c .before .before .before .before .args .rows .now ≡ rowsOfs f → Tree-at f (c .before .before .loop .rest .now) (c .before .before .loop .m) (c .extent .result)
+abbrev AtTree : tie.After-extent Inv-loop μ-loop → Forest → Type 0
+AtTree c f = Tree-at f (turn c .loop .rest .now) (turn c .loop .m) (c .extent .result)
+
+here : (c : tie.After-extent Inv-loop μ-loop) (f : Forest) → start (turn c) .args .rows .now ≡ rowsOfs f → AtTree c f
 here c f e =
-    let few : length (c .before .before .loop .rest .now) ≤ fileMost = omega (arith, c .before .before .loop .inv .0, c .before .before .before .before .pre .few) in
-    trees-at (c .before .before .loop .inv .1 f e) (c .before .loop-test .taken) few (c .extent .result) (c .extent .ensures)
+    let loop = turn c .loop in
+    let few : length (loop .rest .now) ≤ fileMost = omega (arith, loop .inv .0, start (turn c) .pre .few) in
+    trees-at (loop .inv .1 f e) (c .before .loop-test .taken) few (c .extent .result) (c .extent .ensures)
 
 -- that of some forest
-some-here : (c : tie.After-extent Inv-loop μ-loop) → Tree-at (c .before .before .before .before .pre .forest) (c .before .before .loop .rest .now) (c .before .before .loop .m) (c .extent .result)
-some-here c = here c (c .before .before .before .before .pre .forest) (c .before .before .before .before .pre .spelt)
+some-here : (c : tie.After-extent Inv-loop μ-loop) → AtTree c (start (turn c) .pre .forest)
+some-here c = let given = start (turn c) .pre in here c (given .forest) (given .spelt)
 
 loop-holds : tie.Need-loop-holds Inv-loop μ-loop
 loop-holds c = (omega arith, λ f e. trees-start f _ e)

@@ -11,14 +11,19 @@ use Rattle.tree_file.proofs.image_fits.Statement.{statement}
 use Rattle.tree_file.proofs.image_fits.Tie as tie
 
 -- no argument is without a child node
-bare : (c : tie.Else1) (f : Forest) → (let start = c .before .before .before .before .before in Begins f (start .args .rows .now) (start .args .text .now)) → isSome (argumentWith 0 f) ≡ false
+bare :
+    (c : tie.Else1) (f : Forest)
+    → (let start = c .before .before .before .before .before in Begins f (start .args .rows .now) (start .args .text .now))
+    → isSome (argumentWith 0 f) ≡ false
 bare c f sp = sym (place-there (c .before .before .argument-with .ensures f sp)) ∙ sym (c .before .is-there .ensures) ∙ c .if1 .left
 
 returns : tie.Need-returns
 returns c = λ f sp. rw (sym (place-there (c .before .before .argument-with .ensures f sp)) ∙ sym (c .before .is-there .ensures) ∙ c .if1 .taken)
 
 returns-2 : tie.Need-returns-2
-returns-2 c = λ f sp. rw (bare (c .before .before .before) f sp, sym (c .before .before .curly-fits .ensures f sp) ∙ c .before .if2 .taken) (c .bracket-fits .ensures f sp)
+returns-2 c =
+    λ f sp. rw (bare (c .before .before .before) f sp, sym (c .before .before .curly-fits .ensures f sp) ∙ c .before .if2 .taken)
+    (c .bracket-fits .ensures f sp)
 
 returns-3 : tie.Need-returns-3
 returns-3 c = λ f sp. rw (bare (c .before .before) f sp, sym (c .before .curly-fits .ensures f sp) ∙ c .if2 .left)

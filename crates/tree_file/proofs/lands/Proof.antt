@@ -19,7 +19,8 @@ abbrev μ-loop : tie.MeasureT-loop
 -- the tree at which the loop stands
 here : (c : tie.After-under Inv-loop μ-loop) (ls : List Line) (f : Forest)
     → c .before .before .before .before .before .args .rows .now ≡ bytesOf ls → LinesFit ls → grow ls ≡ some f
-    → HopAt (c .before .before .before .before .before .args .n) f (c .before .before .before .loop .left) (c .before .before .before .loop .rest .now) (c .under .result)
+    → HopAt (c .before .before .before .before .before .args .n) f (c .before .before .before .loop .left)
+    (c .before .before .before .loop .rest .now) (c .under .result)
 here c ls f e h g = hop-at (c .before .before .before .loop .inv ls f e h g) (c .before .if1 .left) (c .under .result) (c .under .ensures .0)
 
 loop-holds : tie.Need-loop-holds Inv-loop μ-loop

@@ -14,7 +14,8 @@ use Rattle.tree_file.proofs.lines_fit.Statement.{statement}
 use Rattle.tree_file.proofs.lines_fit.Tie as tie
 
 abbrev Inv-loop : tie.InvT-loop
-Inv-loop rows text plain l₀ t₀ l t = (plain ≡ true → oneByteEach t ≡ true) × ((n : ℕ) → length rows ≡ 8 * n → LinesLeft n rows text l t)
+Inv-loop rows text plain l₀ t₀ l t =
+    (plain ≡ true → oneByteEach t ≡ true) × ((n : ℕ) → length rows ≡ 8 * n → LinesLeft n rows text l t)
 
 abbrev μ-loop : tie.MeasureT-loop
 μ-loop rows text plain l₀ t₀ l t = length l
@@ -34,13 +35,16 @@ row-at-requires c κs = (c .loop-test .taken, c .before .loop .inv .0)
 
 returns : tie.Need-returns Inv-loop μ-loop
 returns c =
-    λ n e. left-bad (c .before .before .before .before .loop .inv .1 n e) (c .before .before .before .loop-test .taken) (ap isBad (sym (c .before .before .row-at .ensures)) ∙ sym (c .before .is-bad .ensures) ∙ c .if1 .taken)
+    let row = c .before .before in
+    let in-loop = row .before in
+    λ n e. left-bad (in-loop .before .loop .inv .1 n e) (in-loop .loop-test .taken)
+    (ap isBad (sym (row .row-at .ensures)) ∙ sym (c .before .is-bad .ensures) ∙ c .if1 .taken)
 
 sub-t : tie.Need-sub-t Inv-loop μ-loop
-sub-t c = room (c)
+sub-t c = room c
 
 part-t-start : tie.Need-part-t-start Inv-loop μ-loop
-part-t-start c = room (c)
+part-t-start c = room c
 
 loop-less : tie.Need-loop-less Inv-loop μ-loop
 loop-less c = let row = c .before .before .before .before .before in omega (arith, rest-length (row .before .before .loop .l .now) 8)

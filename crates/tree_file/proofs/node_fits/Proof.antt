@@ -11,7 +11,9 @@ returns-2 : tie.Need-returns-2
 returns-2 c = λ f sp. rw (ne-eqb _ _ (c .before .before .if1 .left), eq-eqb _ _ (c .before .if2 .taken)) (c .cmd-fits .ensures f sp)
 
 returns-3 : tie.Need-returns-3
-returns-3 c = λ f sp. rw (ne-eqb _ _ (c .before .before .before .if1 .left), ne-eqb _ _ (c .before .before .if2 .left), eq-eqb _ _ (c .before .if3 .taken)) (c .env-fits .ensures f sp)
+returns-3 c =
+    λ f sp. rw (ne-eqb _ _ (c .before .before .before .if1 .left), ne-eqb _ _ (c .before .before .if2 .left), eq-eqb _ _ (c .before .if3 .taken))
+    (c .env-fits .ensures f sp)
 
 returns-4 : tie.Need-returns-4
 returns-4 c = λ f sp. rw (ne-eqb _ _ (c .before .before .if1 .left), ne-eqb _ _ (c .before .if2 .left), ne-eqb _ _ (c .if3 .left))

@@ -7,7 +7,9 @@ use Rattle.tree_file.proofs.node_row.Statement.{statement}
 use Rattle.tree_file.proofs.node_row.Tie as tie
 
 returns : tie.Need-returns
-returns c = rw (eq-eqb _ _ (c .before .before .before .before .if1 .taken), sym (c .before .before .is-node .ensures) ∙ c .before .if2 .taken) (ap Node (c .read-u32 .ensures .0))
+returns c =
+    rw (eq-eqb _ _ (c .before .before .before .before .if1 .taken), sym (c .before .before .is-node .ensures) ∙ c .before .if2 .taken)
+    (ap Node (c .read-u32 .ensures .0))
 
 returns-2 : tie.Need-returns-2
 returns-2 c = rw (eq-eqb _ _ (c .before .before .before .if1 .taken), sym (c .before .is-node .ensures) ∙ c .if2 .left)

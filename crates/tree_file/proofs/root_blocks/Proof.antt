@@ -1,4 +1,4 @@
--- The tests follow `blocksIn`; past them the rows are those of a root (`Root`), whose blocks are counted.
+-- The tests follow `rootBlocks`; past them the rows are those of a root (`Root`), whose blocks are counted.
 use Rattle.text.proofs.Writing.{rest-length}
 use borrow.Author.Needs.{needs}
 use native.Mathlib.Omega.{arith}
@@ -19,7 +19,8 @@ entry c = long c .before .before
 root : (c : tie.Else4) (f : Forest) → entry (c .before .before) .args .rows .now ≡ rowsOfs f → Root f (entry (c .before .before) .args .rows .now)
 root c f e =
     let node = c .before .before in
-    root-of f _ e (long node .if1 .left) (entry node .pre .few) (c .before .before .before .before .if2 .left) (node .if3 .left) (c .before .extent .result) (c .before .extent .ensures) (c .if4 .left)
+    root-of f _ e (long node .if1 .left) (entry node .pre .few) (c .before .before .before .before .if2 .left) (node .if3 .left)
+    (c .before .extent .result) (c .before .extent .ensures) (c .if4 .left)
 
 returns : tie.Need-returns
 returns c = λ f e. root-none f _ e (c .if1 .taken)

@@ -15,11 +15,17 @@ returns-2 c = rw (eq-eqb _ _ (c .before .before .if1 .left), ne-eqb _ _ (c .if2 
 
 returns-3 : tie.Need-returns-3
 unfolding rowAt
-returns-3 c = rw (eq-eqb _ _ (c .before .before .before .before .before .if1 .left), eq-eqb _ _ (c .before .before .before .if2 .left), eq-eqb _ _ (c .before .if3 .taken)) (c .token-row .ensures)
+returns-3 c =
+    let past-if2 = c .before .before .before in
+    let past-if1 = past-if2 .before .before in
+    rw (eq-eqb _ _ (past-if1 .if1 .left), eq-eqb _ _ (past-if2 .if2 .left), eq-eqb _ _ (c .before .if3 .taken)) (c .token-row .ensures)
 
 returns-4 : tie.Need-returns-4
 unfolding rowAt
-returns-4 c = rw (eq-eqb _ _ (c .before .before .before .before .before .if1 .left), eq-eqb _ _ (c .before .before .before .if2 .left), ne-eqb _ _ (c .before .if3 .left)) (c .node-row .ensures)
+returns-4 c =
+    let past-if2 = c .before .before .before in
+    let past-if1 = past-if2 .before .before in
+    rw (eq-eqb _ _ (past-if1 .if1 .left), eq-eqb _ _ (past-if2 .if2 .left), ne-eqb _ _ (c .before .if3 .left)) (c .node-row .ensures)
 
 pub row-at-spec : {M : Type 1} → statement M
 row-at-spec =

@@ -13,7 +13,7 @@ Inv-loop rows text l₀ t₀ at₀ l t at = Scans rows text l t at
 abbrev μ-loop : tie.MeasureT-loop
 μ-loop rows text l₀ t₀ at₀ l t at = length l
 
--- the place behind what was passed
+-- the place after what was passed
 moved : (c : tie.After-e Inv-loop μ-loop) → let here = c .before .before .before .before in let g = c .e .given .0 in
     let args = here .before .before .before .args in let at = here .loop in
     Moves (args .rows .now) (args .text .now) (at .l .now) (at .t .now) (at .at) (g .0) (g .1 .0)

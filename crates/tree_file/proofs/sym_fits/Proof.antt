@@ -14,7 +14,9 @@ returns-3 : tie.Need-returns-3
 returns-3 c = rw (eq-eqb _ _ (c .before .before .if1 .left), ne-eqb _ _ (c .before .if2 .left), eq-eqb _ _ (c .if3 .taken))
 
 returns-4 : tie.Need-returns-4
-returns-4 c = rw (eq-eqb _ _ (c .before .before .before .if1 .left), ne-eqb _ _ (c .before .before .if2 .left), ne-eqb _ _ (c .before .if3 .left)) (c .begins-slashed .ensures)
+returns-4 c =
+    rw (eq-eqb _ _ (c .before .before .before .if1 .left), ne-eqb _ _ (c .before .before .if2 .left), ne-eqb _ _ (c .before .if3 .left))
+    (c .begins-slashed .ensures)
 
 pub sym-fits-spec : {M : Type 1} → statement M
 sym-fits-spec = tie.close (tie.spec returns returns-2 returns-3 (λ c κs. search needs) returns-4)

@@ -8,10 +8,16 @@ use Rattle.tree_file.proofs.token_fits.Tie as tie
 
 returns : tie.Need-returns
 returns c =
-    rw (sym (c .before .before .before .is-token .ensures) ∙ c .before .before .if1 .taken, le-leb _ _ (c .before .if2 .taken)) (sym (one-valid _ (c .before .before .before .before .before .pre (c .if3 .taken))))
+    let past-if1 = c .before .before in
+    let at-token = past-if1 .before in
+    rw (sym (at-token .is-token .ensures) ∙ past-if1 .if1 .taken, le-leb _ _ (c .before .if2 .taken))
+    (sym (one-valid _ (at-token .before .before .pre (c .if3 .taken))))
 
 returns-2 : tie.Need-returns-2
-returns-2 c = rw (sym (c .before .before .before .before .is-token .ensures) ∙ c .before .before .before .if1 .taken, le-leb _ _ (c .before .before .if2 .taken)) (c .valid .ensures)
+returns-2 c =
+    let past-if2 = c .before .before in
+    let past-if1 = past-if2 .before in
+    rw (sym (past-if1 .before .is-token .ensures) ∙ past-if1 .if1 .taken, le-leb _ _ (past-if2 .if2 .taken)) (c .valid .ensures)
 
 returns-3 : tie.Need-returns-3
 returns-3 c = rw (sym (c .before .before .is-token .ensures) ∙ c .before .if1 .taken, lt-leb _ _ (c .if2 .left))

@@ -17,10 +17,14 @@ token-fits-requires c κs =
     λ e. one-take (read .read-u32 .result) (start .args .text .now) (start .pre .1 e)
 
 returns : tie.Need-returns
-returns c = rw (sym (c .before .before .before .before .before .read-u32 .ensures .0), le-leb _ _ (c .before .before .before .before .if1 .taken), sym (c .before .token-fits .ensures) ∙ c .if2 .taken)
+returns c =
+    let past-if1 = c .before .before .before .before in
+    rw (sym (past-if1 .before .read-u32 .ensures .0), le-leb _ _ (past-if1 .if1 .taken), sym (c .before .token-fits .ensures) ∙ c .if2 .taken)
 
 returns-2 : tie.Need-returns-2
-returns-2 c = rw (sym (c .before .before .before .before .before .read-u32 .ensures .0), le-leb _ _ (c .before .before .before .before .if1 .taken), sym (c .before .token-fits .ensures) ∙ c .if2 .left)
+returns-2 c =
+    let past-if1 = c .before .before .before .before in
+    rw (sym (past-if1 .before .read-u32 .ensures .0), le-leb _ _ (past-if1 .if1 .taken), sym (c .before .token-fits .ensures) ∙ c .if2 .left)
 
 returns-3 : tie.Need-returns-3
 returns-3 c = rw (sym (c .before .read-u32 .ensures .0), lt-leb _ _ (c .if1 .left))

@@ -21,11 +21,21 @@ loop-holds : tie.Need-loop-holds Inv-loop μ-loop
 loop-holds c = (omega arith, refl)
 
 loop-again : tie.Need-loop-again Inv-loop μ-loop
-loop-again c = (omega arith, c .before .before .before .loop .inv .1 ∙ one-next (c .before .before .before .before .before .args .s .now) (c .before .before .before .loop .i) (c .before .before .before .loop .most) (c .greater .result) (c .before .before .loop-test .taken) (c .greater .ensures))
+loop-again c =
+    let in-loop = c .before .before in
+    let at-loop = in-loop .before in
+    let loop = at-loop .loop in
+    let s = at-loop .before .before .args .s .now in (
+      omega arith,
+      loop .inv .1 ∙ one-next s (loop .i) (loop .most) (c .greater .result) (in-loop .loop-test .taken) (c .greater .ensures),
+    )
 
 returns : tie.Need-returns Inv-loop μ-loop
 returns c =
-    sym (c .before .loop .inv .1 ∙ ap (λ b. leb (c .before .loop .most) 0x7F && b) (one-end (c .before .before .before .args .s .now) (c .before .loop .i) (c .loop-test .left)) ∙ and-true _)
+    let at-loop = c .before in
+    let loop = at-loop .loop in
+    let s = at-loop .before .before .args .s .now in
+    sym (loop .inv .1 ∙ ap (λ b. leb (loop .most) 0x7F && b) (one-end s (loop .i) (c .loop-test .left)) ∙ and-true _)
 
 pub one-byte-each-spec : {M : Type 1} → statement M
 one-byte-each-spec =

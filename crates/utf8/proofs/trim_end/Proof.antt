@@ -19,7 +19,9 @@ abbrev μ-loop : tie.MeasureT-loop
 μ-loop s t₀ t = length t
 
 -- the part that is tested is the last character
-tested : (c : tie.After-is-white Inv-loop μ-loop) → isWhite (drop (c .before .before .last-at .result) (c .before .before .before .before .loop .t .now)) ≡ c .is-white .result
+tested :
+    (c : tie.After-is-white Inv-loop μ-loop)
+    → isWhite (drop (c .before .before .last-at .result) (c .before .before .before .before .loop .t .now)) ≡ c .is-white .result
 tested c =
     let last = c .before .before in
     ap isWhite (sym (part-rest (last .before .before .loop .t .now) (last .last-at .result))) ∙ sym (c .is-white .ensures)

@@ -37,7 +37,8 @@ returns-2 : tie.Need-returns-2 Inv-loop μ-loop
 unfolding valid
 returns-2 c =
     let at = c .before .before in
-    ap (λ (u : State). eqb (u .more) 0) (sym (steps-end (at .loop .u) (at .before .before .before .before .before .args .s .now) (at .loop .i) (c .before .loop-test .left)) ∙ at .loop .inv .1)
+    ap (λ (u : State). eqb (u .more) 0)
+    (sym (steps-end (at .loop .u) (at .before .before .before .before .before .args .s .now) (at .loop .i) (c .before .loop-test .left)) ∙ at .loop .inv .1)
 
 pub valid-spec : {M : Type 1} → statement M
 valid-spec =
