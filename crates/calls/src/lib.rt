@@ -21,7 +21,8 @@ ghost use Rattle.edit_meaning.specs.Edit.{textMost, roomForText, editFits};
 ghost use Rattle.edit_meaning.specs.Run.{sizeAfter};
 ghost use Rattle.edit_meaning.specs.Calls.{Converts, Edits, Runs, Demanded};
 ghost use Rattle.manuscript.specs.Manuscript.{modeOf, manuscript};
-ghost use Rattle.calls.specs.Calls.{answerOfConvert, answerOfEdit, openTree, opened, Begins, blockRows, Document, Draft, Delivers, ConvertsBlocks, EndsBefore, CarriesBefore, Measured, oldEnd, Overwrites, Splices, EditsBlocks};
+ghost use Rattle.calls.specs.Calls.{answerOfConvert, answerOfEdit, openTree, opened, Begins, blockRows, Document, Draft};
+ghost use Rattle.calls.specs.Calls.{Delivers, ConvertsBlocks, EndsBefore, CarriesBefore, Measured, oldEnd, Overwrites, Splices, EditsBlocks};
 ghost use Rattle.calls.specs.Three.{threeEdits, threeAnswers};
 
 // A text buffer counts as at most so many bytes.
@@ -180,7 +181,8 @@ fn deliver<'a>(
     ledger: &mut [u8],
 )
     requires { ⌜ Draft (now rules) (now index) (now rows) (now text) from blocks (now draft) (now «draft_rows») (now out) (now ledger) ⌝ }
-    ensures { λ _. ⌜ Delivers (now (rules .entry)) (now (index .entry)) (now (rows .entry)) (now (text .entry)) from blocks (now (draft .entry)) (now («draft_rows» .entry)) (now (out .entry)) (now (ledger .entry)) (now (out .exit)) (now (ledger .exit)) ⌝ }
+    ensures { λ _. ⌜ Delivers (now (rules .entry)) (now (index .entry)) (now (rows .entry)) (now (text .entry)) from blocks
+        (now (draft .entry)) (now («draft_rows» .entry)) (now (out .entry)) (now (ledger .entry)) (now (out .exit)) (now (ledger .exit)) ⌝ }
 {
     let at = out.len();
     if draft.len() < at {
@@ -207,7 +209,8 @@ fn convert_by_draft<'a>(
 ) -> Converted
     requires { ⌜ Document (now rules) (now index) (now rows) (now text) blocks ⌝ }
     requires { ⌜ (length (now draft) ≤ cap) × (rowSize * blocks ≤ length (now «draft_rows»)) ⌝ }
-    ensures { λ r. ⌜ ConvertsBlocks (now (rules .entry)) (now (index .entry)) (now (rows .entry)) (now (text .entry)) mode blocks (now (out .entry)) (now (ledger .entry)) r (now (out .exit)) (now (ledger .exit)) ⌝ }
+    ensures { λ r. ⌜ ConvertsBlocks (now (rules .entry)) (now (index .entry)) (now (rows .entry)) (now (text .entry)) mode blocks
+        (now (out .entry)) (now (ledger .entry)) r (now (out .exit)) (now (ledger .exit)) ⌝ }
 {
     let from = passes::stand_at(rows, 0, 0, Converter::opening(mode));
     let m = passes::draft_blocks(draft, draft_rows, rows, text, rules, index, from, blocks);
@@ -259,7 +262,8 @@ fn convert_longer<'a>(
     ledger: &mut [u8],
 ) -> Converted
     requires { ⌜ Document (now rules) (now index) (now rows) (now text) blocks ⌝ }
-    ensures { λ r. ⌜ ConvertsBlocks (now (rules .entry)) (now (index .entry)) (now (rows .entry)) (now (text .entry)) mode blocks (now (out .entry)) (now (ledger .entry)) r (now (out .exit)) (now (ledger .exit)) ⌝ }
+    ensures { λ r. ⌜ ConvertsBlocks (now (rules .entry)) (now (index .entry)) (now (rows .entry)) (now (text .entry)) mode blocks
+        (now (out .entry)) (now (ledger .entry)) r (now (out .exit)) (now (ledger .exit)) ⌝ }
 {
     if is_within(text, blocks, MIDDLE_TEXT, MIDDLE_BLOCKS) {
         let mut draft = [0u8; MIDDLE_DRAFT];
@@ -305,7 +309,8 @@ fn convert_blocks<'a>(
     ledger: &mut [u8],
 ) -> Converted
     requires { ⌜ Document (now rules) (now index) (now rows) (now text) blocks ⌝ }
-    ensures { λ r. ⌜ ConvertsBlocks (now (rules .entry)) (now (index .entry)) (now (rows .entry)) (now (text .entry)) mode blocks (now (out .entry)) (now (ledger .entry)) r (now (out .exit)) (now (ledger .exit)) ⌝ }
+    ensures { λ r. ⌜ ConvertsBlocks (now (rules .entry)) (now (index .entry)) (now (rows .entry)) (now (text .entry)) mode blocks
+        (now (out .entry)) (now (ledger .entry)) r (now (out .exit)) (now (ledger .exit)) ⌝ }
 {
     if is_within(text, blocks, SHORT_TEXT, SHORT_BLOCKS) {
         let mut draft = [0u8; SHORT_DRAFT];
@@ -334,7 +339,8 @@ pub fn convert<'a>(
     text: &mut [u8],
     ledger: &mut [u8],
 ) -> Converted
-    ensures { λ r. ⌜ Converts (manuscript mode (now (rules .entry))) (now (tree .entry)) (now (text .entry)) (now (ledger .entry)) (answerOfConvert r) (now (text .exit)) (now (ledger .exit)) ⌝ }
+    ensures { λ r. ⌜ Converts (manuscript mode (now (rules .entry))) (now (tree .entry)) (now (text .entry)) (now (ledger .entry))
+        (answerOfConvert r) (now (text .exit)) (now (ledger .exit)) ⌝ }
 {
     let mut index = [0u32; INDEX_SIZE];
     match open(mode, rules, tree, &mut index) {
@@ -363,7 +369,8 @@ pub fn convert_text<'a>(
     text: &mut [u8],
     ledger: &mut [u8],
 ) -> Converted
-    ensures { λ r. ⌜ Converts (manuscript 0 (now (rules .entry))) (now (tree .entry)) (now (text .entry)) (now (ledger .entry)) (answerOfConvert r) (now (text .exit)) (now (ledger .exit)) ⌝ }
+    ensures { λ r. ⌜ Converts (manuscript 0 (now (rules .entry))) (now (tree .entry)) (now (text .entry)) (now (ledger .entry))
+        (answerOfConvert r) (now (text .exit)) (now (ledger .exit)) ⌝ }
 {
     convert(0, rules, tree, text, ledger)
 }
@@ -375,7 +382,8 @@ pub fn convert_math<'a>(
     text: &mut [u8],
     ledger: &mut [u8],
 ) -> Converted
-    ensures { λ r. ⌜ Converts (manuscript 1 (now (rules .entry))) (now (tree .entry)) (now (text .entry)) (now (ledger .entry)) (answerOfConvert r) (now (text .exit)) (now (ledger .exit)) ⌝ }
+    ensures { λ r. ⌜ Converts (manuscript 1 (now (rules .entry))) (now (tree .entry)) (now (text .entry)) (now (ledger .entry))
+        (answerOfConvert r) (now (text .exit)) (now (ledger .exit)) ⌝ }
 {
     convert(1, rules, tree, text, ledger)
 }
@@ -445,7 +453,8 @@ fn overwrite<'a>(
 )
     requires { ⌜ Measured (now rules) (now index) (now rows) (now text) blocks kept from m (now out) (now ledger) ⌝ }
     requires { ⌜ (old ≡ oldEnd blocks m (now ledger)) × (m .walked .at + (kept - old) ≤ length (now out)) × (m .walked .at + (kept - old) < cap) ⌝ }
-    ensures { λ _. ⌜ Overwrites (now (rules .entry)) (now (index .entry)) (now (rows .entry)) (now (text .entry)) blocks kept from m (now (out .entry)) (now (ledger .entry)) (now (out .exit)) (now (ledger .exit)) ⌝ }
+    ensures { λ _. ⌜ Overwrites (now (rules .entry)) (now (index .entry)) (now (rows .entry)) (now (text .entry)) blocks kept from m
+        (now (out .entry)) (now (ledger .entry)) (now (out .exit)) (now (ledger .exit)) ⌝ }
 {
     let walked = m.walked;
     let at = walked.at;
@@ -471,7 +480,8 @@ fn splice<'a>(
     ledger: &mut [u8],
 ) -> Edited
     requires { ⌜ Measured (now rules) (now index) (now rows) (now text) blocks kept from m (now out) (now ledger) ⌝ }
-    ensures { λ r. ⌜ Splices (now (rules .entry)) (now (index .entry)) (now (rows .entry)) (now (text .entry)) blocks kept from m (now (out .entry)) (now (ledger .entry)) r (now (out .exit)) (now (ledger .exit)) ⌝ }
+    ensures { λ r. ⌜ Splices (now (rules .entry)) (now (index .entry)) (now (rows .entry)) (now (text .entry)) blocks kept from m
+        (now (out .entry)) (now (ledger .entry)) r (now (out .exit)) (now (ledger .exit)) ⌝ }
 {
     let old = end_before(ledger, m.block);
     let walked = m.walked;
@@ -515,7 +525,8 @@ fn edit_blocks<'a>(
     ledger: &mut [u8],
 ) -> Edited
     requires { ⌜ Document (now rules) (now index) (now rows) (now text) blocks ⌝ }
-    ensures { λ r. ⌜ EditsBlocks (now (rules .entry)) (now (index .entry)) (now (rows .entry)) (now (text .entry)) mode blocks block kept (now (out .entry)) (now (ledger .entry)) r (now (out .exit)) (now (ledger .exit)) ⌝ }
+    ensures { λ r. ⌜ EditsBlocks (now (rules .entry)) (now (index .entry)) (now (rows .entry))
+        (now (text .entry)) mode blocks block kept (now (out .entry)) (now (ledger .entry)) r (now (out .exit)) (now (ledger .exit)) ⌝ }
 {
     if !edit_fits(blocks, block, kept, out, ledger) {
         return Edited::Refused { number: 6, row: 0 };
@@ -543,7 +554,8 @@ pub fn edit<'a>(
     text: &mut [u8],
     ledger: &mut [u8],
 ) -> Edited
-    ensures { λ r. ⌜ Edits (manuscript mode (now (rules .entry))) (now (tree .entry)) block kept (now (text .entry)) (now (ledger .entry)) (answerOfEdit r) (now (text .exit)) (now (ledger .exit)) ⌝ }
+    ensures { λ r. ⌜ Edits (manuscript mode (now (rules .entry))) (now (tree .entry)) block kept (now (text .entry))
+        (now (ledger .entry)) (answerOfEdit r) (now (text .exit)) (now (ledger .exit)) ⌝ }
 {
     let mut index = [0u32; INDEX_SIZE];
     match open(mode, rules, tree, &mut index) {

@@ -19,7 +19,8 @@ use Rattle.edit_meaning.specs.Walk.CheckedFile.{bad, good}
 use Rattle.edit_meaning.specs.Walk.Walk.{stopped, pieces}
 use Rattle.edit_meaning.specs.Edit.{Result, unchanged, textMost, roomForText, room, put, settle, conversion, convertDocument, editFits, carryBefore, rowCarries, write, writeOr, again, edit}
 use Rattle.edit_meaning.specs.Edit.Answer.{refused, converted, edited}
-use Rattle.edit_meaning.specs.Run.{Edit, Kept, leaves, callEdit, run, lacks, piecesOf, editAnswer, documentAfter, demanded, documentNext, reference, OnlyAt, Permitted, Allowed, Holds, tailMoved, TailsMoved, Demand3}
+use Rattle.edit_meaning.specs.Run.{Edit, Kept, leaves, callEdit, run, lacks, piecesOf, editAnswer, documentAfter}
+use Rattle.edit_meaning.specs.Run.{demanded, documentNext, reference, OnlyAt, Permitted, Allowed, Holds, tailMoved, TailsMoved, Demand3}
 use Rattle.edit_meaning.proofs.Walks.{ontoAll, ontoAll-pieces, ontoAll-stopped, finish, Walked, walk-walked, walked-length, walkUntil-until, walk-edited, Until, until-within, until-count}
 use Rattle.edit_meaning.proofs.Splice.{carryBefore-rows, write-spliced, tail, tail-length, text-after}
 use Rattle.edit_meaning.proofs.Holding.{holding, walked-encodable, rows-length, StandsIn, stands-conversion, stands-encodable, stands-holds, Found, held-found}

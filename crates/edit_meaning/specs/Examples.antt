@@ -59,10 +59,12 @@ answers = (run toy start edits) .answers
 answers-are :
     (first .answer ≡ converted 3 4)
     × (answers ≡ edited 3 (pos 0) 3 ∷ refused 3 0 ∷ refused 6 0 ∷ refused 7 4 ∷ edited 4 (pos 1) 1 ∷ edited 3 (negsuc 0) 4 ∷ [])
-unfolding first start answers run edit convertDocument conversion settle room roomForText textAfter ledgerAfter write again editFits walk walkUntil sameCarry same encodeRow encodeCarry decodeRow allZero marksFit rowFits fits moveRow
+unfolding first start answers run edit convertDocument conversion settle room roomForText textAfter ledgerAfter write again editFits
+    walk walkUntil sameCarry same encodeRow encodeCarry decodeRow allZero marksFit rowFits fits moveRow
 answers-are = (refl, refl)
 
 -- and so they are demanded, whatever the buffers hold
 answers-demanded : answers ≡ (reference toy (replicate 8 0) (replicate (rowSize * 4 + 1) 0) (1 ∷ 5 ∷ 0 ∷ 6 ∷ []) edits) .answers
-unfolding first start answers run edit convertDocument conversion settle room roomForText textAfter ledgerAfter write again editFits walk walkUntil sameCarry same encodeRow encodeCarry decodeRow allZero marksFit rowFits fits moveRow reference demanded
+unfolding first start answers run edit convertDocument conversion settle room roomForText textAfter ledgerAfter write again editFits
+    walk walkUntil sameCarry same encodeRow encodeCarry decodeRow allZero marksFit rowFits fits moveRow reference demanded
 answers-demanded = refl

@@ -59,7 +59,8 @@ pub fn step<'a>(
 ) -> Standing
     requires { ⌜ BlocksGiven (now rules) (now index) (now rows) (now text) s ⌝ }
     requires { ⌜ (s .i < length (now rows)) × (s .block < cap) × (length (now out) ≤ cap) ⌝ }
-    ensures { λ r. ⌜ Steps (now (rules .entry)) (now (index .entry)) (now (rows .entry)) (now (text .entry)) s (now (out .entry)) r (now (out .exit)) ⌝ }
+    ensures { λ r. ⌜ Steps (now (rules .entry)) (now (index .entry)) (now (rows .entry)) (now (text .entry)) s (now (out .entry)) r
+        (now (out .exit)) ⌝ }
 {
     let i = s.i;
     let j = s.j;
@@ -110,7 +111,8 @@ pub fn measure<'a>(
 ) -> Standing
     requires { ⌜ BlocksUpTo (now rules) (now index) (now rows) (now text) from blocks ⌝ }
     requires { ⌜ ((i : ℕ) → i < blocks → RowFits i (now kept)) ⌝ }
-    ensures { λ r. ⌜ Measures (now (rules .entry)) (now (index .entry)) (now (rows .entry)) (now (text .entry)) from blocks true (now (kept .entry)) r ⌝ }
+    ensures { λ r. ⌜ Measures (now (rules .entry)) (now (index .entry)) (now (rows .entry)) (now (text .entry)) from blocks true
+        (now (kept .entry)) r ⌝ }
 {
     let mut s = from;
     while s.block < blocks {
@@ -131,7 +133,8 @@ pub fn measure<'a>(
 // The row of block `k`, where a row can say the text's end.
 fn draft_row(ledger: &mut [u8], k: usize, walked: Walked)
     requires { ⌜ HasRow k (now ledger) × (walked .converter .«label_len» ≤ labelMost) ⌝ }
-    ensures { λ _. ⌜ (walked .at < cap → now (ledger .exit) ≡ sets (now (ledger .entry)) (rowSize * k) (encodeRow (record { end = walked .at; carry = carryOf (walked .converter) }))) ⌝ }
+    ensures { λ _. ⌜ (walked .at < cap → now (ledger .exit) ≡ sets
+        (now (ledger .entry)) (rowSize * k) (encodeRow (record { end = walked .at; carry = carryOf (walked .converter) }))) ⌝ }
 {
     if CAP <= walked.at {
         return;
@@ -153,7 +156,8 @@ pub fn draft_blocks<'a>(
     requires { ⌜ BlocksUpTo (now rules) (now index) (now rows) (now text) from blocks ⌝ }
     requires { ⌜ (length (now out) ≤ cap) × (rowSize * blocks ≤ length (now ledger)) ⌝ }
     ensures measured { λ r. ⌜ Measures (now (rules .entry)) (now (index .entry)) (now (rows .entry)) (now (text .entry)) from blocks false [] r ⌝ }
-    ensures written { λ _. ⌜ Writes (now (rules .entry)) (now (index .entry)) (now (rows .entry)) (now (text .entry)) from blocks (now (out .entry)) (now (ledger .entry)) (now (out .exit)) (now (ledger .exit)) ⌝ }
+    ensures written { λ _. ⌜ Writes (now (rules .entry)) (now (index .entry)) (now (rows .entry)) (now (text .entry)) from blocks
+        (now (out .entry)) (now (ledger .entry)) (now (out .exit)) (now (ledger .exit)) ⌝ }
 {
     let mut s = from;
     while s.block < blocks {
@@ -182,7 +186,8 @@ pub fn write_blocks<'a>(
 )
     requires { ⌜ Pieced (now rules) (now index) (now rows) (now text) from to (now ledger) ⌝ }
     requires { ⌜ length (now out) ≤ cap ⌝ }
-    ensures { λ _. ⌜ Writes (now (rules .entry)) (now (index .entry)) (now (rows .entry)) (now (text .entry)) from to (now (out .entry)) (now (ledger .entry)) (now (out .exit)) (now (ledger .exit)) ⌝ }
+    ensures { λ _. ⌜ Writes (now (rules .entry)) (now (index .entry)) (now (rows .entry)) (now (text .entry)) from to
+        (now (out .entry)) (now (ledger .entry)) (now (out .exit)) (now (ledger .exit)) ⌝ }
 {
     let mut s = from;
     while s.block < to {

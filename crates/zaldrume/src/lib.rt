@@ -18,7 +18,8 @@ pub extern "C" fn zaldrume_convert<'a>(
     growth: &mut i64,
     count: &mut usize,
 ) -> u8
-    ensures { λ r. ⌜ Tells (convertDocument (manuscript mode (now (rules .entry))) (now (tree .entry)) (now (text .entry)) (now (ledger .entry))) r (now (place .exit)) (now (growth .exit)) (now (count .exit)) (now (text .exit)) (now (ledger .exit)) ⌝ }
+    ensures { λ r. ⌜ Tells (convertDocument (manuscript mode (now (rules .entry))) (now (tree .entry)) (now (text .entry))
+        (now (ledger .entry))) r (now (place .exit)) (now (growth .exit)) (now (count .exit)) (now (text .exit)) (now (ledger .exit)) ⌝ }
 {
     *growth = 0;
     match calls::convert(mode, rules, tree, text, ledger) {
@@ -50,7 +51,8 @@ pub extern "C" fn zaldrume_edit<'a>(
     growth: &mut i64,
     count: &mut usize,
 ) -> u8
-    ensures { λ r. ⌜ Tells (editDocument (manuscript mode (now (rules .entry))) (now (tree .entry)) block kept (now (text .entry)) (now (ledger .entry))) r (now (place .exit)) (now (growth .exit)) (now (count .exit)) (now (text .exit)) (now (ledger .exit)) ⌝ }
+    ensures { λ r. ⌜ Tells (editDocument (manuscript mode (now (rules .entry))) (now (tree .entry)) block kept (now (text .entry))
+        (now (ledger .entry))) r (now (place .exit)) (now (growth .exit)) (now (count .exit)) (now (text .exit)) (now (ledger .exit)) ⌝ }
 {
     match calls::edit(mode, rules, tree, block, kept, text, ledger) {
         Edited::Refused { number, row } => {

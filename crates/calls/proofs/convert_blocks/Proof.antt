@@ -4,8 +4,15 @@ use borrow.Author.Needs.{needs}
 use Rattle.calls.proofs.convert_blocks.Statement.{statement}
 use Rattle.calls.proofs.convert_blocks.Tie as tie
 
+-- the function's entry, from the test of its length
+abbrev start : tie.After-is-within → tie.Start
+start c = let d = c .before .before .before .before in d .before .before .before
+
 convert-by-draft-requires : tie.Need-convert-by-draft-requires
-convert-by-draft-requires c κs = (c .before .before .before .before .before .before .before .before .before .before .before .before .pre, (omega arith, omega (arith, c .before .before .before .before .before .is-within .ensures (c .before .before .before .before .if1 .taken))))
+convert-by-draft-requires c κs =
+    let short = c .before .before .before .before in
+    let d = short .before in
+    (start d .pre, (omega arith, omega (arith, d .is-within .ensures (short .if1 .taken))))
 
 pub convert-blocks-spec : {M : Type 1} → statement M
 convert-blocks-spec =
