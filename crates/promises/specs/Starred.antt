@@ -18,7 +18,7 @@ use Rattle.mitex_syntax.specs.Syntax.{ClauseArgument, ScopeRoot, ItemFormula, I
 use Rattle.mitex_syntax.specs.Syntax.{ItemBegin, ItemEnd, TokenWord, TokenLBrace, TokenRBrace, TokenDollar, TokenWhiteSpace}
 use Rattle.mitex_syntax.specs.Syntax.{TokenLineBreak, TokenCaret, ItemNewLine, TokenCommandSym, ItemCmd, ItemEnv}
 use Rattle.mitex_syntax.specs.Tree.{size, rowsOf, textOf, fileOf, count}
-use Rattle.tree_file.specs.Layout.{rowAt, lines, grow, split, decode}
+use Rattle.tree_file.specs.Layout.{treeRowAt, lines, grow, split, decode}
 use Rattle.tree_file.specs.Depth.{depth}
 use Rattle.tree_file.specs.Shape.{lowest}
 use Rattle.tree_file.specs.Check.{checkTree}
@@ -40,7 +40,7 @@ pub data Call : Type 0 where
 
 -- what it answers and leaves; whoever unfolds this unfolds all that a call computes by, of which `hold` has the conversion's part
 unfoldable pub result : Call → Result
-unfolding rulesOf rulesIn ruleRowFits risesFrom valid charSteps precedes checkTree decode lines rowAt grow split count depth lowest hold
+unfolding rulesOf rulesIn ruleRowFits risesFrom valid charSteps precedes checkTree decode lines treeRowAt grow split count depth lowest hold
     walk walkUntil conversion convertDocument settle room roomForText edit editFits again write textAfter ledgerAfter
     encodeRow encodeCarry decodeRow fits rowFits marksFit allZero moveRow sameCarry
 result (converts mode rules tree text ledger) = convertDocument (manuscript mode rules) tree text ledger

@@ -17,7 +17,7 @@ use Rattle.mitex_syntax.specs.Syntax.{isNode}
 use Rattle.mitex_syntax.specs.Spells.{tokenFits}
 use Rattle.text.specs.Trailer.{ahead}
 use Rattle.text.proofs.Trailer.{ahead-some}
-use Rattle.tree_file.specs.Layout.{Line, lines, rowAt, rowAhead, rowTaken}
+use Rattle.tree_file.specs.Layout.{Line, lines, treeRowAt, rowAhead, rowTaken}
 use Rattle.tree_file.specs.Layout.Line.{tok, nod}
 use Rattle.tree_file.specs.Parts.{bytesOf, textsIn, LinesFit}
 use Rattle.tree_file.specs.declared.Row.{Row}
@@ -72,8 +72,8 @@ row-tests rows text true false f true ez em ef eg =
     let z = and-eq-true-iff _ _ .0 ez in let h = and-eq-true-iff _ _ .0 eg in
     record { mark = eqb-true _ _ (h .0); zero2 = eqb-true _ _ (z .0); zero3 = eqb-true _ _ (z .1); number = refl; kind = is-T _ (h .1) }
 
-pub row-says : (rows text : List ℕ) (r : Row) → rowAt rows text ≡ r → RowSays rows text r
-unfolding rowAt
+pub row-says : (rows text : List ℕ) (r : Row) → treeRowAt rows text ≡ r → RowSays rows text r
+unfolding treeRowAt
 row-says rows text r e = subst (RowSays rows text) e (row-tests rows text _ _ _ _ refl refl refl refl)
 
 -- what a list of lines was read from
@@ -148,7 +148,7 @@ lines-sound zero rows text ls by h e = nil-rows rows text ls (omega arith) e
 lines-sound (suc n) rows text ls by h e =
     rows-by n rows text ls by (omega arith)
     (λ text ls. lines-sound n (drop 8 rows) text ls (bytes-drop 8 rows by) (length-drop 8 rows ∙ omega arith))
-    (rowAt rows text) (row-says rows text (rowAt rows text) refl) e
+    (treeRowAt rows text) (row-says rows text (treeRowAt rows text) refl) e
 
 -- the other way
 pub fits-drop : (l : Line) (ls : List Line) → LinesFit (l ∷ ls) → LinesFit ls
@@ -156,16 +156,16 @@ unfolding LinesFit
 fits-drop (tok k s) ls h = h .2
 fits-drop (nod k n) ls h = h .2
 
-row-of-token : (k : ℕ) (s : List ℕ) (r text : List ℕ) → T (tokenFits k s) → length s < cap → rowAt (k ∷ 1 ∷ 0 ∷ 0 ∷ four (length s) r) (s ++ text) ≡ Token (length s)
-unfolding rowAt
+row-of-token : (k : ℕ) (s : List ℕ) (r text : List ℕ) → T (tokenFits k s) → length s < cap → treeRowAt (k ∷ 1 ∷ 0 ∷ 0 ∷ four (length s) r) (s ++ text) ≡ Token (length s)
+unfolding treeRowAt
 row-of-token k s r text h lo =
     let n = four-says (length s) lo in
     let l : leb (length s) (length (s ++ text)) ≡ true = le-leb (length s) (length (s ++ text)) (omega (arith, length-append s text)) in
     let t : tokenFits k (take (length s) (s ++ text)) ≡ true = ap (tokenFits k) (take-append-seam s text) ∙ T-is _ h in
     rw (n, l, t)
 
-row-of-node : (k n : ℕ) (r text : List ℕ) → T (isNode k) → n < cap → rowAt (k ∷ 0 ∷ 0 ∷ 0 ∷ four n r) text ≡ Node n
-unfolding rowAt
+row-of-node : (k n : ℕ) (r text : List ℕ) → T (isNode k) → n < cap → treeRowAt (k ∷ 0 ∷ 0 ∷ 0 ∷ four n r) text ≡ Node n
+unfolding treeRowAt
 row-of-node k n r text h lo =
     let t : isNode k ≡ true = T-is _ h in
     rw (four-says n lo, t)

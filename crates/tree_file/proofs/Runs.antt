@@ -11,7 +11,7 @@ use Rattle.text.proofs.Writing.{part-rest}
 use borrow.Author.Tests.{ne-eqb}
 use lib.ListN.{length, take, drop, length-drop}
 use Rattle.text.specs.Trailer.{ahead}
-use Rattle.tree_file.specs.Layout.{Line, rowAt, rowTaken, rowAhead, lines}
+use Rattle.tree_file.specs.Layout.{Line, treeRowAt, rowTaken, rowAhead, lines}
 use Rattle.tree_file.specs.Shape.{isSome}
 use Rattle.tree_file.specs.Parts.{isBad}
 use Rattle.tree_file.specs.declared.Row.{Row}
@@ -41,16 +41,16 @@ isSome-bad Bad rows text o h = refl
 isSome-bad (Token m) rows text o h = absurd (let z : _≡_ {A = ℕ} 0 1 = cc in omega arith)
 isSome-bad (Node m) rows text o h = absurd (let z : _≡_ {A = ℕ} 0 1 = cc in omega arith)
 
-pub left-bad : {n : ℕ} {rows text l t : List ℕ} → LinesLeft n rows text l t → 8 ≤ length l → isBad (rowAt l t) ≡ true → false ≡ isSome (lines n rows text)
+pub left-bad : {n : ℕ} {rows text l t : List ℕ} → LinesLeft n rows text l t → 8 ≤ length l → isBad (treeRowAt l t) ≡ true → false ≡ isSome (lines n rows text)
 unfolding lines
 left-bad {n} {rows} {text} {l} {t} w h b =
     let go : (m : ℕ) → length l ≡ 8 * m → isSome (lines m l t) ≡ false = λ m. elim m [
       | zero ↦ λ e. absurd (omega arith)
-      | suc k ↦ λ e. isSome-bad (rowAt l t) l t (lines k (drop 8 l) (drop (rowTaken (rowAt l t)) t)) b
+      | suc k ↦ λ e. isSome-bad (treeRowAt l t) l t (lines k (drop 8 l) (drop (rowTaken (treeRowAt l t)) t)) b
     ] in
     sym (w .same ∙ go (w .rest) (w .so-many))
 
-pub left-next : {n : ℕ} {rows text l t : List ℕ} → LinesLeft n rows text l t → 8 ≤ length l → (r : Row) → r ≡ rowAt l t → isBad r ≡ false
+pub left-next : {n : ℕ} {rows text l t : List ℕ} → LinesLeft n rows text l t → 8 ≤ length l → (r : Row) → r ≡ treeRowAt l t → isBad r ≡ false
     → (x : ℕ) → x ≡ rowTaken r → LinesLeft n rows text (take (length l - 8) (drop 8 l)) (take (length t - x) (drop x t))
 unfolding lines
 left-next {n} {rows} {text} {l} {t} w h r e b x ex =
@@ -59,7 +59,7 @@ left-next {n} {rows} {text} {l} {t} w h r e b x ex =
       | suc k ↦ λ p q. record {
         rest = k;
         so-many = length-drop 8 l ∙ omega arith;
-        same = q ∙ isSome-rowAhead (rowAt l t) l t (lines k (drop 8 l) (drop (rowTaken (rowAt l t)) t)) (ap isBad (sym e) ∙ b)
+        same = q ∙ isSome-rowAhead (treeRowAt l t) l t (lines k (drop 8 l) (drop (rowTaken (treeRowAt l t)) t)) (ap isBad (sym e) ∙ b)
             ∙ ap (λ x. isSome (lines k (drop 8 l) (drop (rowTaken x) t))) (sym e);
       }
     ] in
@@ -76,7 +76,7 @@ left-end {n} {rows} {text} {l} {t} w h =
     nil t ∙ ap (λ m. isSome (lines m l t)) (sym z) ∙ sym (w .same)
 
 -- a row takes no more text than there is
-pub taken-room : (rows text : List ℕ) (r : Row) → r ≡ rowAt rows text → rowTaken r ≤ length text
+pub taken-room : (rows text : List ℕ) (r : Row) → r ≡ treeRowAt rows text → rowTaken r ≤ length text
 taken-room rows text r e =
     let go : (r : Row) → RowSays rows text r → rowTaken r ≤ length text = λ r. elim r
     [ Bad ↦ λ s. omega arith | Token m ↦ λ s. s .room | Node m ↦ λ s. omega arith ] in

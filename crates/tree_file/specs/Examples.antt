@@ -13,7 +13,7 @@ use Rattle.mitex_syntax.specs.Tree.{Tree, Forest, size, rowsOf, textOf, fileOf,
 use Rattle.mitex_syntax.specs.Tree.Tree.{token, node}
 use Rattle.mitex_syntax.specs.Tree.Forest.{none, more}
 use Rattle.mitex_syntax.specs.Views.{firstBy, firstToken}
-use Rattle.tree_file.specs.Layout.{rowAt, lines, grow, split, decode}
+use Rattle.tree_file.specs.Layout.{treeRowAt, lines, grow, split, decode}
 use Rattle.tree_file.specs.Depth.{depth}
 use Rattle.tree_file.specs.Shape.{lowest}
 use Rattle.tree_file.specs.Check.{checkTree, checkedAnswer}
@@ -54,7 +54,7 @@ abbrev checked : Tree → Checked
 checked t = checkedAnswer (checkTree (fileOf t))
 
 decoded : checkTree (fileOf (doc (word (ascii "c")))) ≡ accepted (doc (word (ascii "c")))
-unfolding checkTree decode fileOf rowsOf textOf size lines rowAt grow split valid charSteps count depth lowest
+unfolding checkTree decode fileOf rowsOf textOf size lines treeRowAt grow split valid charSteps count depth lowest
 decoded = refl
 
 -- a ClauseLR, symbols, commands and environments
@@ -97,7 +97,7 @@ shapes :
     ∷ Refused 5 2
     ∷ []
     )
-unfolding checkTree decode fileOf rowsOf textOf size lines rowAt grow split valid charSteps count depth lowest firstBy firstToken same
+unfolding checkTree decode fileOf rowsOf textOf size lines treeRowAt grow split valid charSteps count depth lowest firstBy firstToken same
 shapes = refl
 
 -- the arguments of `\label`, `\includegraphics` and `\color`
@@ -136,7 +136,7 @@ arguments-fit :
     ∷ Whole 12 4 2
     ∷ []
     )
-unfolding checkTree decode fileOf rowsOf textOf size lines rowAt grow split valid charSteps count depth lowest firstBy firstToken same
+unfolding checkTree decode fileOf rowsOf textOf size lines treeRowAt grow split valid charSteps count depth lowest firstBy firstToken same
 arguments-fit = refl
 
 -- ---- bytes
@@ -159,7 +159,7 @@ files-fit :
     ∷ []
     )
     ≡ (Whole 1 2 1 ∷ Whole 0 1 0 ∷ Whole 1 4 1 ∷ [])
-unfolding checkTree decode rowsOf textOf size lines rowAt grow split valid charSteps count depth lowest
+unfolding checkTree decode rowsOf textOf size lines treeRowAt grow split valid charSteps count depth lowest
 files-fit = refl
 
 -- no trailer or no rows; a root that is none, or not over all rows; text left over; a wrong count; kinds, marks and zero bytes; a
@@ -188,7 +188,7 @@ files-break :
     ∷ []
     )
     ≡ replicate 19 (Refused 3 0)
-unfolding checkTree decode rowsOf textOf size lines rowAt grow split valid charSteps count depth lowest
+unfolding checkTree decode rowsOf textOf size lines treeRowAt grow split valid charSteps count depth lowest
 files-break = refl
 
 -- ---- limits
@@ -202,5 +202,5 @@ limits :
     doc (nest 62 (word (ascii "a"))) ∷ doc (nest 63 (word (ascii "a"))) ∷ node ScopeRoot (flat 512) ∷ node ScopeRoot (flat 513) ∷ []
     )
     ≡ (Whole 3 65 2 ∷ Refused 4 0 ∷ Whole 512 513 512 ∷ Refused 3 0 ∷ [])
-unfolding checkTree decode fileOf rowsOf textOf size lines rowAt grow split valid charSteps count depth lowest
+unfolding checkTree decode fileOf rowsOf textOf size lines treeRowAt grow split valid charSteps count depth lowest
 limits = refl

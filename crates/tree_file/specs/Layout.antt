@@ -35,8 +35,8 @@ abbrev pub nodeRow : List ℕ → Row
 nodeRow rows = cond (eqb (getD rows 1 0) 0 && isNode (getD rows 0 0)) (Node (fourAt 4 rows)) Bad
 
 -- kind, 0 node or 1 token, two zero bytes, then the number
-unfoldable pub rowAt : List ℕ → List ℕ → Row
-rowAt rows text =
+unfoldable pub treeRowAt : List ℕ → List ℕ → Row
+treeRowAt rows text =
     cond (eqb (getD rows 2 0) 0 && eqb (getD rows 3 0) 0) (cond (eqb (getD rows 1 0) 1) (tokenRow rows text) (nodeRow rows)) Bad
 
 -- a row that was read: a token with its text, or a node with how many rows lie under it
@@ -60,7 +60,7 @@ rowAhead (Node m) rows text o = ahead (nod (getD rows 0 0) m) o
 unfoldable pub lines : ℕ → List ℕ → List ℕ → Option (List Line)
 lines zero rows [] = some []
 lines zero rows (b ∷ s) = nothing
-lines (suc n) rows text = rowAhead (rowAt rows text) rows text (lines n (drop 8 rows) (drop (rowTaken (rowAt rows text)) text))
+lines (suc n) rows text = rowAhead (treeRowAt rows text) rows text (lines n (drop 8 rows) (drop (rowTaken (treeRowAt rows text)) text))
 
 -- ---- rows in preorder: a child's rows end no later than its parent's
 

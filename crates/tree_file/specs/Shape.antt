@@ -23,14 +23,14 @@ abbrev pub slashed : List ℕ → Bool
 slashed s = eqb (getD s 0 0) backslash
 
 -- the commands whose arguments have rules
-abbrev pub labelName : List ℕ
-labelName = ascii "\\label"
+abbrev pub labelCommand : List ℕ
+labelCommand = ascii "\\label"
 
-abbrev pub includegraphicsName : List ℕ
-includegraphicsName = ascii "\\includegraphics"
+abbrev pub includegraphicsCommand : List ℕ
+includegraphicsCommand = ascii "\\includegraphics"
 
-abbrev pub colorName : List ℕ
-colorName = ascii "\\color"
+abbrev pub colorCommand : List ℕ
+colorCommand = ascii "\\color"
 
 -- ---- the rules
 
@@ -80,8 +80,8 @@ colorFits f = isSome (firstOf ClauseArgument f)
 
 abbrev pub argumentsFit : List ℕ → Forest → Bool
 argumentsFit name f =
-    cond (same name labelName) (labelFits f)
-    (cond (same name includegraphicsName) (imageFits f) (cond (same name colorName) (colorFits f) true))
+    cond (same name labelCommand) (labelFits f)
+    (cond (same name includegraphicsCommand) (imageFits f) (cond (same name colorCommand) (colorFits f) true))
 
 abbrev pub cmdFits : Forest → Bool
 cmdFits f = nameFits f && argumentsFit (cmdName f) f

@@ -13,7 +13,7 @@ ghost use Rattle.mitex_syntax.specs.Tree.Forest.{more};
 ghost use Rattle.mitex_syntax.specs.Syntax.{ItemCurly, ItemBracket};
 ghost use Rattle.mitex_syntax.specs.Views.{textIn, argumentWith, goodEnds};
 ghost use Rattle.mitex_syntax.specs.Spells.{tokenFits, Spells, SpellsAll, Begins, SomeForest};
-ghost use Rattle.tree_file.specs.Layout.{Line, tokenRow, nodeRow, rowAt, rowTaken, lines, split, grow, grows};
+ghost use Rattle.tree_file.specs.Layout.{Line, tokenRow, nodeRow, treeRowAt, rowTaken, lines, split, grow, grows};
 ghost use Rattle.tree_file.specs.Depth.{depths, depthMost};
 ghost use Rattle.tree_file.specs.Shape.{isSome, slashed, symFits, lrFits, labelFits, endsIn, imageFits};
 ghost use Rattle.tree_file.specs.Shape.{colorFits, argumentsFit, cmdFits, envFits, nodeFits, unless, lowest};
@@ -147,7 +147,7 @@ fn node_row(rows: &[u8]) -> Row
 // The row that stands first, where `text` is left.
 fn row_at(rows: &[u8], text: &[u8], plain: bool) -> Row
     requires { ⌜ (8 ≤ length (now rows)) × (plain ≡ true → oneByteEach (now text) ≡ true) ⌝ }
-    ensures { λ r. ⌜ r ≡ rowAt (now (rows .entry)) (now (text .entry)) ⌝ }
+    ensures { λ r. ⌜ r ≡ treeRowAt (now (rows .entry)) (now (text .entry)) ⌝ }
 {
     if rows[2] != 0 {
         return Row::Bad;

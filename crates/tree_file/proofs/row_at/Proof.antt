@@ -1,27 +1,27 @@
--- The tests of `rowAt`, in its order.
-use Rattle.tree_file.specs.Layout.{rowAt}
+-- The tests of `treeRowAt`, in its order.
+use Rattle.tree_file.specs.Layout.{treeRowAt}
 use borrow.Author.Tests.{eq-eqb, ne-eqb}
 use borrow.Author.Needs.{needs}
 use Rattle.tree_file.proofs.row_at.Statement.{statement}
 use Rattle.tree_file.proofs.row_at.Tie as tie
 
 returns : tie.Need-returns
-unfolding rowAt
+unfolding treeRowAt
 returns c = rw (ne-eqb _ _ (c .if1 .taken))
 
 returns-2 : tie.Need-returns-2
-unfolding rowAt
+unfolding treeRowAt
 returns-2 c = rw (eq-eqb _ _ (c .before .before .if1 .left), ne-eqb _ _ (c .if2 .taken))
 
 returns-3 : tie.Need-returns-3
-unfolding rowAt
+unfolding treeRowAt
 returns-3 c =
     let past-if2 = c .before .before .before in
     let past-if1 = past-if2 .before .before in
     rw (eq-eqb _ _ (past-if1 .if1 .left), eq-eqb _ _ (past-if2 .if2 .left), eq-eqb _ _ (c .before .if3 .taken)) (c .token-row .ensures)
 
 returns-4 : tie.Need-returns-4
-unfolding rowAt
+unfolding treeRowAt
 returns-4 c =
     let past-if2 = c .before .before .before in
     let past-if1 = past-if2 .before .before in
