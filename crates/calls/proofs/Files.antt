@@ -25,9 +25,9 @@ use Rattle.edit_meaning.specs.Walk.CheckedFile.{bad, good}
 use Rattle.edit_meaning.specs.Edit.{Result, settle, fromCheck, conversion, convertDocument, editChecked, edit}
 use Rattle.edit_meaning.specs.Edit.Answer.{refused}
 use Rattle.edit_meaning.specs.Calls.{Gives, Converts, Edits}
-use Rattle.manuscript.specs.Manuscript.{modeOf, listed, byTree, byRules, byMode, manuscriptIn, manuscript, blocksIn}
+use Rattle.manuscript.specs.Manuscript.{modeOf, listed, byTree, byRules, byMode, manuscript, blocksIn}
 use Rattle.manuscript.proofs.Manuscript.{opened-as}
-use Rattle.calls.specs.Calls.{answerOfConvert, answerOfEdit, openTree, openRules, opened, FilesOpen, Begins, blockRows, Document, ConvertsBlocks, EditsBlocks}
+use Rattle.calls.specs.Calls.{answerOfConvert, answerOfEdit, openTree, openRules, opened, FilesOpen, CallBegins, blockRows, Document, ConvertsBlocks, EditsBlocks}
 use Rattle.calls.specs.declared.Converted.{Converted}
 use Rattle.calls.specs.declared.Converted.the-variants.{Refused as NotConverted}
 use Rattle.calls.specs.declared.Edited.{Edited}
@@ -108,12 +108,12 @@ opens (some m) (some rs) v e = opens-tree m v e
 module _ (mode : ℕ) (file tree index : List ℕ) where
   pub begins-shut :
       {n row : ℕ} → Shut n row ≡ opened (modeOf mode) (rulesOf file) (checkedAnswer (checkTree tree))
-      → Begins mode file tree index (Shut n row)
+      → CallBegins mode file tree index (Shut n row)
   begins-shut e = shut-mode (modeOf mode) (rulesOf file) tree (sym e)
 
   pub begins :
       (v : Opened) → Bytes tree → SomeRules file index → v ≡ opened (modeOf mode) (rulesOf file) (checkedAnswer (checkTree tree))
-      → Begins mode file tree index v
+      → CallBegins mode file tree index v
   begins (Shut n row) by rs e = begins-shut e
   begins (Open m start n) by rs e =
       let o = opens (modeOf mode) (rulesOf file) (checkedAnswer (checkTree tree)) (sym e) in

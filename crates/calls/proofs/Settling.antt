@@ -24,7 +24,7 @@ use Rattle.edit_meaning.specs.Edit.Answer.{refused, converted}
 use Rattle.edit_meaning.specs.Calls.{Gives}
 use Rattle.edit_meaning.proofs.Bytes.{put-stored}
 use Rattle.edit_meaning.proofs.Holding.{room-says, walked-encodable, rows-length}
-use Rattle.edit_meaning.proofs.Walks.{Walked, walk-walked, walked-length}
+use Rattle.edit_meaning.proofs.Walks.{WalkedBlocks, walk-walked, walked-length}
 use Rattle.manuscript.specs.Manuscript.{listed, blocksIn}
 use Rattle.passes.specs.Passes.{Pieced, Stood, Came, Measures, Writes}
 use Rattle.passes.specs.declared.Standing.{Standing}
@@ -116,7 +116,7 @@ module _ {rules index rows text : List ℕ} {n : ℕ} (w : Document rules index 
       abbrev measured : Came-to from r (document w m)
       measured = came-pieces (p .came) well
 
-      walked : Walked (blocksIn m (w .rs)) startCarry (listed (w .blocks)) (measured .ps)
+      walked : WalkedBlocks (blocksIn m (w .rs)) startCarry (listed (w .blocks)) (measured .ps)
       walked = walk-walked (blocksIn m (w .rs)) (listed (w .blocks)) startCarry 1 (measured .ps) (measured .are)
 
       -- a piece for each block

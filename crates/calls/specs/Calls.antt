@@ -72,9 +72,9 @@ pub record FilesOpen (mode : ℕ) (rules tree index : List ℕ) (m : LaTeXMode) 
   pub checked : checkedAnswer (checkTree tree) ≡ Sound start rows n
 
 -- what a call begins with: a refusal of the checks, or open files
-abbrev pub Begins : (mode : ℕ) (rules tree index : List ℕ) → Opened → Type 0
-Begins mode rules tree index (Shut number row) = (manuscript mode rules) .check tree ≡ bad number row
-Begins mode rules tree index (Open m start n) = FilesOpen mode rules tree index m start n
+abbrev pub CallBegins : (mode : ℕ) (rules tree index : List ℕ) → Opened → Type 0
+CallBegins mode rules tree index (Shut number row) = (manuscript mode rules) .check tree ≡ bad number row
+CallBegins mode rules tree index (Open m start n) = FilesOpen mode rules tree index m start n
 
 -- the rows after the root's, in a tree file whose rows start there
 abbrev pub blockRows : ℕ → List ℕ → List ℕ

@@ -21,7 +21,7 @@ ghost use Rattle.edit_meaning.specs.Edit.{textMost, roomForText, editFits};
 ghost use Rattle.edit_meaning.specs.Run.{sizeAfter};
 ghost use Rattle.edit_meaning.specs.Calls.{Converts, Edits, Runs, Demanded};
 ghost use Rattle.manuscript.specs.Manuscript.{modeOf, manuscript};
-ghost use Rattle.calls.specs.Calls.{answerOfConvert, answerOfEdit, openTree, opened, Begins, blockRows, Document, Draft};
+ghost use Rattle.calls.specs.Calls.{answerOfConvert, answerOfEdit, openTree, opened, CallBegins, blockRows, Document, Draft};
 ghost use Rattle.calls.specs.Calls.{Delivers, ConvertsBlocks, EndsBefore, CarriesBefore, Measured, oldEnd, Overwrites, Splices, EditsBlocks};
 ghost use Rattle.calls.specs.Three.{threeEdits, threeAnswers};
 
@@ -116,7 +116,7 @@ fn open_tree(mode: LaTeXMode, tree: &[u8]) -> Opened
 fn open(mode: u8, rules: &[u8], tree: &[u8], index: &mut [u32]) -> Opened
     requires { ⌜ length (now index) ≡ indexSize ⌝ }
     ensures answer { λ r. ⌜ r ≡ opened (modeOf mode) (rulesOf (now (rules .entry))) (checkedAnswer (checkTree (now (tree .entry)))) ⌝ }
-    ensures begins { λ r. ⌜ Begins mode (now (rules .entry)) (now (tree .entry)) (now (index .exit)) r ⌝ }
+    ensures begins { λ r. ⌜ CallBegins mode (now (rules .entry)) (now (tree .entry)) (now (index .exit)) r ⌝ }
 {
     if 1 < mode {
         return Opened::Shut { number: 1, row: 0 };

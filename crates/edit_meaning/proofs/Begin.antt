@@ -17,7 +17,7 @@ use Rattle.edit_meaning.specs.Edit.{textMost, room, put, settle, convers
 use Rattle.edit_meaning.specs.Edit.Answer.{refused, converted}
 use Rattle.edit_meaning.specs.Run.{Kept, Holds}
 use Rattle.edit_meaning.specs.Calls.{Converts}
-use Rattle.edit_meaning.proofs.Walks.{Walked, walk-walked}
+use Rattle.edit_meaning.proofs.Walks.{WalkedBlocks, walk-walked}
 use Rattle.edit_meaning.proofs.Holding.{room-says, rows-length, holding, walked-encodable, StandsIn, stands-encodable, stands-accepted, stands-holds, Found, held-found}
 
 put-length : (new l : List ℕ) → length new ≤ length l → length (put new l) ≡ length l
@@ -39,7 +39,7 @@ module _ (𝓒 : BlockConverter) (keeps-short : KeepsShort 𝓒) (tree t l : Lis
       let y : _≡_ {A = ℕ} 0 1 = cc in absurd (omega arith)
   sized bs ps ch c true r e =
       let fit : (length (written ps) ≤ min (length t) textMost) × (rowSize * length ps ≤ length l) = room-says (length t) (length l) ps r in
-      let w : Walked 𝓒 startCarry bs ps = walk-walked 𝓒 bs startCarry 1 ps (rw ch at c) in
+      let w : WalkedBlocks 𝓒 startCarry bs ps = walk-walked 𝓒 bs startCarry 1 ps (rw ch at c) in
       let n : length (encodeRows (rowsFrom 0 ps)) ≡ rowSize * length ps = rows-length ps (walked-encodable 𝓒 keeps-short w (omega arith)) in
       (rw (c, r) (put-length (written ps) t (omega arith)), rw (c, r) (put-length (encodeRows (rowsFrom 0 ps)) l (omega arith)))
 

@@ -1,7 +1,7 @@
 -- Calls one after the other are a run (`runs-are`), so demand 3 holds of the answers that calls gave and of the buffers that they left
 -- (`runs-demanded`).
 use mathlib.Core.Path.{_≡_, refl, sym, ap, ap₂, subst, _∙_}
-use mathlib.Core.List.{List, [], _∷_}
+use mathlib.Core.List.{List, _∷_}
 use Prim.Native.Nat.{ℕ}
 use Rattle.edit_meaning.specs.Walk.{BlockConverter, KeepsShort}
 use Rattle.edit_meaning.specs.Edit.{Answer, edit}

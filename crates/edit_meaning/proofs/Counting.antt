@@ -1,23 +1,20 @@
 -- The count of blocks converted again that demand 3 has, in words (`demanded-counts`): to the first block after which the conversions of
 -- both documents carry the same, or to the last. Both have as many blocks, so `countTo-first` says so.
 use mathlib.Core.Path.{_≡_, refl, sym, ap, subst, _∙_}
-use mathlib.Core.Bool.{Bool, true, false, not, cond}
+use mathlib.Core.Bool.{Bool, true, false, cond}
 use mathlib.Core.List.{List, [], _∷_}
 use Prim.Native.Nat.{ℕ, suc, _-_, _<_}
 use native.Mathlib.Omega.{arith}
 use lib.IntN.{ℤ}
 use lib.ListN.{length, drop, length-drop}
-use lib.Dec.{ltb}
 use borrow.Author.Tests.{not-false, ltb-true}
 use Rattle.ledger.specs.Ledger.{Piece}
 use Rattle.edit_meaning.specs.Walk.{BlockConverter, KeepsShort, Walk, carries, countTo, FirstSame}
-use Rattle.edit_meaning.specs.Walk.CheckedFile.{good}
-use Rattle.edit_meaning.specs.Walk.Walk.{pieces}
-use Rattle.edit_meaning.specs.Edit.{Answer, conversion, convertDocument}
+use Rattle.edit_meaning.specs.Edit.{Answer, convertDocument}
 use Rattle.edit_meaning.specs.Edit.Answer.{refused, converted, edited}
 use Rattle.edit_meaning.specs.Run.{Edit, Kept, lacks, piecesOf, editAnswer, lengthOf, carriesFrom, demanded, Permitted, Holds}
 use Rattle.edit_meaning.proofs.Walks.{walked-length}
-use Rattle.edit_meaning.proofs.Holding.{StandsIn, stands-conversion, Found, held-found}
+use Rattle.edit_meaning.proofs.Holding.{StandsIn, stands-conversion, held-found}
 use Rattle.edit_meaning.proofs.Begin.{converted-holds}
 use Rattle.edit_meaning.proofs.Count.{countTo-first}
 

@@ -21,7 +21,7 @@ use Rattle.edit_meaning.specs.Edit.{Result, unchanged, textMost, roomFor
 use Rattle.edit_meaning.specs.Edit.Answer.{refused, converted, edited}
 use Rattle.edit_meaning.specs.Run.{Edit, Kept, leaves, callEdit, run, lacks, piecesOf, editAnswer, documentAfter}
 use Rattle.edit_meaning.specs.Run.{demanded, documentNext, reference, OnlyAt, Permitted, Allowed, Holds, tailMoved, TailsMoved, Demand3}
-use Rattle.edit_meaning.proofs.Walks.{ontoAll, ontoAll-pieces, ontoAll-stopped, finish, Walked, walk-walked, walked-length, walkUntil-until, walk-edited, Until, until-within, until-count}
+use Rattle.edit_meaning.proofs.Walks.{ontoAll, ontoAll-pieces, ontoAll-stopped, finish, WalkedBlocks, walk-walked, walked-length, walkUntil-until, walk-edited, Until, until-within, until-count}
 use Rattle.edit_meaning.proofs.Splice.{carryBefore-rows, write-spliced, tail, tail-length, text-after}
 use Rattle.edit_meaning.proofs.Holding.{holding, walked-encodable, rows-length, StandsIn, stands-conversion, stands-encodable, stands-holds, Found, held-found}
 
@@ -179,7 +179,7 @@ module _ (𝓒 : BlockConverter) (keeps-short : KeepsShort 𝓒) where
               → callEdit 𝓒 (holding ps rest l₂) e ≡ cond b result (unchanged 15 0 (written ps ++ rest) (encodeRows (rowsFrom 0 ps) ++ l₂))
           edit-result b r = edit-until ∙ rw u (write-result ∙ rw (st .textSize, r))
 
-          walked-new : Walked 𝓒 startCarry bs new
+          walked-new : WalkedBlocks 𝓒 startCarry bs new
           unfolding conversion
           walked-new = walk-walked 𝓒 bs startCarry 1 new (rw ch at conversion-new)
 

@@ -19,7 +19,7 @@ use Rattle.edit_meaning.specs.Walk.Walk.{stopped, pieces}
 use Rattle.edit_meaning.specs.Edit.{textMost, roomForText, room, settle, conversion, convertDocument}
 use Rattle.edit_meaning.specs.Edit.Answer.{refused, converted}
 use Rattle.edit_meaning.specs.Run.{Kept, Holds}
-use Rattle.edit_meaning.proofs.Walks.{Walked, none-left, one-more, walk-walked, walked-walk}
+use Rattle.edit_meaning.proofs.Walks.{WalkedBlocks, none-left, one-more, walk-walked, walked-walk}
 
 pub room-says : (n k : ℕ) (ps : List Piece) → room n k ps ≡ true → (length (written ps) ≤ min n textMost) × (rowSize * length ps ≤ k)
 unfolding room roomForText
@@ -37,12 +37,12 @@ holding ps rest l = record { text = written ps ++ rest; ledger = encodeRows (row
 module _ (𝓒 : BlockConverter) (keeps-short : KeepsShort 𝓒) where
   open BlockConverter 𝓒 using (Block, check)
 
-  walked-short : {c : Carry} {bs : List Block} {ps : List Piece} → Walked 𝓒 c bs ps → Short c → AllShort ps
+  walked-short : {c : Carry} {bs : List Block} {ps : List Piece} → WalkedBlocks 𝓒 c bs ps → Short c → AllShort ps
   walked-short none-left s = none
   walked-short (one-more {c} {b} {bs} {c′} {t} e w) s = let s′ : Short c′ = keeps-short c c′ b t s e in more s′ (walked-short w s′)
 
   -- the rows of a document that was converted can be written
-  pub walked-encodable : {bs : List Block} {ps : List Piece} → Walked 𝓒 startCarry bs ps → length (written ps) ≤ textMost → AllEncodable (rowsFrom 0 ps)
+  pub walked-encodable : {bs : List Block} {ps : List Piece} → WalkedBlocks 𝓒 startCarry bs ps → length (written ps) ≤ textMost → AllEncodable (rowsFrom 0 ps)
   walked-encodable w h = rowsFrom-encodable (walked-short w (omega arith)) 0 (omega arith)
 
   module _ (t l : List ℕ) where
@@ -50,7 +50,7 @@ module _ (𝓒 : BlockConverter) (keeps-short : KeepsShort 𝓒) where
     pub record StandsIn (tree : List ℕ) (ps : List Piece) (rest l₂ : List ℕ) : Type 0 where
       pub blocks : List Block
       pub checked : check tree ≡ good blocks
-      pub along : Walked 𝓒 startCarry blocks ps
+      pub along : WalkedBlocks 𝓒 startCarry blocks ps
       pub small : length (written ps) ≤ textMost
       pub textSize : length (written ps ++ rest) ≡ length t
       pub ledgerSize : length (encodeRows (rowsFrom 0 ps) ++ l₂) ≡ length l
@@ -120,7 +120,7 @@ module _ (𝓒 : BlockConverter) (keeps-short : KeepsShort 𝓒) where
           let x : converted (length (written ps)) (length ps) ≡ converted (s .size) (ho .blocks) = rw (c, r) at (ho .accepted) in
           let n : length (written ps) ≡ s .size = cc in
           let k : length ps ≡ ho .blocks = cc in
-          let w : Walked 𝓒 startCarry bs ps = walk-walked 𝓒 bs startCarry 1 ps (rw ch at c) in
+          let w : WalkedBlocks 𝓒 startCarry bs ps = walk-walked 𝓒 bs startCarry 1 ps (rw ch at c) in
           let fit : (length (written ps) ≤ min (length t) textMost) × (rowSize * length ps ≤ length l) = room-says (length t) (length l) ps r in
           let j : rowSize * length ps ≡ length (encodeRows (rowsFrom 0 ps)) = sym (rows-length ps (walked-encodable w (omega arith))) in
           let tx : take (length (written ps)) (s .text) ≡ written ps

@@ -73,54 +73,54 @@ module _ (𝓒 : BlockConverter) where
 
   -- ---- a walk that went well: each block's outcome
 
-  pub data Walked : Carry → List Block → List Piece → Type 0 where
-    none-left : {c : Carry} → Walked c [] []
+  pub data WalkedBlocks : Carry → List Block → List Piece → Type 0 where
+    none-left : {c : Carry} → WalkedBlocks c [] []
     one-more :
         {c : Carry} {b : Block} {bs : List Block} {c′ : Carry} {t : List ℕ} {ps : List Piece} → convertBlock c b ≡ done c′ t
-        → Walked c′ bs ps → Walked c (b ∷ bs) (record { text = t; after = c′ } ∷ ps)
+        → WalkedBlocks c′ bs ps → WalkedBlocks c (b ∷ bs) (record { text = t; after = c′ } ∷ ps)
 
   walked-next :
       (s : Outcome) {c : Carry} {b : Block} {bs : List Block} (r : ℕ) (ps : List Piece) → convertBlock c b ≡ s
-      → ((c′ : Carry) (qs : List Piece) → walk 𝓒 c′ (r + rowsOf b) bs ≡ pieces qs → Walked c′ bs qs)
-      → next s r (λ c′. walk 𝓒 c′ (r + rowsOf b) bs) ≡ pieces ps → Walked c (b ∷ bs) ps
+      → ((c′ : Carry) (qs : List Piece) → walk 𝓒 c′ (r + rowsOf b) bs ≡ pieces qs → WalkedBlocks c′ bs qs)
+      → next s r (λ c′. walk 𝓒 c′ (r + rowsOf b) bs) ≡ pieces ps → WalkedBlocks c (b ∷ bs) ps
   walked-next (refused n i) r ps e ih h = let z : _≡_ {A = ℕ} 0 1 = cc in absurd (omega arith)
   walked-next (done c′ t) {c} {b} {bs} r ps e ih h = go (walk 𝓒 c′ (r + rowsOf b) bs) refl h
     where
-      go : (w : Walk) → walk 𝓒 c′ (r + rowsOf b) bs ≡ w → onto (record { text = t; after = c′ }) w ≡ pieces ps → Walked c (b ∷ bs) ps
+      go : (w : Walk) → walk 𝓒 c′ (r + rowsOf b) bs ≡ w → onto (record { text = t; after = c′ }) w ≡ pieces ps → WalkedBlocks c (b ∷ bs) ps
       go (stopped n i) e₂ h₂ = let z : _≡_ {A = ℕ} 0 1 = cc in absurd (omega arith)
       go (pieces qs) e₂ h₂ = let q : record { text = t; after = c′ } ∷ qs ≡ ps = cc in rw (← q) (one-more e (ih c′ qs e₂))
 
-  pub walk-walked : (bs : List Block) (c : Carry) (r : ℕ) (ps : List Piece) → walk 𝓒 c r bs ≡ pieces ps → Walked c bs ps
+  pub walk-walked : (bs : List Block) (c : Carry) (r : ℕ) (ps : List Piece) → walk 𝓒 c r bs ≡ pieces ps → WalkedBlocks c bs ps
   unfolding walk
   walk-walked [] c r ps h = let q : [] ≡ ps = cc in rw (← q) none-left
   walk-walked (b ∷ bs) c r ps h = walked-next (convertBlock c b) r ps refl (λ c′ qs. walk-walked bs c′ (r + rowsOf b) qs) h
 
-  pub walked-walk : {c : Carry} {bs : List Block} {ps : List Piece} → Walked c bs ps → (r : ℕ) → walk 𝓒 c r bs ≡ pieces ps
+  pub walked-walk : {c : Carry} {bs : List Block} {ps : List Piece} → WalkedBlocks c bs ps → (r : ℕ) → walk 𝓒 c r bs ≡ pieces ps
   unfolding walk
   walked-walk none-left r = refl
   walked-walk (one-more {b = b} e w) r = rw (e, walked-walk w (r + rowsOf b))
 
   -- over two runs of blocks
   walk-past :
-      {c : Carry} {xs : List Block} {ps : List Piece} → Walked c xs ps → (r : ℕ) (ys : List Block)
+      {c : Carry} {xs : List Block} {ps : List Piece} → WalkedBlocks c xs ps → (r : ℕ) (ys : List Block)
       → walk 𝓒 c r (xs ++ ys) ≡ ontoAll ps (walk 𝓒 (carryAfter c ps) (r + rowsAll rowsOf xs) ys)
   unfolding walk
   walk-past {c = c} none-left r ys = ap (λ n. walk 𝓒 c n ys) (sym (add-zero r))
   walk-past (one-more {b = b} {bs = bs} {c′} {t} e w) r ys =
       rw (e, walk-past w (r + rowsOf b) ys, add-assoc r (rowsOf b) (rowsAll rowsOf bs))
 
-  walked-take : {c : Carry} {bs : List Block} {ps : List Piece} (k : ℕ) → Walked c bs ps → Walked c (take k bs) (take k ps)
+  walked-take : {c : Carry} {bs : List Block} {ps : List Piece} (k : ℕ) → WalkedBlocks c bs ps → WalkedBlocks c (take k bs) (take k ps)
   walked-take zero w = none-left
   walked-take (suc k) none-left = none-left
   walked-take (suc k) (one-more e w) = one-more e (walked-take k w)
 
   walked-drop :
-      {c : Carry} {bs : List Block} {ps : List Piece} (k : ℕ) → Walked c bs ps → Walked (carryAfter c (take k ps)) (drop k bs) (drop k ps)
+      {c : Carry} {bs : List Block} {ps : List Piece} (k : ℕ) → WalkedBlocks c bs ps → WalkedBlocks (carryAfter c (take k ps)) (drop k bs) (drop k ps)
   walked-drop zero w = w
   walked-drop (suc k) none-left = none-left
   walked-drop (suc k) (one-more e w) = walked-drop k w
 
-  pub walked-length : {c : Carry} {bs : List Block} {ps : List Piece} → Walked c bs ps → length bs ≡ length ps
+  pub walked-length : {c : Carry} {bs : List Block} {ps : List Piece} → WalkedBlocks c bs ps → length bs ≡ length ps
   walked-length none-left = refl
   walked-length (one-more e w) = ap suc (walked-length w)
 
@@ -131,7 +131,7 @@ module _ (𝓒 : BlockConverter) where
   finish-onto q (pieces qs) p ps = refl
 
   resume-step :
-      (s : Outcome) (bs : List Block) (r r′ : ℕ) (p : Piece) (ps : List Piece) → Walked (p .after) bs ps
+      (s : Outcome) (bs : List Block) (r r′ : ℕ) (p : Piece) (ps : List Piece) → WalkedBlocks (p .after) bs ps
       → ((c′ : Carry) → walk 𝓒 c′ r′ bs ≡ finish (walkUntil 𝓒 c′ r′ bs (carries ps)) ps)
       → next s r (λ c′. walk 𝓒 c′ r′ bs) ≡ finish (nextUntil s r (p .after) (λ c′. walkUntil 𝓒 c′ r′ bs (carries ps))) (p ∷ ps)
   resume-step (refused n i) bs r r′ p ps w ih = refl
@@ -143,7 +143,7 @@ module _ (𝓒 : BlockConverter) where
       go false e = ih c′
 
   resume-rest :
-      {bs : List Block} {ps : List Piece} {d : Carry} → Walked d bs ps → (c : Carry) (r : ℕ)
+      {bs : List Block} {ps : List Piece} {d : Carry} → WalkedBlocks d bs ps → (c : Carry) (r : ℕ)
       → walk 𝓒 c r bs ≡ finish (walkUntil 𝓒 c r bs (carries ps)) ps
   unfolding walk walkUntil
   resume-rest none-left c r = refl
@@ -152,7 +152,7 @@ module _ (𝓒 : BlockConverter) where
 
   -- from the named block, which alone may differ: what is left after the stop is the old conversion's
   resume :
-      (b : Block) (bs : List Block) (p : Piece) (ps : List Piece) → Walked (p .after) bs ps → (c : Carry) (r : ℕ)
+      (b : Block) (bs : List Block) (p : Piece) (ps : List Piece) → WalkedBlocks (p .after) bs ps → (c : Carry) (r : ℕ)
       → walk 𝓒 c r (b ∷ bs) ≡ finish (walkUntil 𝓒 c r (b ∷ bs) (carries (p ∷ ps))) (p ∷ ps)
   unfolding walk walkUntil
   resume b bs p ps w c r = resume-step (convertBlock c b) bs r (r + rowsOf b) p ps w (λ c₂. resume-rest w c₂ (r + rowsOf b))
@@ -186,7 +186,7 @@ module _ (𝓒 : BlockConverter) where
 
   -- a document that differs from a converted one in block k alone, from its start
   pub walk-edited :
-      (bs bs′ : List Block) (ps : List Piece) (k : ℕ) → Walked startCarry bs ps → length bs′ ≡ length bs → k < length bs′
+      (bs bs′ : List Block) (ps : List Piece) (k : ℕ) → WalkedBlocks startCarry bs ps → length bs′ ≡ length bs → k < length bs′
       → take k bs′ ≡ take k bs → drop (suc k) bs′ ≡ drop (suc k) bs → (r : ℕ)
       → walk 𝓒 startCarry r bs′
       ≡ ontoAll (take k ps)
@@ -203,5 +203,5 @@ module _ (𝓒 : BlockConverter) where
       here (x, e) (p, f) =
           rw (e, f)
           (resume x (drop (suc k) bs′) p (drop (suc k) ps)
-          (rw after (subst (λ c. Walked c (drop (suc k) bs) (drop (suc k) ps)) (carryAfter-at startCarry k ps p f) (walked-drop (suc k) w)))
+          (rw after (subst (λ c. WalkedBlocks c (drop (suc k) bs) (drop (suc k) ps)) (carryAfter-at startCarry k ps p f) (walked-drop (suc k) w)))
           (carryAfter startCarry (take k ps)) (r + rowsAll rowsOf (take k bs′)))

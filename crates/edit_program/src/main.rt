@@ -7,9 +7,10 @@ use console::LINE_MOST;
 use console::Request;
 use libc::STDIN_FILENO;
 use libc::STDOUT_FILENO;
+use text::FILE_MOST;
 
 // A byte more than a file may have, so that a longer one is seen and refused.
-const FILE_READ: usize = 65537;
+const FILE_READ: usize = FILE_MOST + 1;
 
 // How long the buffers that are kept may be.
 const BUFFER_MOST: usize = 65536;

@@ -177,7 +177,7 @@ pub fn ledger_fits(ledger: &[u8], blocks: usize, kept: usize) -> bool
 // ---- writing
 
 // 1 for true, 0 for false.
-fn mark_of(b: bool) -> u8
+fn bit_of(b: bool) -> u8
     ensures { λ r. ⌜ r ≡ mark b ⌝ }
 {
     if b {
@@ -211,8 +211,8 @@ fn write_marks(row: &mut [u8], flag: bool, held: bool, len: usize)
     requires { ⌜ (length (now row) ≡ rowSize) × (len ≤ labelMost) ⌝ }
     ensures { λ _. ⌜ now (row .exit) ≡ sets (now (row .entry)) 4 (mark flag ∷ mark held ∷ len ∷ 0 ∷ []) ⌝ }
 {
-    row[4] = mark_of(flag);
-    row[5] = mark_of(held);
+    row[4] = bit_of(flag);
+    row[5] = bit_of(held);
     row[6] = len as u8;
     row[7] = 0;
 }

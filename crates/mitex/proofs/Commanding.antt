@@ -12,7 +12,7 @@ use Rattle.mitex_meaning.specs.Outcome.Outcome.{refused}
 use Rattle.mitex_meaning.specs.State.{contextOf}
 use Rattle.mitex_meaning.specs.Texts.{leftParen, leftBracket, substackName}
 use Rattle.mitex_meaning.specs.Colors.{colorAlias, bodyLoop, argumentsLoop}
-use Rattle.mitex_meaning.specs.Commands.{argumentsOf, argumentsBy, stackEnv, written, command}
+use Rattle.mitex_meaning.specs.Commands.{argumentsOf, argumentsBy, stackEnv, writtenAs, command}
 use Rattle.mitex_meaning.specs.declared.LaTeXMode.{LaTeXMode}
 use Rattle.mitex_meaning.specs.declared.LaTeXMode.the-variants.{Text, Math}
 use Rattle.mitex_meaning.specs.declared.LaTeXEnv.the-variants.{SubStack}
@@ -34,7 +34,7 @@ use Rattle.mitex_plans.specs.declared.ArgumentsPlan.the-variants.{Missing, Take
 -- by how a command takes its arguments, in a stack or not
 pub normal-written :
     (k : ℕ) (w : List ℕ) (conv : Conv) (x : Context) (f : Forest) (c : Carry) (how : Arguments) (b : Bool) → how ≡ argumentsOf k (x .mode) w
-    → b ≡ same w substackName → written k w conv x f c ≡ after w (argumentsIn how b conv x f c)
+    → b ≡ same w substackName → writtenAs k w conv x f c ≡ after w (argumentsIn how b conv x f c)
 normal-written k w conv x f c how b h i =
     ap (λ (a : Arguments). after w (argumentsBy a conv (stackEnv w x) f c)) (sym h)
     ∙ ap (λ (y : Bool). after w (argumentsBy how conv (cond y (inEnv SubStack x) x) f c)) (sym i)

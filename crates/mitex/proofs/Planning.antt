@@ -23,7 +23,7 @@ use Rattle.mitex_meaning.proofs.Outcomes.{after-after}
 use Rattle.mitex_meaning.specs.Environments.{takeLabel}
 use Rattle.mitex_meaning.specs.declared.LaTeXMode.{LaTeXMode}
 use Rattle.mitex_meaning.specs.declared.Converter.{Converter}
-use Rattle.mitex_meaning.specs.Parts.{rowsIn, textIn}
+use Rattle.mitex_meaning.specs.Parts.{partRows, partText}
 use Rattle.mitex_meaning.specs.declared.Loop.{Loop}
 use Rattle.mitex_meaning.specs.declared.Walked.{Walked}
 use Rattle.mitex_plans.specs.Plans.{endText, planned, Given, Means, MeansBoth}
@@ -56,7 +56,7 @@ module _ {rules index rows text : List ℕ} {row : ℕ} (c : Converter) {at at�
 pub loops-good :
     {rules index rows text : List ℕ} {row : ℕ} (c : Converter) {at : ℕ} {out : List ℕ} {a : Walked} {out′ : List ℕ} (l : Loop) → SomeRules rules index
     → {indent : ℕ} {p : Plan} → Given rows text indent p
-    → Loops rules index (rowsIn (p .part) rows) (textIn (p .part) text) row c at out a out′ l → a .refusal ≡ 0 → Good a (placeOf c)
+    → Loops rules index (partRows (p .part) rows) (partText (p .part) text) row c at out a out′ l → a .refusal ≡ 0 → Good a (placeOf c)
 loops-good c l s g m z = good (m (s .rules) (s .ready) (g .forest) (g .spells) (sizes (g .forest)) (omega arith)) z
 
 -- a plan that was walked well leaves the converter in its place

@@ -13,7 +13,7 @@ use Rattle.mitex_meaning.specs.Contract.{placeOf, Agrees}
 use Rattle.mitex_meaning.specs.Children.{turn, each}
 use Rattle.mitex_meaning.specs.Colors.{Model, withModel, colorAlias}
 use Rattle.mitex_meaning.specs.Conversion.{convert}
-use Rattle.mitex_meaning.specs.Parts.{rowsIn, textIn, ModelFound}
+use Rattle.mitex_meaning.specs.Parts.{partRows, partText, ModelFound}
 use Rattle.mitex_plans.specs.Plans.{planned}
 use Rattle.mitex_plans.specs.declared.Plan.{Plan}
 use Rattle.mitex_plans.specs.declared.Plans.{Plans}
@@ -71,14 +71,14 @@ module _ (rules index rows text : List ℕ) (row : ℕ) (c : Converter) (at : �
   -- of a part of the children, by its plan
   abbrev pub Planned : Plan → Type 0
   Planned p =
-      (rs : List Rule) → Ready rules index rs → (g : Forest) → SpellsAll g (rowsIn (p .part) rows) (textIn (p .part) text) → (d : ℕ)
+      (rs : List Rule) → Ready rules index rs → (g : Forest) → SpellsAll g (partRows (p .part) rows) (partText (p .part) text) → (d : ℕ)
       → sizes g ≤ d → Agrees a (placeOf c) row at out out′ (planned (convert d) rs p g (carryOf c))
 
   -- of two parts, one after the other
   abbrev pub Both : Plans → Type 0
   Both p =
-      (rs : List Rule) → Ready rules index rs → (g h : Forest) → SpellsAll g (rowsIn (p .first .part) rows) (textIn (p .first .part) text)
-      → SpellsAll h (rowsIn (p .second .part) rows) (textIn (p .second .part) text) → (d : ℕ) → sizes g ≤ d → sizes h ≤ d
+      (rs : List Rule) → Ready rules index rs → (g h : Forest) → SpellsAll g (partRows (p .first .part) rows) (partText (p .first .part) text)
+      → SpellsAll h (partRows (p .second .part) rows) (partText (p .second .part) text) → (d : ℕ) → sizes g ≤ d → sizes h ≤ d
       → Agrees a (placeOf c) row at out out′ (andThen (planned (convert d) rs (p .first) g (carryOf c)) (planned (convert d) rs (p .second) h))
 
   -- of a colour command, by its model and the loop over its body

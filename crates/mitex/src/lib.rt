@@ -1,7 +1,7 @@
 // The walk: `convert` and its helpers, which call each other as in the Rust. An element's rows and its text come down as parts of the
 // tree file, the converter goes by value, and the text is written to a lent buffer as far as it falls inside. A helper is given the rows
-// and the text of a node's children, and the row of the node itself; its name is the Rust's without `convert_`. What a helper walks over,
-// and how, is a plan; `walk` walks over it.
+// and the text of a node's children, and the row of the node itself, and has the Rust's name. What a helper walks over, and how, is a plan;
+// `walk` walks over it.
 ghost use mathlib.Core.Path.{_≡_};
 ghost use Rattle.mitex_spec.specs.Index.{SomeRules};
 ghost use Rattle.mitex_syntax.specs.Spells.{SomeTree};

@@ -14,7 +14,7 @@ use Rattle.mitex_syntax.specs.Tree.{Forest}
 use Rattle.mitex_syntax.specs.Views.{cmdName}
 use Rattle.mitex_meaning.specs.Outcome.{Context, Carry, Conv}
 use Rattle.mitex_meaning.specs.Outcome.Outcome.{refused}
-use Rattle.mitex_meaning.specs.Commands.{typstName, written, normalBy, commandOf, commandBy, command}
+use Rattle.mitex_meaning.specs.Commands.{typstName, writtenAs, normalBy, commandOf, commandBy, command}
 use Rattle.mitex_meaning.specs.declared.Command.{Command}
 use Rattle.mitex_commands.specs.Leaves.{isAbsent, classOf}
 
@@ -38,11 +38,11 @@ normal-absent o name conv x f c file (Aliased class at size) e h = let z : _≡_
 pub normal-found :
     (o : Option Rule) (name : List ℕ) (conv : Conv) (x : Context) (f : Forest) (c : Carry) (file : List ℕ) (found : Found) (w : List ℕ)
     → ruleOf file name found ≡ o → isAbsent found ≡ false → w ≡ aliasOr (aliasOf file found) name
-    → normalBy o name conv x f c ≡ written (classOf found) (typstName (x .mode) name w) conv x f c
+    → normalBy o name conv x f c ≡ writtenAs (classOf found) (typstName (x .mode) name w) conv x f c
 normal-found o name conv x f c file Absent w e h i = let z : _≡_ {A = ℕ} 0 1 = cc in absurd (omega arith)
 normal-found o name conv x f c file (Plain class) w e h i =
     ap (λ (p : Option Rule). normalBy p name conv x f c) (sym e)
-    ∙ ap (λ (s : List ℕ). written class (typstName (x .mode) name s) conv x f c) (sym i)
+    ∙ ap (λ (s : List ℕ). writtenAs class (typstName (x .mode) name s) conv x f c) (sym i)
 normal-found o name conv x f c file (Aliased class at size) w e h i =
     ap (λ (p : Option Rule). normalBy p name conv x f c) (sym e)
-    ∙ ap (λ (s : List ℕ). written class (typstName (x .mode) name s) conv x f c) (sym i)
+    ∙ ap (λ (s : List ℕ). writtenAs class (typstName (x .mode) name s) conv x f c) (sym i)

@@ -11,7 +11,7 @@ ghost use Rattle.mitex_syntax.specs.Tree.{Forest};
 ghost use Rattle.mitex_syntax.specs.Views.{argumentWith};
 ghost use Rattle.mitex_syntax.specs.Spells.{Begins, SomeForest};
 ghost use Rattle.mitex_meaning.specs.Texts.{ofPage, widthName, heightName};
-ghost use Rattle.mitex_meaning.specs.Images.{split, withoutEnd, equalsByte, commaByte, lengthText, valueOf};
+ghost use Rattle.mitex_meaning.specs.Images.{cutAt, withoutEnd, equalsByte, commaByte, lengthText, valueOf};
 ghost use Rattle.mitex_meaning.specs.Images.{keyText, optionText, optionsText, innerText, image};
 
 const COMMA: u8 = b',';
@@ -74,7 +74,7 @@ fn past(s: &[u8], n: usize) -> usize
 
 // The value of an option, which exactly one `=` gives.
 fn value_of(s: &[u8]) -> &[u8]
-    ensures { λ r. ⌜ now r ≡ valueOf (split equalsByte (now (s .entry))) ⌝ }
+    ensures { λ r. ⌜ now r ≡ valueOf (cutAt equalsByte (now (s .entry))) ⌝ }
 {
     let from = past(s, text::index_of(s, EQUALS));
     let v = &s[from..];
@@ -121,7 +121,7 @@ fn put_option(out: &mut [u8], at: usize, option: &[u8]) -> usize
 // The options, between commas.
 fn put_options(out: &mut [u8], at: usize, s: &[u8]) -> usize
     requires { ⌜ (at ≤ cap) × (length (now out) ≤ cap) ⌝ }
-    ensures { λ r. ⌜ Wrote at (now (out .entry)) (optionsText (split commaByte (now (s .entry)))) r (now (out .exit)) ⌝ }
+    ensures { λ r. ⌜ Wrote at (now (out .entry)) (optionsText (cutAt commaByte (now (s .entry)))) r (now (out .exit)) ⌝ }
 {
     let mut rest = s;
     let mut p = at;
@@ -137,7 +137,7 @@ fn put_options(out: &mut [u8], at: usize, s: &[u8]) -> usize
 // ---- the command
 
 // The text of the first argument whose first node is of a kind, without its ends and trimmed; none where there is no such argument.
-fn argument_text<'a>(rows: &[u8], text: &'a [u8], kind: u8) -> &'a [u8]
+fn found_argument<'a>(rows: &[u8], text: &'a [u8], kind: u8) -> &'a [u8]
     requires { ⌜ SomeForest (now rows) (now text) 0 0 ⌝ }
     ensures { λ r. ⌜ ((f : Forest) → Begins f (now (rows .entry)) (now (text .entry)) → now r ≡ innerText (argumentWith kind f)) ⌝ }
 {
@@ -150,8 +150,8 @@ pub fn convert_command_includegraphics(out: &mut [u8], at: usize, rows: &[u8], t
     requires { ⌜ (at ≤ cap) × (length (now out) ≤ cap) × SomeForest (now rows) (now text) 0 0 ⌝ }
     ensures { λ r. ⌜ ((f : Forest) → Begins f (now (rows .entry)) (now (text .entry)) → Wrote at (now (out .entry)) (image f) r (now (out .exit))) ⌝ }
 {
-    let options = argument_text(rows, text, mitex_syntax::ITEM_BRACKET);
-    let path = argument_text(rows, text, mitex_syntax::ITEM_CURLY);
+    let options = found_argument(rows, text, mitex_syntax::ITEM_BRACKET);
+    let path = found_argument(rows, text, mitex_syntax::ITEM_CURLY);
     let a = text::put(out, at, b"#image(");
     let b = put_options(out, a, options);
     let c = text::put(out, b, b"\"");

@@ -24,7 +24,7 @@ use Rattle.mitex_meaning.specs.Tokens.{whiteSpace, symbolBy, tokenOut}
 use Rattle.mitex_meaning.specs.Children.{actOf, nextLoop, before, behind, converts, turn, each}
 use Rattle.mitex_meaning.specs.Groups.{children, formula, curlyIn, curlyGroup, clauseLr, attachComponent}
 use Rattle.mitex_meaning.specs.Colors.{Model, greedyModel, argumentModel, colored, withModel, colorAlias, bodyLoop, argumentsLoop}
-use Rattle.mitex_meaning.specs.Commands.{itemIn, labelNow, labelHeld, labelIn, typstName, isArgument, greedyIn, argumentsOf, argumentsBy, stackEnv, written, normalBy, commandOf, commandBy}
+use Rattle.mitex_meaning.specs.Commands.{itemIn, labelNow, labelHeld, labelIn, typstName, isArgument, greedyIn, argumentsOf, argumentsBy, stackEnv, writtenAs, normalBy, commandOf, commandBy}
 use Rattle.mitex_meaning.specs.Tables.{lettersFit}
 use Rattle.mitex_meaning.specs.Environments.{Caption, absent, bare, caption, lastCaption, mathEnv, captioned, tableBy, takeLabel, envOf, plainEnv, envBody, isList, envBy}
 use Rattle.mitex_meaning.specs.Conversion.{elementOf, armBy, step, convert}
@@ -191,7 +191,7 @@ module _ (conv : Conv) (h : KeepsConv conv) (x : Context) where
   keeps-arguments MathArguments f c = kept-between _ _ (keeps-each (conv x) (h x) 1 _ f c)
   keeps-arguments TextArguments f c = kept-closing _ (keeps-each (conv _) (h _) 1 _ f c)
 
-keeps-written : (k : ℕ) (w : List ℕ) → KeepsArm (written k w)
+keeps-written : (k : ℕ) (w : List ℕ) → KeepsArm (writtenAs k w)
 keeps-written k w conv h x f c = kept-after w (keeps-arguments conv h (stackEnv w x) (argumentsOf k (x .mode) w) f c)
 
 keeps-normal : (r : Option Rule) (name : List ℕ) → KeepsArm (normalBy r name)

@@ -54,7 +54,7 @@ itemIn MathCurlyGroup n c = refused 11 0
 
 -- ---- `\label`
 
--- written at once in Text, and nothing in Math
+-- writtenAs at once in Text, and nothing in Math
 abbrev pub labelNow : LaTeXMode → List ℕ → Carry → Outcome
 labelNow Text s c = done c (labelMark s)
 labelNow Math s c = done c []
@@ -96,9 +96,9 @@ colorArguments name conv x f c =
 
 -- as an ItemCmd in Text `textbf` and `textit` become `#strong` and `#emph`
 abbrev pub typstName : LaTeXMode → List ℕ → List ℕ → List ℕ
-typstName Text name written =
-    cond (same name textbfName) strong (cond (same name textitName) emph written)
-typstName Math name written = written
+typstName Text name writtenAs =
+    cond (same name textbfName) strong (cond (same name textitName) emph writtenAs)
+typstName Math name writtenAs = writtenAs
 
 -- class 1: the first child that is no command name must be a node; its children are converted, not itself
 abbrev pub greedyIn : (Tree → Carry → Outcome) → ℕ → Option Tree → Carry → Outcome
@@ -120,7 +120,7 @@ mathArguments conv x f c = after leftParen (closing rightParen (each (conv x) 1 
 abbrev pub textArguments : Arm
 textArguments conv x f c = closing semicolon (each (conv (inMode Text x)) 1 Bracketed f c)
 
--- by class, mode and written name: class 0 has no arguments, class 1 a Greedy one; a name that begins with `#` takes content in Math too
+-- by class, mode and writtenAs name: class 0 has no arguments, class 1 a Greedy one; a name that begins with `#` takes content in Math too
 abbrev pub otherArguments : LaTeXMode → List ℕ → Arguments
 otherArguments Text w = TextArguments
 otherArguments Math w = cond (startsWith w hash) TextArguments MathArguments
@@ -134,16 +134,16 @@ argumentsBy GreedyArgument conv x f c = greedyArgument conv x f c
 argumentsBy MathArguments conv x f c = mathArguments conv x f c
 argumentsBy TextArguments conv x f c = textArguments conv x f c
 
--- `\substack{abc \\ bcd}` goes by the written name
+-- `\substack{abc \\ bcd}` goes by the writtenAs name
 abbrev pub stackEnv : List ℕ → Context → Context
 stackEnv w x = cond (same w substackName) (inEnv SubStack x) x
 
-abbrev pub written : ℕ → List ℕ → Arm
-written k w conv x f c = after w (argumentsBy (argumentsOf k (x .mode) w) conv (stackEnv w x) f c)
+abbrev pub writtenAs : ℕ → List ℕ → Arm
+writtenAs k w conv x f c = after w (argumentsBy (argumentsOf k (x .mode) w) conv (stackEnv w x) f c)
 
 abbrev pub normalBy : Option Rule → List ℕ → Arm
 normalBy nothing name conv x f c = refused 9 0
-normalBy (some r) name conv x f c = written (r .class) (typstName (x .mode) name (writtenName r name)) conv x f c
+normalBy (some r) name conv x f c = writtenAs (r .class) (typstName (x .mode) name (writtenName r name)) conv x f c
 
 abbrev pub normalCommand : List ℕ → Arm
 normalCommand name conv x f c = normalBy (getCmd (x .rules) name) name conv x f c

@@ -25,7 +25,7 @@ use Rattle.mitex_meaning.specs.Outcome.Outcome.{refused, done}
 use Rattle.mitex_meaning.specs.Tokens.{spaced, tokenOut}
 use Rattle.mitex_meaning.specs.Children.{othersFollow, turn, each}
 use Rattle.mitex_meaning.specs.Groups.{clauseLr}
-use Rattle.mitex_meaning.specs.Images.{split, stripped, optionsText}
+use Rattle.mitex_meaning.specs.Images.{cutAt, stripped, optionsText}
 use Rattle.mitex_meaning.specs.Tables.{lettersFit, columns, alignments, vlines}
 use Rattle.mitex_meaning.specs.Environments.{lastCaption}
 use Rattle.mitex_meaning.specs.Conversion.{step, convert, levels, startContext, newCarry}
@@ -163,7 +163,7 @@ holds c = answers (convert levels (startContext (c .rules) (c .mode)) (over Scop
 
 -- whoever unfolds this unfolds all that a conversion computes by
 unfoldable pub hold : List Case → Bool
-unfolding convert step each turn tokenOut spaced clauseLr split stripped optionsText othersFollow lettersFit columns alignments vlines lastCaption size
+unfolding convert step each turn tokenOut spaced clauseLr cutAt stripped optionsText othersFollow lettersFit columns alignments vlines lastCaption size
     textOf firstBy offsetBy beforeBy fromBy firstToken lastToken get same startsWith endsWith digits chars concat skipWhite trimStart trimEnd trim
 hold [] = true
 hold (c ∷ cs) = holds c && hold cs

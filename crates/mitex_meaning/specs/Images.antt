@@ -1,4 +1,4 @@
--- `\includegraphics[width=0.5\textwidth]{example-image}`: options split at commas, then at `=`, all trimmed.
+-- `\includegraphics[width=0.5\textwidth]{example-image}`: options cutAt at commas, then at `=`, all trimmed.
 use mathlib.Core.Bool.{_||_, cond}
 use mathlib.Core.Option.{Option}
 use mathlib.Core.Option.Option.{none as nothing, some}
@@ -19,9 +19,9 @@ abbrev pub extend : ℕ → List (List ℕ) → List (List ℕ)
 extend x [] = (x ∷ []) ∷ []
 extend x (p ∷ ps) = (x ∷ p) ∷ ps
 
-unfoldable pub split : ℕ → List ℕ → List (List ℕ)
-split b [] = [] ∷ []
-split b (x ∷ s) = cond (eqb x b) ([] ∷ split b s) (extend x (split b s))
+unfoldable pub cutAt : ℕ → List ℕ → List (List ℕ)
+cutAt b [] = [] ∷ []
+cutAt b (x ∷ s) = cond (eqb x b) ([] ∷ cutAt b s) (extend x (cutAt b s))
 
 -- an ending removed as often as it repeats
 unfoldable pub stripped : ℕ → List ℕ → List ℕ → List ℕ
@@ -63,7 +63,7 @@ abbrev pub pairText : List (List ℕ) → List ℕ
 pairText ps = keyText (keyOf ps) (valueOf ps)
 
 abbrev pub optionText : List ℕ → List ℕ
-optionText option = pairText (split equalsByte (trim option))
+optionText option = pairText (cutAt equalsByte (trim option))
 
 unfoldable pub optionsText : List (List ℕ) → List ℕ
 optionsText [] = []
@@ -76,7 +76,7 @@ innerText (some t) = trim (inner (textOf t))
 
 abbrev pub optionArgument : Option Tree → List ℕ
 optionArgument nothing = []
-optionArgument (some t) = optionsText (split commaByte (trim (inner (textOf t))))
+optionArgument (some t) = optionsText (cutAt commaByte (trim (inner (textOf t))))
 
 -- the first argument in brackets has the options, the first in braces the path
 abbrev pub image : Forest → List ℕ

@@ -31,11 +31,11 @@ use Rattle.mitex_meaning.specs.declared.CaptionPart.the-variants.{NoCapt
 abbrev pub between : ℕ → ℕ → List ℕ → List ℕ
 between a b l = take (b - a) (drop a l)
 
-abbrev pub rowsIn : Part → List ℕ → List ℕ
-rowsIn p rows = between (p .i) (p .e) rows
+abbrev pub partRows : Part → List ℕ → List ℕ
+partRows p rows = between (p .i) (p .e) rows
 
-abbrev pub textIn : Part → List ℕ → List ℕ
-textIn p text = between (p .j) (p .u) text
+abbrev pub partText : Part → List ℕ → List ℕ
+partText p text = between (p .j) (p .u) text
 
 pub record Inside (rows text : List ℕ) (p : Part) : Type 0 where
   pub low : p .i ≤ p .e
@@ -48,7 +48,7 @@ pub record GreedyStands (f : Forest) (rows text : List ℕ) (p : Part) : Type 0 
   pub kind : ℕ
   pub forest : Forest
   pub is : firstBy isArgument f ≡ some (node kind forest)
-  pub spells : SpellsAll forest (rowsIn p rows) (textIn p text)
+  pub spells : SpellsAll forest (partRows p rows) (partText p text)
   pub inside : Inside rows text p
   pub row : p .i ≡ 8 * (1 + offsetBy isArgument f)
   pub fits : sizes forest < sizes f
@@ -68,7 +68,7 @@ pub record ModelFound (m : Model) (f : Forest) (rows text : List ℕ) (p : Model
   pub text-is : m .text ≡ modelText (p .held) (between (p .from) (p .to) text)
   pub some-text : p .from ≤ p .to
   pub stop : p .to ≤ length text
-  pub spells : SpellsAll (m .behind .elements) (rowsIn (p .rest) rows) (textIn (p .rest) text)
+  pub spells : SpellsAll (m .behind .elements) (partRows (p .rest) rows) (partText (p .rest) text)
   pub inside : Inside rows text (p .rest)
   pub row : 8 * m .behind .rows ≡ 8 + p .rest .i
   pub fits : sizes (m .behind .elements) ≤ sizes f
@@ -78,7 +78,7 @@ pub record CaptionStands (f : Forest) (rows text : List ℕ) (p : Part) : Type 0
   pub tree : Tree
   pub below : ℕ
   pub is : lastCaption 1 f ≡ caption (1 + below) tree
-  pub spells : Spells tree (rowsIn p rows) (textIn p text)
+  pub spells : Spells tree (partRows p rows) (partText p text)
   pub inside : Inside rows text p
   pub row : p .i ≡ 8 * below
   pub fits : size tree ≤ sizes f
@@ -90,7 +90,7 @@ pub data CaptionFound (f : Forest) (rows text : List ℕ) : CaptionPart → Type
 
 -- the children of an environment's first ItemBegin, and how a loop over them counts its rows
 pub record BeginFound (f : Forest) (rows text : List ℕ) (p : Part) : Type 0 where
-  pub spells : SpellsAll (beginOf f) (rowsIn p rows) (textIn p text)
+  pub spells : SpellsAll (beginOf f) (partRows p rows) (partText p text)
   pub inside : Inside rows text p
   pub row :
       (conv : Tree → Carry → Outcome) (l : Loop) (c : Carry) → shift (1 + offsetOf ItemBegin f) (each conv 1 l (beginOf f) c) ≡ shift (1 + p .i / 8) (each conv 0 l (beginOf f) c)

@@ -21,7 +21,7 @@ use Rattle.mitex_meaning.specs.Texts.{leftParen, rightParen, black, colorEnd}
 use Rattle.mitex_meaning.specs.Children.{each}
 use Rattle.mitex_meaning.specs.Colors.{Model, colored, bodyEnd}
 use Rattle.mitex_meaning.specs.Commands.{isArgument, greedyIn, greedyArgument, mathArguments, textArguments}
-use Rattle.mitex_meaning.specs.Parts.{rowsIn, textIn, Inside, GreedyStands, GreedyFound, ModelFound}
+use Rattle.mitex_meaning.specs.Parts.{partRows, partText, Inside, GreedyStands, GreedyFound, ModelFound}
 use Rattle.mitex_meaning.specs.Parts.GreedyFound.{no-greedy, greedy-at}
 use Rattle.mitex_meaning.proofs.Outcomes.{after-nil, andThen-same, andThen-closing, shift-shift, shift-closing}
 use Rattle.mitex_meaning.proofs.Loops.{each-at}
@@ -157,7 +157,7 @@ module _ {n : Model} {f : Forest} {rows text : List ℕ} {m : ModelPart} (a : Mo
   abbrev others : Forest
   others = n .behind .elements
 
-  part-length : length (rowsIn (m .rest) rows) ≡ m .rest .e - m .rest .i
+  part-length : length (partRows (m .rest) rows) ≡ m .rest .e - m .rest .i
   part-length = between-length (m .rest .i) (m .rest .e) rows (a .inside .low) (a .inside .high)
 
   -- neither colour nor body
@@ -214,7 +214,7 @@ module _ {n : Model} {f : Forest} {rows text : List ℕ} {m : ModelPart} (a : Mo
 -- what parting the first element from the body asks
 pub color-asks :
     {rows text : List ℕ} {m : ModelPart} {l : Loop} → ColorGiven rows text m l → length rows < cap → length text < cap
-    → Inside rows text (m .rest) × SomeForest (rowsIn (m .rest) rows) (textIn (m .rest) text) 0 0
+    → Inside rows text (m .rest) × SomeForest (partRows (m .rest) rows) (partText (m .rest) text) 0 0
 color-asks {rows} {text} {m} g few short =
     let a = g .found in
     let d = a .inside in (

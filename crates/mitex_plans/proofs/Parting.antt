@@ -13,7 +13,7 @@ use Rattle.mitex_syntax.specs.Spells.{Spells, SpellsAll, SomeForest}
 use Rattle.mitex_syntax.specs.Rows.{extentOf, tokenSum, Spans}
 use Rattle.mitex_syntax.specs.declared.Span.{Span}
 use Rattle.mitex_syntax.proofs.Trees.{length-rows, length-rowss, extent-tree, size-some, Element, element, all-begins, spells-alone, no-left, spans, rows-e, text-n, part-spells, past-exact}
-use Rattle.mitex_meaning.specs.Parts.{between, rowsIn, textIn, Inside}
+use Rattle.mitex_meaning.specs.Parts.{between, partRows, partText, Inside}
 use Rattle.mitex_meaning.specs.declared.Part.{Part}
 use Rattle.mitex_colors.proofs.Scans.{between-take}
 use Rattle.mitex_plans.specs.Plans.{Single, lrName}
@@ -112,7 +112,7 @@ spells-as p q sp = record { rows-are = sym p ∙ sp .rows-are; text-is = sym q �
 
 module _ {f : Forest} {rows text : List ℕ} {p : Part} (d : Inside rows text p) where
   pub halved :
-      (s : Span) → s .rows ≤ length (rowsIn p rows) → s .text ≤ length (textIn p text) → FirstApart f (rowsIn p rows) (textIn p text) s
+      (s : Span) → s .rows ≤ length (partRows p rows) → s .text ≤ length (partText p text) → FirstApart f (partRows p rows) (partText p text) s
       → Halved f rows text p
       (record {
         first = record { i = p .i; e = p .i + s .rows; j = p .j; u = p .j + s .text };

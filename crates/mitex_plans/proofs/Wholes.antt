@@ -13,7 +13,7 @@ use Rattle.mitex_meaning.specs.Outcome.{Context, Carry, Outcome, Conv, Arm, aft
 use Rattle.mitex_meaning.specs.Outcome.Outcome.{done}
 use Rattle.mitex_meaning.specs.State.{contextOf}
 use Rattle.mitex_meaning.specs.Children.{each}
-use Rattle.mitex_meaning.specs.Parts.{rowsIn, textIn}
+use Rattle.mitex_meaning.specs.Parts.{partRows, partText}
 use Rattle.mitex_meaning.proofs.Outcomes.{shift-closing}
 use Rattle.mitex_meaning.proofs.Loops.{each-none, each-at}
 use Rattle.mitex_meaning.specs.declared.LaTeXMode.{LaTeXMode}
@@ -75,7 +75,7 @@ in-still rs m u v n e = ap (at-place rs m v) (ap (λ (k : ℕ). n + k) e ∙ add
 
 pub whole-spells :
     {f : Forest} {rows text : List ℕ} → SpellsAll f rows text
-    → SpellsAll f (rowsIn (wholePart rows text) rows) (textIn (wholePart rows text) text)
+    → SpellsAll f (partRows (wholePart rows text) rows) (partText (wholePart rows text) text)
 whole-spells {f} {rows} {text} sp =
     record { rows-are = part-rest rows 0 ∙ sp .rows-are; text-is = part-rest text 0 ∙ sp .text-is; sound = sp .sound }
 
@@ -113,7 +113,7 @@ module _ {f : Forest} {rows text : List ℕ} (sp : SpellsAll f rows text) (m : L
 
 -- ---- no children
 
-pub none-spells : (rows text : List ℕ) → SpellsAll none (rowsIn noPart rows) (textIn noPart text)
+pub none-spells : (rows text : List ℕ) → SpellsAll none (partRows noPart rows) (partText noPart text)
 unfolding rowsOf textOf Sound
 none-spells rows text = record { rows-are = refl; text-is = refl; sound = tt }
 

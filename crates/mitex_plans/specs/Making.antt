@@ -8,7 +8,7 @@ use Rattle.mitex_syntax.specs.Tree.{Forest, size}
 use Rattle.mitex_syntax.specs.Tree.Forest.{none, more}
 use Rattle.mitex_syntax.specs.Spells.{SpellsAll}
 use Rattle.mitex_syntax.specs.declared.Span.{Span}
-use Rattle.mitex_meaning.specs.Parts.{between, rowsIn, textIn, Inside}
+use Rattle.mitex_meaning.specs.Parts.{between, partRows, partText, Inside}
 use Rattle.mitex_meaning.specs.declared.LaTeXMode.{LaTeXMode}
 use Rattle.mitex_meaning.specs.declared.LaTeXEnv.{LaTeXEnv}
 use Rattle.mitex_meaning.specs.declared.LaTeXEnv.the-variants.{Figure, SubStack}
@@ -88,7 +88,7 @@ pub record FirstApart (f : Forest) (rows text : List ℕ) (s : Span) : Type 0 wh
 pub record Halved (f : Forest) (rows text : List ℕ) (p : Part) (h : Halves) : Type 0 where
   pub begin : h .first .i ≡ p .i
   pub end : h .behind .i ≡ p .i + 8 * firstSize f
-  pub first : SpellsAll (firstOnly f) (rowsIn (h .first) rows) (textIn (h .first) text)
-  pub behind : SpellsAll (behindFirst f) (rowsIn (h .behind) rows) (textIn (h .behind) text)
+  pub first : SpellsAll (firstOnly f) (partRows (h .first) rows) (partText (h .first) text)
+  pub behind : SpellsAll (behindFirst f) (partRows (h .behind) rows) (partText (h .behind) text)
   pub first-inside : Inside rows text (h .first)
   pub behind-inside : Inside rows text (h .behind)

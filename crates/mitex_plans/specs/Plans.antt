@@ -16,7 +16,7 @@ use Rattle.mitex_meaning.specs.Texts.{leftParen, rightParen, rightBracket, spac
 use Rattle.mitex_meaning.specs.Children.{each}
 use Rattle.mitex_meaning.specs.Colors.{Model, colored}
 use Rattle.mitex_meaning.specs.Commands.{argumentsBy}
-use Rattle.mitex_meaning.specs.Parts.{Inside, rowsIn, textIn, ModelFound}
+use Rattle.mitex_meaning.specs.Parts.{Inside, partRows, partText, ModelFound}
 use Rattle.mitex_loops.specs.Given.{numberOf}
 use Rattle.mitex_meaning.specs.declared.LaTeXMode.the-variants.{Text}
 use Rattle.mitex_meaning.specs.declared.LaTeXEnv.the-variants.{SubStack}
@@ -62,7 +62,7 @@ planned conv rs p g c = shift (1 + p .part .i / 8) (closing (endText (p .end)) (
 -- what a plan is to be: its part spells elements, its loop counts from 0, and it is at most two further in
 pub record Given (rows text : List ℕ) (indent : ℕ) (p : Plan) : Type 0 where
   pub forest : Forest
-  pub spells : SpellsAll forest (rowsIn (p .part) rows) (textIn (p .part) text)
+  pub spells : SpellsAll forest (partRows (p .part) rows) (partText (p .part) text)
   pub inside : Inside rows text (p .part)
   pub counts : numberOf (p .how) ≡ 0
   pub near : p .indent ≤ indent + 2

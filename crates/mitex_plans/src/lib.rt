@@ -18,7 +18,7 @@ ghost use Rattle.mitex_meaning.specs.Colors.{Model, bodyEnd};
 ghost use Rattle.mitex_meaning.specs.Commands.{typstName};
 ghost use Rattle.mitex_meaning.specs.Environments.{envBegin, envEnd, plainEnv, mathEnv, figureEnv};
 ghost use Rattle.mitex_meaning.specs.Tables.{tableHead};
-ghost use Rattle.mitex_meaning.specs.Parts.{Inside, rowsIn, textIn, ModelFound, CaptionFound};
+ghost use Rattle.mitex_meaning.specs.Parts.{Inside, partRows, partText, ModelFound, CaptionFound};
 ghost use Rattle.mitex_plans.specs.Plans.{endText, Single, Means, MeansBoth, lrName, opening, ArgumentsMean, ColorGiven, coloredBy, isBare, bareRow, captionText, tableCells};
 ghost use Rattle.mitex_plans.specs.Making.{noPart, wholePart, planHere, stackIn, greedyPlan, captionIn, captionPlan, FirstApart, Halved};
 use mitex_colors::greedy_node;
@@ -377,8 +377,8 @@ struct Halves {
 
 // A part behind its first element.
 fn split_first(rows: &[u8], text: &[u8], p: Part) -> Halves
-    requires { ⌜ Inside (now rows) (now text) p × SomeForest (rowsIn p (now rows)) (textIn p (now text)) 0 0 ⌝ }
-    ensures { λ r. ⌜ ((f : Forest) → SpellsAll f (rowsIn p (now (rows .entry))) (textIn p (now (text .entry))) → Halved f (now (rows .entry)) (now (text .entry)) p r) ⌝ }
+    requires { ⌜ Inside (now rows) (now text) p × SomeForest (partRows p (now rows)) (partText p (now text)) 0 0 ⌝ }
+    ensures { λ r. ⌜ ((f : Forest) → SpellsAll f (partRows p (now (rows .entry))) (partText p (now (text .entry))) → Halved f (now (rows .entry)) (now (text .entry)) p r) ⌝ }
 {
     let i = p.i;
     let e = p.e;

@@ -25,7 +25,7 @@ pub struct Standing {
     pub walked: Walked,
 }
 
-// Behind the blocks before a named one, by their rows alone.
+// After the blocks before a named one, by their rows alone.
 pub fn stand_at(rows: &[u8], block: usize, at: usize, converter: Converter) -> Standing
     requires { ⌜ SomeBlocks (now rows) block ⌝ }
     ensures { λ r. ⌜ StandsBefore (now (rows .entry)) block at converter r ⌝ }

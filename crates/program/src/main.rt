@@ -4,9 +4,10 @@ use calls::Converted;
 use console::ANSWER_MOST;
 use libc::STDIN_FILENO;
 use libc::STDOUT_FILENO;
+use text::FILE_MOST;
 
 // A byte more than a file may have, so that a longer one is seen and refused.
-const FILE_READ: usize = 65537;
+const FILE_READ: usize = FILE_MOST + 1;
 
 // The mode that the first byte of standard input names.
 fn read_mode() -> u8 {

@@ -14,6 +14,7 @@ use Rattle.mitex_spec.specs.RuleFile.{rulesOf}
 use Rattle.mitex_syntax.specs.Tree.{Tree, size, count}
 use Rattle.tree_file.specs.Check.{checkTree, blocksOf}
 use Rattle.tree_file.specs.Check.Verdict.{accepted}
+use Rattle.tree_file.proofs.Same.{same-tree}
 use Rattle.mitex_meaning.specs.Conversion.{levels, newCarry, startCarry}
 use Rattle.mitex_meaning.specs.declared.LaTeXMode.{LaTeXMode}
 use Rattle.mitex_meaning.proofs.Levels.{convert-level}
@@ -25,7 +26,7 @@ use Rattle.edit_meaning.specs.Edit.{Answer, Result, textMost, room, put, settle
 use Rattle.edit_meaning.specs.Edit.Answer.{refused}
 use Rattle.edit_meaning.specs.Calls.{Gives, Converts, Untouched}
 use Rattle.edit_meaning.specs.Numbers.{Fifteen, ConvertNumber, OfConvert, OfEdit}
-use Rattle.edit_meaning.proofs.Walks.{Walked, walk-walked, walked-length}
+use Rattle.edit_meaning.proofs.Walks.{WalkedBlocks, walk-walked, walked-length}
 use Rattle.edit_meaning.proofs.Holding.{room-says, rows-length, walked-encodable}
 use Rattle.edit_meaning.proofs.Untouched.{convert-untouched, edit-untouched}
 use Rattle.edit_meaning.proofs.Begin.{converts-holds, converts-starts}
@@ -109,7 +110,7 @@ module _ (mode : ℕ) (rules tree : List ℕ) (bytes : Bytes tree) (m : LaTeXMod
   unfolding convertDocument conversion
   opened text ledger = opened-as mode rules tree in-mode in-rules is (λ 𝓒 v. settle (fromCheck 𝓒 v) text ledger)
 
-  walked : (ps : List Piece) → blocks-walk ≡ pieces ps → Walked (blocksIn m rs) startCarry (listed (blocksOf t)) ps
+  walked : (ps : List Piece) → blocks-walk ≡ pieces ps → WalkedBlocks (blocksIn m rs) startCarry (listed (blocksOf t)) ps
   walked ps e = walk-walked (blocksIn m rs) (listed (blocksOf t)) startCarry 1 ps e
 
   follows :
@@ -162,6 +163,7 @@ demand-3 =
           same-text same-rows;
       runs = λ mode rules kept text ledger es said kept′ text′ ledger′ r.
           runs-demanded (manuscript mode rules) (keeps-short (modeOf mode) (rulesOf rules)) r;
+      blocks = same-tree;
       six = λ mode rules t l old e. demanded-six (manuscript mode rules) (numbered (modeOf mode) (rulesOf rules)) t l old e;
       counts = λ mode rules t l old s ho e p.
           demanded-counts (manuscript mode rules) (keeps-short (modeOf mode) (rulesOf rules)) t l old s ho e p;

@@ -1,6 +1,6 @@
 -- What demand 3 asks of a caller can be met: the starred edit, which takes the label's block away from a table that wrote it, is allowed
 -- (`edit-allowed`). So `demand-3` has something to say of it: `Starred` has what it answers and leaves, byte by byte.
-use mathlib.Core.Path.{_≡_, refl, ap, subst₂}
+use mathlib.Core.Path.{refl, ap, subst₂}
 use mathlib.Core.List.{List, [], _∷_, flatten}
 use Prim.Native.Nat.{ℕ}
 use Rattle.mitex_syntax.specs.Tree.{Tree}

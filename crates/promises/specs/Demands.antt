@@ -8,14 +8,16 @@ use mathlib.Core.Logic.{_↔_}
 use mathlib.Core.Bool.{Bool, true, false, _&&_}
 use mathlib.Core.List.{List}
 use mathlib.Core.Option.Option.{some}
-use Prim.Native.Nat.{ℕ, _*_, _≤_}
+use Prim.Native.Nat.{ℕ, _*_, _≤_, _<_}
 use lib.IntN.{ℤ}
 use lib.ListN.{length, take, drop}
 use lib.Dec.{leb}
 use Rattle.text.specs.Numbers.{Bytes}
+use Rattle.text.specs.Writing.{cap}
 use Rattle.mitex_spec.specs.Rules.{Rule}
 use Rattle.mitex_spec.specs.RuleFile.{rulesOf}
-use Rattle.mitex_syntax.specs.Tree.{Tree, size, count}
+use Rattle.mitex_syntax.specs.Tree.{Tree, size, count, rowsOf, textOf}
+use Rattle.mitex_syntax.specs.Spells.{Sound}
 use Rattle.tree_file.specs.Check.{checkTree, blocksOf}
 use Rattle.tree_file.specs.Check.Verdict.{accepted}
 use Rattle.mitex_meaning.specs.Outcome.{Outcome}
@@ -113,6 +115,10 @@ pub record EveryList : Type 0 where
       (mode : ℕ) (rules : List ℕ) (kept : ℕ) (text ledger : List ℕ) (es : List Edit) (said : List Answer) (kept′ : ℕ) (text′ ledger′ : List ℕ)
       → Runs (manuscript mode rules) kept text ledger es said kept′ text′ ledger′
       → Demanded (manuscript mode rules) kept text ledger es said kept′ text′ ledger′
+  -- `Allowed` compares blocks as trees. That is to compare rows and token texts: where these are the same, so are the trees.
+  pub blocks :
+      (t u : Tree) → Sound t → Sound u → length (rowsOf t) < cap → length (textOf t) < cap → rowsOf t ≡ rowsOf u → textOf t ≡ textOf u
+      → t ≡ u
   -- 6 is demanded exactly where, past 1 to 5, the named block does not exist.
   pub six :
       (mode : ℕ) (rules t l old : List ℕ) (e : Edit)

@@ -1,1 +1,1 @@
-// No code: the demands on the product, each as one statement, and the cases tried by hand.
+// No code: the demands on the product, each as one statement, the cases tried by hand, and the near passes.

@@ -30,7 +30,7 @@ textArea file = take (startOf file) file
 abbrev pub rowArea : List ℕ → List ℕ
 rowArea file = take (8 * countOf file) (drop (startOf file) file)
 
--- what a row says before what those after it say, if they do
+-- what the first row comes to, put before what the others come to; nothing where these come to nothing
 abbrev pub ahead : {A : Type 0} → A → Option (List A) → Option (List A)
 ahead a none = none
 ahead a (some l) = some (a ∷ l)

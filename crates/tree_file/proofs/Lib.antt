@@ -10,3 +10,4 @@ pub mod Answers
 pub mod Rules
 pub mod Shaped
 pub mod Bridge
+pub mod Same

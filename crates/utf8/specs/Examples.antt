@@ -8,7 +8,7 @@ use lib.ListN.{length}
 use Rattle.text.specs.Ascii.{ascii}
 use Rattle.text.specs.Compare.{same}
 use Rattle.utf8.specs.Utf8.{lengthBy, charSteps, valid}
-use Rattle.utf8.specs.Chars.{chars, concat, charLen, whiteSpace, encode, isWhite}
+use Rattle.utf8.specs.Chars.{chars, concat, charLen, whiteChars, encode, isWhite}
 use Rattle.utf8.specs.Trim.{skipWhite, trimStart, trimEnd, trim}
 
 -- the test passes at each
@@ -108,10 +108,10 @@ first-lengths = refl
 
 -- ---- White_Space
 
-white-count : length whiteSpace ≡ 25
+white-count : length whiteChars ≡ 25
 white-count = refl
 
-are-white : every (λ n. isWhite (encode n)) whiteSpace ≡ true
+are-white : every (λ n. isWhite (encode n)) whiteChars ≡ true
 unfolding same
 are-white = refl
 

@@ -36,7 +36,7 @@ pub data Text : List ℕ → Type 0 where
 
 -- ---- the test
 
--- document 01's length of a character by its first byte; 0 is invalid
+-- the length of a character by its first byte; 0 is invalid
 abbrev pub lengthBy : ℕ → ℕ
 lengthBy b = cond (leb b 0x7F) 1 (cond (leb b 0xC1) 0 (cond (leb b 0xDF) 2 (cond (leb b 0xEF) 3 (cond (leb b 0xF4) 4 0))))
 

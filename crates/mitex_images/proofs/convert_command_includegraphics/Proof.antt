@@ -17,7 +17,7 @@ returns c =
     let h = start .pre .1 in
     let w = wrote-then h (wrote-then h (first .put .ensures) (options .put-options .ensures)) (quote .put2 .ensures) in
     λ f sp.
-    wrote-as (image-is f _ _ (curly .before .argument-text .ensures f sp) (curly .argument-text2 .ensures f sp))
+    wrote-as (image-is f _ _ (curly .before .found-argument .ensures f sp) (curly .found-argument2 .ensures f sp))
     (wrote-then h (wrote-then h w (path .put3 .ensures)) (last .put4 .ensures))
 
 pub convert-command-includegraphics-spec : {M : Type 1} → statement M

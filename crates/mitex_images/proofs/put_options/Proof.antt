@@ -10,7 +10,7 @@ use lib.Seq.{length-take-le}
 use Rattle.text.specs.Writing.{cap, Wrote}
 use Rattle.text.proofs.Writing.{wrote-nil, wrote-as, wrote-then, wrote-low, wrote-long}
 use Rattle.utf8.proofs.Trimming.{left-less}
-use Rattle.mitex_meaning.specs.Images.{commaByte, split, optionsText}
+use Rattle.mitex_meaning.specs.Images.{commaByte, cutAt, optionsText}
 use Rattle.mitex_images.proofs.Splitting.{index-most, options-next, options-end}
 use Rattle.mitex_images.proofs.put_options.Statement.{statement}
 use Rattle.mitex_images.proofs.put_options.Tie as tie
@@ -19,7 +19,7 @@ abbrev Inv-loop : tie.InvT-loop
 Inv-loop out₀ at s rest₀ p₀ out rest p =
     (p ≤ cap)
     × (length out ≡ length out₀)
-    × ((r : ℕ) (o : List ℕ) → Wrote p out (optionsText (split commaByte rest)) r o → Wrote at out₀ (optionsText (split commaByte s)) r o)
+    × ((r : ℕ) (o : List ℕ) → Wrote p out (optionsText (cutAt commaByte rest)) r o → Wrote at out₀ (optionsText (cutAt commaByte s)) r o)
 
 abbrev μ-loop : tie.MeasureT-loop
 μ-loop out₀ at s rest₀ p₀ out rest p = length rest

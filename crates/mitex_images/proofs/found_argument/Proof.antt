@@ -1,12 +1,12 @@
--- `argument_text`: the text at the place of the argument (`place-text`), or none.
+-- `found_argument`: the text at the place of the argument (`place-text`), or none.
 use mathlib.Core.Path.{ap, _∙_}
 use borrow.Author.Needs.{needs}
 use Rattle.utf8.specs.Trim.{trim}
 use Rattle.mitex_syntax.specs.Views.{inner, argumentWith}
 use Rattle.mitex_syntax.proofs.Places.{place-text, place-inside}
 use Rattle.mitex_images.proofs.Splitting.{inner-text}
-use Rattle.mitex_images.proofs.argument_text.Statement.{statement}
-use Rattle.mitex_images.proofs.argument_text.Tie as tie
+use Rattle.mitex_images.proofs.found_argument.Statement.{statement}
+use Rattle.mitex_images.proofs.found_argument.Tie as tie
 
 text-at-requires : tie.Need-text-at-requires
 text-at-requires c κs =
@@ -22,7 +22,7 @@ returns c =
     ∙ ap (λ s. trim (inner s)) (at .text-at .ensures ∙ place-text (found .argument-with .ensures f sp))
     ∙ inner-text (argumentWith kind f)
 
-pub argument-text-spec : {M : Type 1} → statement M
-argument-text-spec =
+pub found-argument-spec : {M : Type 1} → statement M
+found-argument-spec =
     tie.close
     (tie.spec (λ c κs. search needs) text-at-requires (λ c κs. search needs) returns)
