@@ -10,7 +10,7 @@
 //! use zaldrume::{Document, Mode};
 //!
 //! let rules = RuleFile::new().build().unwrap();
-//! let word = |text| {
+//! let formula = |text| {
 //!     let mut tree = TreeFile::new();
 //!     tree.start(Kind::ItemFormula);
 //!     tree.token(Kind::TokenDollar, "$");
@@ -20,10 +20,10 @@
 //!     tree.build().unwrap()
 //! };
 //!
-//! let mut document = Document::open(Mode::Text, &rules, &word("x"))?;
+//! let mut document = Document::open(Mode::Text, &rules, &formula("x"))?;
 //! assert_eq!(document.text(), b"#math.equation(block: false, $x $);");
 //!
-//! let edited = document.edit(&word("xy"), 0)?;
+//! let edited = document.edit(&formula("xy"), 0)?;
 //! assert_eq!((edited.growth, edited.count), (2, 1));
 //! assert_eq!(document.text(), b"#math.equation(block: false, $x y $);");
 //! # Ok::<(), zaldrume::Refusal>(())

@@ -54,7 +54,7 @@ itemIn MathCurlyGroup n c = refused 11 0
 
 -- ---- `\label`
 
--- writtenAs at once in Text, and nothing in Math
+-- written at once in Text, and nothing in Math
 abbrev pub labelNow : LaTeXMode → List ℕ → Carry → Outcome
 labelNow Text s c = done c (labelMark s)
 labelNow Math s c = done c []
@@ -96,9 +96,9 @@ colorArguments name conv x f c =
 
 -- as an ItemCmd in Text `textbf` and `textit` become `#strong` and `#emph`
 abbrev pub typstName : LaTeXMode → List ℕ → List ℕ → List ℕ
-typstName Text name writtenAs =
-    cond (same name textbfName) strong (cond (same name textitName) emph writtenAs)
-typstName Math name writtenAs = writtenAs
+typstName Text name written =
+    cond (same name textbfName) strong (cond (same name textitName) emph written)
+typstName Math name written = written
 
 -- class 1: the first child that is no command name must be a node; its children are converted, not itself
 abbrev pub greedyIn : (Tree → Carry → Outcome) → ℕ → Option Tree → Carry → Outcome
@@ -120,7 +120,7 @@ mathArguments conv x f c = after leftParen (closing rightParen (each (conv x) 1 
 abbrev pub textArguments : Arm
 textArguments conv x f c = closing semicolon (each (conv (inMode Text x)) 1 Bracketed f c)
 
--- by class, mode and writtenAs name: class 0 has no arguments, class 1 a Greedy one; a name that begins with `#` takes content in Math too
+-- by class, mode and written name: class 0 has no arguments, class 1 a Greedy one; a name that begins with `#` takes content in Math too
 abbrev pub otherArguments : LaTeXMode → List ℕ → Arguments
 otherArguments Text w = TextArguments
 otherArguments Math w = cond (startsWith w hash) TextArguments MathArguments
@@ -134,7 +134,7 @@ argumentsBy GreedyArgument conv x f c = greedyArgument conv x f c
 argumentsBy MathArguments conv x f c = mathArguments conv x f c
 argumentsBy TextArguments conv x f c = textArguments conv x f c
 
--- `\substack{abc \\ bcd}` goes by the writtenAs name
+-- `\substack{abc \\ bcd}` goes by the written name
 abbrev pub stackEnv : List ℕ → Context → Context
 stackEnv w x = cond (same w substackName) (inEnv SubStack x) x
 

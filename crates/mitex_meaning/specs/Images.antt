@@ -1,4 +1,4 @@
--- `\includegraphics[width=0.5\textwidth]{example-image}`: options cutAt at commas, then at `=`, all trimmed.
+-- `\includegraphics[width=0.5\textwidth]{example-image}`: options split at commas, then at `=`, all trimmed.
 use mathlib.Core.Bool.{_||_, cond}
 use mathlib.Core.Option.{Option}
 use mathlib.Core.Option.Option.{none as nothing, some}

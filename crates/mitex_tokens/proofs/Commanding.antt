@@ -48,7 +48,7 @@ pub nodes-refused :
 nodes-refused n some is =
     record { leaves = λ e. never (sym e); high = omega arith; refuses = λ e z f m l sp q. is f m l; writes = λ e z. absurd (some z) }
 
--- it is writtenAs
+-- it is written
 pub nodes-written :
     {arm : Arm} {x : Context} {rows text : List ℕ} {at : ℕ} {out w : List ℕ} {p : ℕ} {out′ : List ℕ} → Wrote at out w p out′
     → ((f : Forest) (m : ℕ) (l : Label) → arm (convert m) x f (carrying false l) ≡ done (carrying false l) w)
@@ -58,7 +58,7 @@ nodes-written {w = w} wrote is =
       leaves = λ e. never (sym e);
       high = omega arith;
       refuses = λ e z. absurd (z refl);
-      writes = λ e z f m sp q. record { writtenAs = w; wrote = wrote; is = is f m };
+      writes = λ e z f m sp q. record { written = w; wrote = wrote; is = is f m };
     }
 
 -- it comes to what another arm does
@@ -74,7 +74,7 @@ nodes-by is m =
       refuses = λ e z f n l sp q. is f n l sp ∙ m .refuses e z f n l sp q;
       writes =
           λ e z f n sp q. let g = m .writes e z f n sp q in
-          record { writtenAs = g .written; wrote = g .wrote; is = λ l. is f n l sp ∙ g .is l };
+          record { written = g .written; wrote = g .wrote; is = λ l. is f n l sp ∙ g .is l };
     }
 
 -- its arm is that of its kind
@@ -98,7 +98,7 @@ nodes-after {w = w} long wrote is m took =
       writes =
           λ e z f n sp q. let g = m .writes e z f n sp q in
           record {
-            writtenAs = w ++ g .written;
+            written = w ++ g .written;
             wrote = wrote-then long wrote (g .wrote);
             is = λ l. is f n l ∙ ap (after w) (g .is l);
           };
@@ -138,7 +138,7 @@ module _ {rows text : List ℕ} (call : Call rows) (given : NodeGiven rows text)
 
 -- ---- a command by its rule
 
--- the writtenAs name and the arguments, where it is no stack
+-- the written name and the arguments, where it is no stack
 pub written-plain :
     (k : ℕ) (w : List ℕ) (conv : Conv) (x : Context) (f : Forest) (c : Carry) {how : Arguments} → how ≡ argumentsOf k (x .mode) w
     → same w substackName ≡ false → writtenAs k w conv x f c ≡ after w (argumentsBy how conv x f c)
