@@ -26,7 +26,7 @@ use Rattle.passes.specs.declared.Standing.{Standing}
 use Rattle.manuscript.proofs.Manuscript.{listed-count}
 use Rattle.passes.proofs.Pieces.{walk-gives, gives-within, came-refused, came-pieces, Came-to}
 use Rattle.calls.specs.Calls.{Document, EndsBefore, CarriesBefore, Measured}
-use Rattle.calls.proofs.Starting.{begin, begins-as, count-left}
+use Rattle.calls.proofs.Starting.{blocks-begin, begins-as, count-left}
 
 -- ---- refusal 6
 
@@ -44,11 +44,11 @@ fitting {n} {k} {kept} {out} {ledger} e t =
     record { block = ltb-true k n (x .0); inside = leb-true kept (length out) (y .0); rows = y .1 }
 
 module _ {n k kept : ℕ} {out ledger : List ℕ} (f : Fitting n k kept out ledger) where
-  pub row-fits : (i : ℕ) → i < n → RowFits i ledger
-  row-fits i h = fits-row n kept ledger (f .rows) i h
+  pub fitting-row : (i : ℕ) → i < n → RowFits i ledger
+  fitting-row i h = fits-row n kept ledger (f .rows) i h
 
   pub row-before : 0 < k → RowFits (k - 1) ledger
-  row-before h = row-fits (k - 1) (omega (arith, f .block))
+  row-before h = fitting-row (k - 1) (omega (arith, f .block))
 
 -- ---- the call over the blocks
 
@@ -99,14 +99,14 @@ module _ {rules index rows text : List ℕ} {n : ℕ} (w : Document rules index 
     abbrev fit : Fitting n k kept out ledger
     fit = fitting (p .tested) (p .fits-so)
 
-    pub within : k ≤ n
-    within = omega (arith, fit .block)
+    pub block-within : k ≤ n
+    block-within = omega (arith, fit .block)
 
     pub carried : Carried (newOf m) (carryBefore k (decodeRows n ledger)) (p .converter)
-    carried = p .carries n within
+    carried = p .carries n block-within
 
     abbrev whole : BlocksUpTo rules index rows text from n
-    whole = begin w st carried (omega (arith, p .low)) within
+    whole = blocks-begin w st carried (omega (arith, p .low)) block-within
 
     -- what was measured is the walk of the blocks converted again
     pub walk-is :
@@ -115,7 +115,7 @@ module _ {rules index rows text : List ℕ} {n : ℕ} (w : Document rules index 
         (listed (st .left)) (rowCarries (drop (from .block) (decodeRows n ledger)))) walked
     unfolding again
     walk-is =
-        begins-as w st carried (omega (arith, p .low)) within true (rowCarries (drop (from .block) (decodeRows n ledger)))
+        begins-as w st carried (omega (arith, p .low)) block-within true (rowCarries (drop (from .block) (decodeRows n ledger)))
         ∙ ap
         (λ (i : ℕ). walkUntil (blocksIn m (w .rs)) (carryBefore k (decodeRows n ledger)) (1 + rowsAll size (take k (listed (w .blocks))))
         (drop k (listed (w .blocks))) (rowCarries (drop i (decodeRows n ledger)))) (st .block)
@@ -137,8 +137,8 @@ module _ {rules index rows text : List ℕ} {n : ℕ} (w : Document rules index 
       abbrev to : Came-to from r walked
       to = came-pieces came z
 
-      abbrev pub spliced : Measured rules index rows text n kept from r out ledger
-      spliced =
+      abbrev pub edit-measured : Measured rules index rows text n kept from r out ledger
+      edit-measured =
           let g = walk-gives (converterOf (whole .given)) true _ _ _ _ (to .ps) (walk-is ∙ to .are) in
           record {
             given = whole .given;
@@ -146,8 +146,8 @@ module _ {rules index rows text : List ℕ} {n : ℕ} (w : Document rules index 
             are = g;
             many = to .block;
             end = to .place;
-            begins = st .went .next ∙ p .ends n within ∙ ap (λ (i : ℕ). endBefore i (decodeRows n ledger)) (sym (st .block));
-            within = omega (arith, to .block, st .block, gives-within _ g, count-left w st carried within);
+            begins = st .went .next ∙ p .ends n block-within ∙ ap (λ (i : ℕ). endBefore i (decodeRows n ledger)) (sym (st .block));
+            within = omega (arith, to .block, st .block, gives-within _ g, count-left w st carried block-within);
             most = w .most;
             fitting = fit .rows;
             inside = fit .inside;

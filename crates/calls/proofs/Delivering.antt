@@ -7,7 +7,7 @@ use lib.ListN.{length, take, drop}
 use lib.Seq.{sets, length-take-le}
 use Rattle.text.specs.Writing.{cap}
 use Rattle.ledger.specs.Ledger.{rowSize, encodeRows, rowsFrom}
-use Rattle.edit_meaning.proofs.Bytes.{put-stored}
+use Rattle.edit_meaning.proofs.Bytes.{atFront-stored}
 use Rattle.passes.specs.Passes.{WrotePieces}
 use Rattle.passes.specs.declared.Standing.{Standing}
 use Rattle.calls.specs.Calls.{Draft}
@@ -36,6 +36,6 @@ module _ {rules index rows text : List ℕ} {from : Standing} {n : ℕ} {draft d
         text = o ∙ (λ i. sets out (first i) (w .holds h i));
         rows =
             part-put (encodeRows (rowsFrom 0 ps)) ledger ledger₁ (rowSize * n) rows-long (w .pieced .room) part
-            ∙ sym (put-stored ledger (encodeRows (rowsFrom 0 ps)) (omega (arith, rows-long, w .pieced .room)))
+            ∙ sym (atFront-stored ledger (encodeRows (rowsFrom 0 ps)) (omega (arith, rows-long, w .pieced .room)))
             ∙ (λ i. sets ledger (rowSize * sym (w .begins) i) (encodeRows (rowsFrom (first i) ps)));
       }

@@ -1,5 +1,5 @@
 -- What the checks of the files leave is what a call begins with (`begins`). A refusal of theirs is that of the call (`converts-shut`,
--- `edits-shut`); else the call is about the document that the rows and the text spell (`document`, `converts`, `edits`).
+-- `edits-shut`); else the call is about the document that the rows and the text spell (`document`, `opened-converts`, `opened-edits`).
 use mathlib.Core.Path.{_≡_, refl, sym, ap, subst, _∙_}
 use mathlib.Core.Option.{Option}
 use mathlib.Core.Option.Option.{none as nothing, some}
@@ -155,23 +155,23 @@ module _ {mode : ℕ} {file tree index : List ℕ} {m : LaTeXMode} {start n : �
         ≡ call (blocksIn m (document .rs)) (good (listed (document .blocks)))
     opened-call = opened-as mode file tree (o .in-mode) (o .indexed .ready .decodes) (there .is)
 
-    pub converts :
+    pub opened-converts :
         (r : Converted) {out ledger out′ ledger′ : List ℕ} → ConvertsBlocks file index rows (take start tree) m n out ledger r out′ ledger′
         → Converts (manuscript mode file) tree out ledger (answerOfConvert r) out′ ledger′
     unfolding convertDocument conversion
-    converts r {out} {ledger} {out′} {ledger′} g =
+    opened-converts r {out} {ledger} {out′} {ledger′} g =
         record {
           gives =
               subst (λ (x : Result). Gives x (answerOfConvert r) out′ ledger′)
               (sym (opened-call (λ 𝓒 v. settle (fromCheck 𝓒 v) out ledger))) (g document);
         }
 
-    pub edits :
+    pub opened-edits :
         (r : Edited) {k kept : ℕ} {out ledger out′ ledger′ : List ℕ}
         → EditsBlocks file index rows (take start tree) m n k kept out ledger r out′ ledger′
         → Edits (manuscript mode file) tree k kept out ledger (answerOfEdit r) out′ ledger′
     unfolding edit
-    edits r {k} {kept} {out} {ledger} {out′} {ledger′} g =
+    opened-edits r {k} {kept} {out} {ledger} {out′} {ledger′} g =
         record {
           gives =
               subst (λ (x : Result). Gives x (answerOfEdit r) out′ ledger′)

@@ -19,10 +19,10 @@ use Rattle.mitex_meaning.specs.declared.Converter.{Converter}
 use Rattle.ledger.specs.Ledger.{rowSize, encodeRows, Piece, written, rowsFrom}
 use Rattle.edit_meaning.specs.Walk.{Walk, walk}
 use Rattle.edit_meaning.specs.Walk.Walk.{stopped, pieces}
-use Rattle.edit_meaning.specs.Edit.{textMost, roomForText, room, put, settle}
+use Rattle.edit_meaning.specs.Edit.{textMost, roomForText, room, atFront, settle}
 use Rattle.edit_meaning.specs.Edit.Answer.{refused, converted}
 use Rattle.edit_meaning.specs.Calls.{Gives}
-use Rattle.edit_meaning.proofs.Bytes.{put-stored}
+use Rattle.edit_meaning.proofs.Bytes.{atFront-stored}
 use Rattle.edit_meaning.proofs.Holding.{room-says, walked-encodable, rows-length}
 use Rattle.edit_meaning.proofs.Walks.{WalkedBlocks, walk-walked, walked-length}
 use Rattle.manuscript.specs.Manuscript.{listed, blocksIn}
@@ -32,7 +32,7 @@ use Rattle.manuscript.proofs.Manuscript.{keeps-short}
 use Rattle.passes.proofs.Pieces.{walk-gives, came-refused, Came-to, came-pieces}
 use Rattle.manuscript.proofs.Manuscript.{listed-count}
 use Rattle.calls.specs.Calls.{Document, Draft, Delivers}
-use Rattle.calls.proofs.Starting.{begin, begins-as}
+use Rattle.calls.proofs.Starting.{blocks-begin, begins-as}
 
 -- ---- a walk settled
 
@@ -47,7 +47,7 @@ module _ {v : Walk} {ps : List Piece} (out ledger : List ℕ) (is : v ≡ pieces
 
   settle-done :
       {a n : ℕ} {out′ ledger′ : List ℕ} → room (length out) (length ledger) ps ≡ true → a ≡ length (written ps) → n ≡ length ps
-      → out′ ≡ put (written ps) out → ledger′ ≡ put (encodeRows (rowsFrom 0 ps)) ledger
+      → out′ ≡ atFront (written ps) out → ledger′ ≡ atFront (encodeRows (rowsFrom 0 ps)) ledger
       → Gives (settle v out ledger) (converted a n) out′ ledger′
   unfolding settle
   settle-done e ea en eo el = rw (is, e) (record { answer = λ i. converted (ea i) (en i); bytes = eo; rows = el })
@@ -64,12 +64,12 @@ room-for a l size e = go (leb a (min size textMost)) refl
 -- a text written over a lent part as long as itself
 pub part-put :
     (new out out₁ : List ℕ) (at : ℕ) → at ≡ length new → at ≤ length out → out₁ ≡ sets (take at out) 0 new
-    → out₁ ++ drop at out ≡ put new out
+    → out₁ ++ drop at out ≡ atFront new out
 part-put new out out₁ at e h w =
     let l = length-take-le at out h in
     let whole : out₁ ≡ new
     = w
-    ∙ put-stored (take at out) new (omega arith)
+    ∙ atFront-stored (take at out) new (omega arith)
     ∙ ap (λ r. new ++ r) (drop-of-length-le (take at out) {i = length new} (omega arith))
     ∙ append-nil new in
     λ i. whole i ++ drop (e i) out
@@ -78,13 +78,13 @@ part-put new out out₁ at e h w =
 taken : (new buf buf′ : List ℕ) (n : ℕ) → n ≡ length new → n ≤ length buf → buf′ ≡ sets buf 0 new → take n buf′ ≡ new
 taken new buf buf′ n e h w =
     (λ i. take (e i) (w i))
-    ∙ ap (take (length new)) (put-stored buf new (omega arith))
+    ∙ ap (take (length new)) (atFront-stored buf new (omega arith))
     ∙ take-append-seam new (drop (length new) buf)
 
 -- ---- a document measured from its first block on
 
-abbrev pub document : {rules index rows text : List ℕ} {n : ℕ} → Document rules index rows text n → LaTeXMode → Walk
-document w m = walk (blocksIn m (w .rs)) startCarry 1 (listed (w .blocks))
+abbrev pub documentWalk : {rules index rows text : List ℕ} {n : ℕ} → Document rules index rows text n → LaTeXMode → Walk
+documentWalk w m = walk (blocksIn m (w .rs)) startCarry 1 (listed (w .blocks))
 
 -- the pass stood before the first block, and came from there to the document's walk
 pub record DraftPassed {rules index rows text : List ℕ} {n : ℕ} (w : Document rules index rows text n) (m : LaTeXMode) (from r : Standing)
@@ -92,28 +92,28 @@ pub record DraftPassed {rules index rows text : List ℕ} {n : ℕ} (w : Documen
   pub converter : Converter
   pub stood : Stood (w .blocks) rows text 0 0 converter from
   pub carried : Carried (newOf m) startCarry converter
-  pub came : Came from r (document w m)
+  pub came : Came from r (documentWalk w m)
 
 module _ {rules index rows text : List ℕ} {n : ℕ} (w : Document rules index rows text n) where
-  pub passed :
+  pub draft-passed :
       {m : LaTeXMode} {c : Converter} {from r : Standing} → Stood (w .blocks) rows text 0 0 c from → Carried (newOf m) startCarry c
       → Measures rules index rows text from n false [] r → DraftPassed w m from r
-  passed {c = c} {from} {r} st car me =
+  draft-passed {c = c} {from} {r} st car me =
       record {
         converter = c;
         stood = st;
         carried = car;
         came = subst (Came from r) (begins-as w st car (omega arith) (omega arith) false [])
-            (me (begin w st car (omega arith) (omega arith)));
+            (me (blocks-begin w st car (omega arith) (omega arith)));
       }
 
   module _ {m : LaTeXMode} {from r : Standing} (p : DraftPassed w m from r) (out ledger : List ℕ) where
     pub settled-refused :
-        (r .walked .refusal ≡ 0 → ⊥) → Gives (settle (document w m) out ledger) (refused (r .walked .refusal) (r .walked .row)) out ledger
+        (r .walked .refusal ≡ 0 → ⊥) → Gives (settle (documentWalk w m) out ledger) (refused (r .walked .refusal) (r .walked .row)) out ledger
     settled-refused z = settle-stopped out ledger (came-refused (p .came) z)
 
     module _ (well : r .walked .refusal ≡ 0) where
-      abbrev measured : Came-to from r (document w m)
+      abbrev measured : Came-to from r (documentWalk w m)
       measured = came-pieces (p .came) well
 
       walked : WalkedBlocks (blocksIn m (w .rs)) startCarry (listed (w .blocks)) (measured .ps)
@@ -132,7 +132,7 @@ module _ {rules index rows text : List ℕ} {n : ℕ} (w : Document rules index 
             let e : r .walked .at ≡ min cap l = omega (arith, measured .place, p .stood .went .next) in
             is ∙ (λ i. room-for (r .walked .at) l (length out) e i && leb (rowSize * sym many i) (length ledger))
 
-        pub settled-no-room : b ≡ false → Gives (settle (document w m) out ledger) (refused 15 0) out ledger
+        pub settled-no-room : b ≡ false → Gives (settle (documentWalk w m) out ledger) (refused 15 0) out ledger
         settled-no-room e = settle-full out ledger (measured .are) (sym room-is ∙ e)
 
         -- there is room
@@ -151,7 +151,7 @@ module _ {rules index rows text : List ℕ} {n : ℕ} (w : Document rules index 
           pieced l h =
               let s = p .stood in
               record {
-                given = begin w s (p .carried) (omega arith) (omega arith) .given;
+                given = blocks-begin w s (p .carried) (omega arith) (omega arith) .given;
                 ps = measured .ps;
                 gives = walk-gives _ false _ _ _ [] _ (begins-as w s (p .carried) (omega arith) (omega arith) false [] ∙ measured .are);
                 many = omega (arith, s .block, many);
@@ -199,7 +199,7 @@ module _ {rules index rows text : List ℕ} {n : ℕ} (w : Document rules index 
             pub settled-done :
                 (out₁ ledger′ : List ℕ)
                 → Delivers rules index rows text from n text₁ rows₁ (take (r .walked .at) out) ledger out₁ ledger′
-                → Gives (settle (document w m) out ledger) (converted (r .walked .at) n) (out₁ ++ drop (r .walked .at) out) ledger′
+                → Gives (settle (documentWalk w m) out ledger) (converted (r .walked .at) n) (out₁ ++ drop (r .walked .at) out) ledger′
             settled-done out₁ ledger′ delivers =
                 let x = delivers draft in
                 let ps = measured .ps in
@@ -208,4 +208,4 @@ module _ {rules index rows text : List ℕ} {n : ℕ} (w : Document rules index 
                 (part-put (written ps) out out₁ at exact (omega (arith, settled-within)) (x .text ∙ text-first (take at out)))
                 (x .rows
                 ∙ rows-first ledger
-                ∙ put-stored ledger (encodeRows (rowsFrom 0 ps)) (omega (arith, fit .1, many, rows-long)))
+                ∙ atFront-stored ledger (encodeRows (rowsFrom 0 ps)) (omega (arith, fit .1, many, rows-long)))

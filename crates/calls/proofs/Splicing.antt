@@ -46,9 +46,9 @@ front-stored l vs i k h h′ =
     ∙ ap (λ x. sets x i vs) (take-append-drop k l)
 
 -- zeros stored one after the other
-pub zeros-next : (l : List ℕ) {l′ : List ℕ} (from i : ℕ) → from ≤ i → l′ ≡ sets l from (replicate (i - from) 0)
+pub cleared-next : (l : List ℕ) {l′ : List ℕ} (from i : ℕ) → from ≤ i → l′ ≡ sets l from (replicate (i - from) 0)
     → set l′ i 0 ≡ sets l from (replicate (i + 1 - from) 0)
-zeros-next l from i h e =
+cleared-next l from i h e =
     let z : List ℕ = replicate (i - from) 0 in
     let k : i ≡ from + length z = omega (arith, length-replicate {A = ℕ} (i - from) 0) in
     let n : i - from + 1 ≡ i + 1 - from = omega arith in
@@ -57,13 +57,13 @@ zeros-next l from i h e =
     ∙ ap (sets l from) (replicate-append-replicate (i - from) 1 0)
     ∙ ap (λ m. sets l from (replicate m 0)) n
 
-pub zeros-none : (l : List ℕ) (from : ℕ) → l ≡ sets l from (replicate (from - from) 0)
-zeros-none l from = let z : 0 ≡ from - from = omega arith in ap (λ k. sets l from (replicate k 0)) z
+pub cleared-none : (l : List ℕ) (from : ℕ) → l ≡ sets l from (replicate (from - from) 0)
+cleared-none l from = let z : 0 ≡ from - from = omega arith in ap (λ k. sets l from (replicate k 0)) z
 
-pub zeros-all :
+pub cleared-all :
     (l : List ℕ) (from i to : ℕ) → i - from ≤ to - from → to ≤ i
     → sets l from (replicate (i - from) 0) ≡ sets l from (replicate (to - from) 0)
-zeros-all l from i to h k = let z : i - from ≡ to - from = omega arith in ap (λ n. sets l from (replicate n 0)) z
+cleared-all l from i to h k = let z : i - from ≡ to - from = omega arith in ap (λ n. sets l from (replicate n 0)) z
 
 -- ---- the growth: the difference of two numbers below 2 to the power of 63
 

@@ -1,5 +1,5 @@
 -- What Convert and Edit begin with: `stand_at` may be called, the pass that stands before block k of a document is given all blocks that
--- are left (`begin`), and its walk is that of the document from block k on (`begins-as`).
+-- are left (`blocks-begin`), and its walk is that of the document from block k on (`begins-as`).
 use mathlib.Core.Path.{_≡_, ap, _∙_}
 use mathlib.Core.Bool.{Bool}
 use mathlib.Core.List.{List}
@@ -46,8 +46,8 @@ module _ {rules index rows text : List ℕ} {n : ℕ} (w : Document rules index 
     pub count-left : k ≤ n → k + length (listed (st .left)) ≡ n
     count-left h = omega (arith, ap length (st .are), length-drop k (listed (w .blocks)), listed-count (w .blocks), w .many)
 
-    abbrev pub begin : at ≤ cap → k ≤ n → BlocksUpTo rules index rows text from n
-    begin low h =
+    abbrev pub blocks-begin : at ≤ cap → k ≤ n → BlocksUpTo rules index rows text from n
+    blocks-begin low h =
         record {
           given = record {
             rs = w .rs;
@@ -68,7 +68,7 @@ module _ {rules index rows text : List ℕ} {n : ℕ} (w : Document rules index 
 
     pub begins-as :
         (low : at ≤ cap) (h : k ≤ n) (edits : Bool) (ds : List Carry)
-        → walkBy (converterOf (begin low h .given)) edits (carryOf (from .walked .converter)) (rowNo from) (listed (st .left)) ds
+        → walkBy (converterOf (blocks-begin low h .given)) edits (carryOf (from .walked .converter)) (rowNo from) (listed (st .left)) ds
         ≡ walkBy (blocksIn m (w .rs)) edits d (1 + rowsAll size (take k (listed (w .blocks)))) (drop k (listed (w .blocks))) ds
     begins-as low h edits ds =
         let e = st .went .gives in

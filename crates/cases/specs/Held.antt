@@ -1,16 +1,16 @@
 -- What a case holds of the input: its parts lie in it, and its buffers have room.
 use Prim.Native.Nat.{ℕ, _≤_}
-use Rattle.cases.specs.declared.Part.{Part}
+use Rattle.cases.specs.declared.InputPart.{InputPart}
 use Rattle.cases.specs.declared.Case.{Case}
 
 -- a part of n bytes
-abbrev pub Within : ℕ → Part → Type 0
+abbrev pub Within : ℕ → InputPart → Type 0
 Within n p = (p .from ≤ p .to) × (p .to ≤ n)
 
 -- how long a buffer can be
 abbrev pub bufferMost : ℕ
 bufferMost = 65536
 
-abbrev pub Held : ℕ → Case → Type 0
-Held n c =
+abbrev pub CaseHeld : ℕ → Case → Type 0
+CaseHeld n c =
     Within n (c .name) × Within n (c .rules) × Within n (c .tree) × (c .«text_size» ≤ bufferMost) × (c .«ledger_size» ≤ bufferMost)

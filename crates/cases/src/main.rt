@@ -5,7 +5,7 @@ ghost use mathlib.Core.Path.{_≡_};
 ghost use Prim.Native.Nat.{_+_, _≤_};
 ghost use lib.ListN.{length};
 ghost use Rattle.io.specs.Counts.{Counts};
-ghost use Rattle.cases.specs.Held.{bufferMost, Within, Held};
+ghost use Rattle.cases.specs.Held.{bufferMost, Within, CaseHeld};
 use calls::Converted;
 use calls::Edited;
 use libc::STDIN_FILENO;
@@ -51,16 +51,16 @@ const CASE_MOST: usize = 262144;
 const CASES_MOST: usize = 100000;
 
 // A part of the input.
-pub struct Part {
+pub struct InputPart {
     pub from: usize,
     pub to: usize,
 }
 
 // Where the name and the files of a case lie, how long its buffers are, its calls so far and how often it failed.
 pub struct Case {
-    pub name: Part,
-    pub rules: Part,
-    pub tree: Part,
+    pub name: InputPart,
+    pub rules: InputPart,
+    pub tree: InputPart,
     pub text_size: usize,
     pub ledger_size: usize,
     pub calls: usize,
@@ -76,7 +76,7 @@ pub struct Tally {
 }
 
 // A refusal's number and row; or 0, the text's length, its growth and a count of blocks.
-pub struct Answer {
+pub struct Reply {
     pub number: usize,
     pub first: usize,
     pub growth: i64,
@@ -118,15 +118,15 @@ fn take_over(from: &[u8], to: &mut [u8; BUFFER], n: usize) {
 
 // ---- a call
 
-fn converted(answer: Converted) -> Answer {
+fn converted(answer: Converted) -> Reply {
     match answer {
-        Converted::Refused { number, row } => Answer {
+        Converted::Refused { number, row } => Reply {
             number: text::wide(number),
             first: row,
             growth: 0,
             count: 0,
         },
-        Converted::Done { length, blocks } => Answer {
+        Converted::Done { length, blocks } => Reply {
             number: 0,
             first: length,
             growth: 0,
@@ -135,9 +135,9 @@ fn converted(answer: Converted) -> Answer {
     }
 }
 
-fn edited(answer: Edited) -> Answer {
+fn edited(answer: Edited) -> Reply {
     match answer {
-        Edited::Refused { number, row } => Answer {
+        Edited::Refused { number, row } => Reply {
             number: text::wide(number),
             first: row,
             growth: 0,
@@ -147,7 +147,7 @@ fn edited(answer: Edited) -> Answer {
             length,
             growth,
             count,
-        } => Answer {
+        } => Reply {
             number: 0,
             first: length,
             growth,
@@ -157,7 +157,7 @@ fn edited(answer: Edited) -> Answer {
 }
 
 // Whether two answers are the same.
-fn same_answer(a: Answer, b: Answer) -> bool {
+fn same_reply(a: Reply, b: Reply) -> bool {
     if a.number != b.number {
         return false;
     }
@@ -180,10 +180,10 @@ fn growth_at(input: &[u8], at: usize) -> i64
 }
 
 // The answer that is due.
-fn due(input: &[u8], at: usize) -> Answer
+fn due(input: &[u8], at: usize) -> Reply
     requires { ⌜ at + 40 ≤ length (now input) ⌝ }
 {
-    Answer {
+    Reply {
         number: text::read_u32(input, at + 16),
         first: text::read_u32(input, at + 20),
         growth: growth_at(input, at + 24),
@@ -192,8 +192,8 @@ fn due(input: &[u8], at: usize) -> Answer
 }
 
 // Makes a call on a case's files and buffers.
-fn ask(input: &[u8], at: usize, c: Case, text: &mut [u8], ledger: &mut [u8]) -> Answer
-    requires { ⌜ (at + 40 ≤ length (now input)) × Held (length (now input)) c ⌝ }
+fn ask(input: &[u8], at: usize, c: Case, text: &mut [u8], ledger: &mut [u8]) -> Reply
+    requires { ⌜ (at + 40 ≤ length (now input)) × CaseHeld (length (now input)) c ⌝ }
     requires { ⌜ (length (now text) ≡ bufferMost) × (length (now ledger) ≡ bufferMost) ⌝ }
 {
     let r = c.rules;
@@ -239,11 +239,11 @@ fn passes(
     text_due: &[u8; BUFFER],
     ledger_due: &mut [u8; BUFFER],
 ) -> bool
-    requires { ⌜ (at + 40 ≤ length (now input)) × Held (length (now input)) c ⌝ }
+    requires { ⌜ (at + 40 ≤ length (now input)) × CaseHeld (length (now input)) c ⌝ }
 {
     let a = ask(input, at, c, text, ledger);
     take_over(ledger, ledger_due, text::read_u32(input, at + 36));
-    if !same_answer(a, due(input, at)) {
+    if !same_reply(a, due(input, at)) {
         return false;
     }
     if !text::same(text, text_due) {
@@ -264,8 +264,8 @@ fn print_failure(name: &[u8], call: usize) {
 
 // A case that failed once more.
 fn fails(input: &[u8], c: Case) -> Case
-    requires { ⌜ Held (length (now input)) c ⌝ }
-    ensures { λ r. ⌜ Held (length (now (input .entry))) r ⌝ }
+    requires { ⌜ CaseHeld (length (now input)) c ⌝ }
+    ensures { λ r. ⌜ CaseHeld (length (now (input .entry))) r ⌝ }
 {
     let n = c.name;
     let from = n.from;
@@ -277,9 +277,9 @@ fn fails(input: &[u8], c: Case) -> Case
 }
 
 // The sizes that a part names, if there are such buffers.
-fn sized(input: &[u8], part: Part, c: Case) -> Case
-    requires { ⌜ Within (length (now input)) part × Held (length (now input)) c ⌝ }
-    ensures { λ r. ⌜ Held (length (now (input .entry))) r ⌝ }
+fn sized(input: &[u8], part: InputPart, c: Case) -> Case
+    requires { ⌜ Within (length (now input)) part × CaseHeld (length (now input)) c ⌝ }
+    ensures { λ r. ⌜ CaseHeld (length (now (input .entry))) r ⌝ }
 {
     let from = part.from;
     if part.to - from < 8 {
@@ -300,9 +300,9 @@ fn sized(input: &[u8], part: Part, c: Case) -> Case
 }
 
 // A part that says something of the case.
-fn told(input: &[u8], tag: u8, part: Part, c: Case) -> Case
-    requires { ⌜ Within (length (now input)) part × Held (length (now input)) c ⌝ }
-    ensures { λ r. ⌜ Held (length (now (input .entry))) r ⌝ }
+fn told(input: &[u8], tag: u8, part: InputPart, c: Case) -> Case
+    requires { ⌜ Within (length (now input)) part × CaseHeld (length (now input)) c ⌝ }
+    ensures { λ r. ⌜ CaseHeld (length (now (input .entry))) r ⌝ }
 {
     let mut d = c;
     if tag == NAME {
@@ -358,18 +358,18 @@ fn lay(
 }
 
 // A part in turn: what it says, what it lays down, and the call that it is.
-fn turn(
+fn take_part(
     input: &[u8],
     tag: u8,
-    part: Part,
+    part: InputPart,
     c: Case,
     text: &mut [u8; BUFFER],
     ledger: &mut [u8; BUFFER],
     text_due: &mut [u8; BUFFER],
     ledger_due: &mut [u8; BUFFER],
 ) -> Case
-    requires { ⌜ Within (length (now input)) part × Held (length (now input)) c ⌝ }
-    ensures { λ r. ⌜ Held (length (now (input .entry))) r ⌝ }
+    requires { ⌜ Within (length (now input)) part × CaseHeld (length (now input)) c ⌝ }
+    ensures { λ r. ⌜ CaseHeld (length (now (input .entry))) r ⌝ }
 {
     let from = part.from;
     let to = part.to;
@@ -393,7 +393,7 @@ fn replay(input: &[u8]) -> Case {
     let mut ledger = io::large_buffer();
     let mut text_due = io::large_buffer();
     let mut ledger_due = io::large_buffer();
-    let nothing = Part { from: 0, to: 0 };
+    let nothing = InputPart { from: 0, to: 0 };
     let mut c = Case {
         name: nothing,
         rules: nothing,
@@ -414,8 +414,8 @@ fn replay(input: &[u8]) -> Case {
             return fails(input, c);
         }
         let to = from + n;
-        let part = Part { from, to };
-        c = turn(
+        let part = InputPart { from, to };
+        c = take_part(
             input,
             input[i],
             part,

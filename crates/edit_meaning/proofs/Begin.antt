@@ -13,15 +13,15 @@ use Rattle.ledger.specs.Ledger.{rowSize, encodeRows, Piece, written, rowsFrom}
 use Rattle.edit_meaning.specs.Walk.{CheckedFile, BlockConverter, KeepsShort, Walk}
 use Rattle.edit_meaning.specs.Walk.CheckedFile.{bad, good}
 use Rattle.edit_meaning.specs.Walk.Walk.{stopped, pieces}
-use Rattle.edit_meaning.specs.Edit.{textMost, room, put, settle, conversion, convertDocument}
+use Rattle.edit_meaning.specs.Edit.{textMost, room, atFront, settle, conversion, convertDocument}
 use Rattle.edit_meaning.specs.Edit.Answer.{refused, converted}
 use Rattle.edit_meaning.specs.Run.{Kept, Holds}
 use Rattle.edit_meaning.specs.Calls.{Converts}
 use Rattle.edit_meaning.proofs.Walks.{WalkedBlocks, walk-walked}
-use Rattle.edit_meaning.proofs.Holding.{room-says, rows-length, holding, walked-encodable, StandsIn, stands-encodable, stands-accepted, stands-holds, Found, held-found}
+use Rattle.edit_meaning.proofs.Holding.{room-says, rows-length, holding, walked-encodable, StandsIn, stands-encodable, stands-accepted, stands-holds, HoldsPieces, holds-pieces}
 
-put-length : (new l : List ℕ) → length new ≤ length l → length (put new l) ≡ length l
-put-length new l h = simp (length-append, length-drop) (omega arith)
+atFront-length : (new l : List ℕ) → length new ≤ length l → length (atFront new l) ≡ length l
+atFront-length new l h = simp (length-append, length-drop) (omega arith)
 
 module _ (𝓒 : BlockConverter) (keeps-short : KeepsShort 𝓒) (tree t l : List ℕ) (size blocks : ℕ) where
   open BlockConverter 𝓒 using (Block, check)
@@ -41,7 +41,7 @@ module _ (𝓒 : BlockConverter) (keeps-short : KeepsShort 𝓒) (tree t l : Lis
       let fit : (length (written ps) ≤ min (length t) textMost) × (rowSize * length ps ≤ length l) = room-says (length t) (length l) ps r in
       let w : WalkedBlocks 𝓒 startCarry bs ps = walk-walked 𝓒 bs startCarry 1 ps (rw ch at c) in
       let n : length (encodeRows (rowsFrom 0 ps)) ≡ rowSize * length ps = rows-length ps (walked-encodable 𝓒 keeps-short w (omega arith)) in
-      (rw (c, r) (put-length (written ps) t (omega arith)), rw (c, r) (put-length (encodeRows (rowsFrom 0 ps)) l (omega arith)))
+      (rw (c, r) (atFront-length (written ps) t (omega arith)), rw (c, r) (atFront-length (encodeRows (rowsFrom 0 ps)) l (omega arith)))
 
   by-walk :
       (bs : List Block) → check tree ≡ good bs → (w : Walk) → conversion 𝓒 tree ≡ w → (convertDocument 𝓒 tree t l) .answer ≡ converted size blocks
@@ -77,8 +77,8 @@ module _ (𝓒 : BlockConverter) (keeps-short : KeepsShort 𝓒) (tree t l : Lis
 
   module _ {text₁ ledger₁ : List ℕ} (g : Converts 𝓒 tree t l (converted size blocks) text₁ ledger₁) (text ledger : List ℕ)
       (same-text : take size text ≡ take size text₁) (same-rows : take (rowSize * blocks) ledger ≡ take (rowSize * blocks) ledger₁) where
-    there : Found 𝓒 keeps-short t l tree (record { text = text₁; ledger = ledger₁; size = size })
-    there = held-found 𝓒 keeps-short t l tree (record { text = text₁; ledger = ledger₁; size = size }) (converts-holds g)
+    there : HoldsPieces 𝓒 keeps-short t l tree (record { text = text₁; ledger = ledger₁; size = size })
+    there = holds-pieces 𝓒 keeps-short t l tree (record { text = text₁; ledger = ledger₁; size = size }) (converts-holds g)
 
     abbrev ps : List Piece
     ps = there .ps

@@ -12,7 +12,7 @@ use Rattle.ledger.proofs.Rows.{AllEncodable, encodeRows-length, rowsFrom-length
 use Rattle.ledger.proofs.Fitting.{row-later}
 use Rattle.ledger.proofs.Writing.{sets-front, sets-drop}
 use Rattle.ledger.proofs.Moving.{moveRows-length}
-use Rattle.edit_meaning.specs.Edit.{put, noRow, endBefore, carryBefore, rowCarries, textAfter, ledgerAfter}
+use Rattle.edit_meaning.specs.Edit.{atFront, noRow, endBefore, carryBefore, rowCarries, textAfter, ledgerAfter}
 
 -- ---- reading rows
 
@@ -37,8 +37,8 @@ rowCarries-at (suc n) (suc k) l h =
 
 -- ---- writing
 
-pub put-stored : (l new : List ℕ) → length new ≤ length l → sets l 0 new ≡ put new l
-put-stored l new h = sets-front l new h
+pub atFront-stored : (l new : List ℕ) → length new ≤ length l → sets l 0 new ≡ atFront new l
+atFront-stored l new h = sets-front l new h
 
 module _ (from old kept : ℕ) (again text : List ℕ) (h₁ : from ≤ old) (h₂ : old ≤ kept) (h₃ : kept ≤ length text) where
   abbrev now : ℕ

@@ -14,7 +14,7 @@ use Rattle.edit_meaning.specs.Edit.{Answer, convertDocument}
 use Rattle.edit_meaning.specs.Edit.Answer.{refused, converted, edited}
 use Rattle.edit_meaning.specs.Run.{Edit, Kept, lacks, piecesOf, editAnswer, lengthOf, carriesFrom, demanded, Permitted, Holds}
 use Rattle.edit_meaning.proofs.Walks.{walked-length}
-use Rattle.edit_meaning.proofs.Holding.{StandsIn, stands-conversion, held-found}
+use Rattle.edit_meaning.proofs.Holding.{StandsIn, stands-conversion, holds-pieces}
 use Rattle.edit_meaning.proofs.Begin.{converted-holds}
 use Rattle.edit_meaning.proofs.Count.{countTo-first}
 
@@ -23,7 +23,7 @@ carries-length [] = refl
 carries-length (p ∷ ps) = ap suc (carries-length ps)
 
 -- an accepted edit: the tree has the block, its conversion is accepted, and the count is the one that was worked out
-record Accepted (b : Bool) (a : Answer) (count n : ℕ) : Type 0 where
+record AcceptedEdit (b : Bool) (a : Answer) (count n : ℕ) : Type 0 where
   has : b ≡ false
   len : ℕ
   blocks : ℕ
@@ -32,7 +32,7 @@ record Accepted (b : Bool) (a : Answer) (count n : ℕ) : Type 0 where
 
 accepted-says :
     (b : Bool) (a : Answer) (old count : ℕ) {len : ℕ} {g : ℤ} {n : ℕ} → cond b (refused 6 0) (editAnswer a old count) ≡ edited len g n
-    → Accepted b a count n
+    → AcceptedEdit b a count n
 accepted-says true a old count e = let z : _≡_ {A = ℕ} 0 1 = cc in absurd (omega arith)
 accepted-says false (refused m i) old count e = let z : _≡_ {A = ℕ} 0 1 = cc in absurd (omega arith)
 accepted-says false (converted len m) old count e = record { has = refl; len = len; blocks = m; is = refl; counts = cc }
@@ -50,8 +50,8 @@ module _ (𝓒 : BlockConverter) (keeps-short : KeepsShort 𝓒) (t l old : List
       lacks (check (e .tree)) k ≡ false → {len blocks : ℕ} → (convertDocument 𝓒 (e .tree) t l) .answer ≡ converted len blocks
       → length (carriesFrom 𝓒 k (e .tree)) ≡ length (carriesFrom 𝓒 k old)
   as-many has {len} {blocks} is =
-      let a = held-found 𝓒 keeps-short t l old s ho .stands in
-      let b = held-found 𝓒 keeps-short t l (e .tree) _ (converted-holds 𝓒 keeps-short (e .tree) t l len blocks is) .stands in
+      let a = holds-pieces 𝓒 keeps-short t l old s ho .stands in
+      let b = holds-pieces 𝓒 keeps-short t l (e .tree) _ (converted-holds 𝓒 keeps-short (e .tree) t l len blocks is) .stands in
       let here : k < length (b .blocks)
       = ltb-true k (length (b .blocks)) (not-false _ (ap (λ x. lacks x k) (sym (b .checked)) ∙ has)) in
       let same = permitted (a .blocks) (b .blocks) (a .checked) (b .checked) here .count in

@@ -17,13 +17,13 @@ use Rattle.ledger.proofs.Rows.{AllEncodable, decodeRows-encode, rowsFrom-length
 use Rattle.edit_meaning.specs.Walk.{CheckedFile, BlockConverter, KeepsShort, Walk, carries, carryAfter, rowsAll, walkUntil, countTo}
 use Rattle.edit_meaning.specs.Walk.CheckedFile.{bad, good}
 use Rattle.edit_meaning.specs.Walk.Walk.{stopped, pieces}
-use Rattle.edit_meaning.specs.Edit.{Result, unchanged, textMost, roomForText, room, put, settle, conversion, convertDocument, editFits, carryBefore, rowCarries, write, writeOr, again, edit}
+use Rattle.edit_meaning.specs.Edit.{Result, unchanged, textMost, roomForText, room, atFront, settle, conversion, convertDocument, editFits, carryBefore, rowCarries, write, writeOr, again, edit}
 use Rattle.edit_meaning.specs.Edit.Answer.{refused, converted, edited}
 use Rattle.edit_meaning.specs.Run.{Edit, Kept, leaves, callEdit, run, lacks, piecesOf, editAnswer, documentAfter}
 use Rattle.edit_meaning.specs.Run.{demanded, documentNext, reference, OnlyAt, Permitted, Allowed, Holds, tailMoved, TailsMoved, Demand3}
 use Rattle.edit_meaning.proofs.Walks.{ontoAll, ontoAll-pieces, ontoAll-stopped, finish, WalkedBlocks, walk-walked, walked-length, walkUntil-until, walk-edited, Until, until-within, until-count}
 use Rattle.edit_meaning.proofs.Splice.{carryBefore-rows, write-spliced, tail, tail-length, text-after}
-use Rattle.edit_meaning.proofs.Holding.{holding, walked-encodable, rows-length, StandsIn, stands-conversion, stands-encodable, stands-holds, Found, held-found}
+use Rattle.edit_meaning.proofs.Holding.{holding, walked-encodable, rows-length, StandsIn, stands-conversion, stands-encodable, stands-holds, HoldsPieces, holds-pieces}
 
 rowCarries-rows : (at : ℕ) (k : ℕ) (ps : List Piece) → rowCarries (drop k (rowsFrom at ps)) ≡ carries (drop k ps)
 rowCarries-rows at zero [] = refl
@@ -53,7 +53,7 @@ module _ (𝓒 : BlockConverter) (keeps-short : KeepsShort 𝓒) where
 
   module _ (t l : List ℕ) where
     -- what one edit comes to
-    record Stepped (tree : List ℕ) (ps : List Piece) (rest l₂ : List ℕ) (e : Edit) : Type 0 where
+    record EditStepped (tree : List ℕ) (ps : List Piece) (rest l₂ : List ℕ) (e : Edit) : Type 0 where
       answer : (callEdit 𝓒 (holding ps rest l₂) e) .answer ≡ demanded 𝓒 t l tree e
       ps′ : List Piece
       rest′ : List ℕ
@@ -75,7 +75,7 @@ module _ (𝓒 : BlockConverter) (keeps-short : KeepsShort 𝓒) where
           (R : Result) → callEdit 𝓒 (holding ps rest l₂) e ≡ R → demanded 𝓒 t l tree e ≡ R .answer → (ps′ : List Piece) (rest′ : List ℕ)
           → leaves R (length (written ps)) ≡ holding ps′ rest′ l₂
           → StandsIn 𝓒 keeps-short t l (documentAfter (R .answer) tree (e .tree)) ps′ rest′ l₂
-          → tailMoved (R .answer) (e .block) (holding ps rest l₂) (leaves R (length (written ps))) → Stepped tree ps rest l₂ e
+          → tailMoved (R .answer) (e .block) (holding ps rest l₂) (leaves R (length (written ps))) → EditStepped tree ps rest l₂ e
       settled R r d ps′ rest′ f s m =
           record {
             answer = ap (λ x. x .answer) r ∙ sym d;
@@ -89,7 +89,7 @@ module _ (𝓒 : BlockConverter) (keeps-short : KeepsShort 𝓒) where
       -- a refusal leaves the document
       stays :
           (n i : ℕ) → callEdit 𝓒 (holding ps rest l₂) e ≡ unchanged n i (written ps ++ rest) (encodeRows (rowsFrom 0 ps) ++ l₂)
-          → demanded 𝓒 t l tree e ≡ refused n i → Stepped tree ps rest l₂ e
+          → demanded 𝓒 t l tree e ≡ refused n i → EditStepped tree ps rest l₂ e
       stays n i r d = settled (unchanged n i (written ps ++ rest) (encodeRows (rowsFrom 0 ps) ++ l₂)) r d ps rest refl st tt
 
       ok : AllEncodable (rowsFrom 0 ps)
@@ -211,8 +211,8 @@ module _ (𝓒 : BlockConverter) (keeps-short : KeepsShort 𝓒) where
                   ((cond b
                   (record {
                     answer = converted (length (written new)) (length new);
-                    text = put (written new) t;
-                    ledger = put (encodeRows (rowsFrom 0 new)) l;
+                    text = atFront (written new) t;
+                    ledger = atFront (encodeRows (rowsFrom 0 new)) l;
                   })
                   (unchanged 15 0 t l)) .answer) (length (written ps)) (length qs)
                   ≡ cond b (result .answer) (refused 15 0)
@@ -223,7 +223,7 @@ module _ (𝓒 : BlockConverter) (keeps-short : KeepsShort 𝓒) where
           unfolding roomForText
           room-within r = leb-true (length (written new)) (min (length t) textMost) r
 
-          accepted : roomForText (length (written new)) (length t) ≡ true → Stepped tree ps rest l₂ e
+          accepted : roomForText (length (written new)) (length t) ≡ true → EditStepped tree ps rest l₂ e
           accepted r =
               let n : length (written new) ≤ min (length t) textMost = room-within r in
               let ok′ : AllEncodable (rowsFrom 0 new) = walked-encodable 𝓒 keeps-short walked-new (omega arith) in
@@ -248,11 +248,11 @@ module _ (𝓒 : BlockConverter) (keeps-short : KeepsShort 𝓒) where
               (rw (append-assoc a qs z) at (text-after (a ++ qs) z (e .block + length qs) now (rw append-assoc ok′) (tail a m z qs rest (length (written new))) l₂)
               ∙ sym (rw (append-assoc a m z, parts) at (text-after (a ++ m) z (e .block + length qs) was (rw (append-assoc, parts) ok) rest l₂)))
 
-          room-step : (b : Bool) → roomForText (length (written new)) (length t) ≡ b → Stepped tree ps rest l₂ e
+          room-step : (b : Bool) → roomForText (length (written new)) (length t) ≡ b → EditStepped tree ps rest l₂ e
           room-step true r = accepted r
           room-step false r = stays 15 0 (edit-result false r) (demanded-new false r)
 
-        until-step : (w : Walk) → until ≡ w → Stepped tree ps rest l₂ e
+        until-step : (w : Walk) → until ≡ w → EditStepped tree ps rest l₂ e
         unfolding settle
         until-step (stopped n i) u =
             stays n i (edit-until ∙ rw u) (demanded-by (stopped n i) false (conversion-until ∙ rw u (ontoAll-stopped (take (e .block) ps) n i)) has-block)
@@ -260,19 +260,19 @@ module _ (𝓒 : BlockConverter) (keeps-short : KeepsShort 𝓒) where
 
       block-step :
           Permitted 𝓒 t l tree e → (bs : List Block) → check (e .tree) ≡ good bs → (b : Bool) → ltb (e .block) (length bs) ≡ b
-          → Stepped tree ps rest l₂ e
+          → EditStepped tree ps rest l₂ e
       unfolding edit editFits
       block-step p bs ch true f =
           let h : e .block < length bs = ltb-true (e .block) (length bs) f in
           until-step bs ch h (p (st .blocks) bs (st .checked) ch h) (until bs ch h (p (st .blocks) bs (st .checked) ch h)) refl
       block-step p bs ch false f = stays 6 0 (rw (ch, f)) (demanded-by (conversion 𝓒 (e .tree)) true refl (rw (ch, f)))
 
-      check-step : Permitted 𝓒 t l tree e → (x : CheckedFile Block) → check (e .tree) ≡ x → Stepped tree ps rest l₂ e
+      check-step : Permitted 𝓒 t l tree e → (x : CheckedFile Block) → check (e .tree) ≡ x → EditStepped tree ps rest l₂ e
       unfolding edit conversion settle
       check-step p (bad n i) ch = stays n i (rw ch) (demanded-by (stopped n i) false (rw ch) (rw ch))
       check-step p (good bs) ch = block-step p bs ch (ltb (e .block) (length bs)) refl
 
-      step : Permitted 𝓒 t l tree e → Stepped tree ps rest l₂ e
+      step : Permitted 𝓒 t l tree e → EditStepped tree ps rest l₂ e
       step p = check-step p (check (e .tree)) refl
 
     -- what a list of edits comes to
@@ -290,7 +290,7 @@ module _ (𝓒 : BlockConverter) (keeps-short : KeepsShort 𝓒) where
     unfolding run reference Allowed TailsMoved
     ran [] tree ps rest l₂ st al = record { answers = refl; ps′ = ps; rest′ = rest; left = refl; stands = st; moved = tt }
     ran (e ∷ es) tree ps rest l₂ st al =
-        let one : Stepped tree ps rest l₂ e = step tree ps rest l₂ st e (al .0) in
+        let one : EditStepped tree ps rest l₂ e = step tree ps rest l₂ st e (al .0) in
         let s′ : Kept = leaves (callEdit 𝓒 (holding ps rest l₂) e) (length (written ps)) in
         let more : Ran (documentNext 𝓒 t l tree e) s′ l₂ es
         = subst (λ s. Ran (documentNext 𝓒 t l tree e) s l₂ es) (sym (one .left))
@@ -307,7 +307,7 @@ module _ (𝓒 : BlockConverter) (keeps-short : KeepsShort 𝓒) where
     -- from buffers that hold an accepted conversion, after every list of edits, refused ones included
     pub run-demanded : (tree : List ℕ) (s : Kept) → Holds 𝓒 t l tree s → (es : List Edit) → Allowed 𝓒 t l tree es → Demand3 𝓒 t l tree s es
     run-demanded tree s ho es al =
-        let f : Found 𝓒 keeps-short t l tree s = held-found 𝓒 keeps-short t l tree s ho in
+        let f : HoldsPieces 𝓒 keeps-short t l tree s = holds-pieces 𝓒 keeps-short t l tree s ho in
         let n : Ran tree s (f .l₂) es
         = subst (λ x. Ran tree x (f .l₂) es) (sym (f .is)) (ran es tree (f .ps) (f .rest) (f .l₂) (f .stands) al) in
         let last : List ℕ = (reference 𝓒 t l tree es) .last in

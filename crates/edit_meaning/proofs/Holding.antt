@@ -1,4 +1,4 @@
--- Buffers that hold a document, told by its pieces: from the statement's own terms (`Holds`) to these (`held-found`), and back
+-- Buffers that hold a document, told by its pieces: from the statement's own terms (`Holds`) to these (`holds-pieces`), and back
 -- (`stands-holds`).
 use mathlib.Core.Path.{_≡_, refl, sym, ap, _∙_}
 use mathlib.Core.Bool.{Bool, true, false, and-eq-true-iff}
@@ -101,7 +101,7 @@ module _ (𝓒 : BlockConverter) (keeps-short : KeepsShort 𝓒) where
           }
 
     -- buffers that hold a document are its pieces and some bytes
-    pub record Found (tree : List ℕ) (s : Kept) : Type 0 where
+    pub record HoldsPieces (tree : List ℕ) (s : Kept) : Type 0 where
       pub ps : List Piece
       pub rest : List ℕ
       pub l₂ : List ℕ
@@ -111,7 +111,7 @@ module _ (𝓒 : BlockConverter) (keeps-short : KeepsShort 𝓒) where
     module _ (tree : List ℕ) (s : Kept) (ho : Holds 𝓒 t l tree s) where
       found-room :
           (bs : List Block) (ps : List Piece) → check tree ≡ good bs → conversion 𝓒 tree ≡ pieces ps
-          → (b : Bool) → room (length t) (length l) ps ≡ b → Found tree s
+          → (b : Bool) → room (length t) (length l) ps ≡ b → HoldsPieces tree s
       unfolding convertDocument settle conversion
       found-room bs ps ch c false r =
           let x : refused 15 0 ≡ converted (s .size) (ho .blocks) = rw (c, r) at (ho .accepted) in
@@ -146,19 +146,19 @@ module _ (𝓒 : BlockConverter) (keeps-short : KeepsShort 𝓒) where
             };
           }
 
-      found-walk : (bs : List Block) → check tree ≡ good bs → (w : Walk) → conversion 𝓒 tree ≡ w → Found tree s
+      found-walk : (bs : List Block) → check tree ≡ good bs → (w : Walk) → conversion 𝓒 tree ≡ w → HoldsPieces tree s
       unfolding convertDocument settle
       found-walk bs ch (stopped n i) c =
           let x : refused n i ≡ converted (s .size) (ho .blocks) = rw c at (ho .accepted) in
           let y : _≡_ {A = ℕ} 0 1 = cc in absurd (omega arith)
       found-walk bs ch (pieces ps) c = found-room bs ps ch c (room (length t) (length l) ps) refl
 
-      found-check : (x : CheckedFile Block) → check tree ≡ x → Found tree s
+      found-check : (x : CheckedFile Block) → check tree ≡ x → HoldsPieces tree s
       unfolding convertDocument settle conversion
       found-check (bad n i) ch =
           let x : refused n i ≡ converted (s .size) (ho .blocks) = rw ch at (ho .accepted) in
           let y : _≡_ {A = ℕ} 0 1 = cc in absurd (omega arith)
       found-check (good bs) ch = found-walk bs ch (conversion 𝓒 tree) refl
 
-      pub held-found : Found tree s
-      held-found = found-check (check tree) refl
+      pub holds-pieces : HoldsPieces tree s
+      holds-pieces = found-check (check tree) refl

@@ -44,8 +44,8 @@ unfoldable pub room : ℕ → ℕ → List Piece → Bool
 room textSize ledgerSize ps = roomForText (length (written ps)) textSize && leb (rowSize * length ps) ledgerSize
 
 -- the front of a buffer overwritten
-abbrev pub put : List ℕ → List ℕ → List ℕ
-put new l = new ++ drop (length new) l
+abbrev pub atFront : List ℕ → List ℕ → List ℕ
+atFront new l = new ++ drop (length new) l
 
 -- what Convert makes of a walk: its refusal; or text and rows, where they have room; or 15
 unfoldable pub settle : Walk → List ℕ → List ℕ → Result
@@ -54,8 +54,8 @@ settle (pieces ps) text ledger =
     cond (room (length text) (length ledger) ps)
     (record {
       answer = converted (length (written ps)) (length ps);
-      text = put (written ps) text;
-      ledger = put (encodeRows (rowsFrom 0 ps)) ledger;
+      text = atFront (written ps) text;
+      ledger = atFront (encodeRows (rowsFrom 0 ps)) ledger;
     })
     (unchanged 15 0 text ledger)
 

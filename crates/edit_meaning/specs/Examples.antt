@@ -43,8 +43,8 @@ start : Kept
 start = record { text = first .text; ledger = first .ledger; size = 3 }
 
 -- the label's block is edited away, and three blocks are converted; then refused ones; a block that stands alone; the label again
-abbrev edits : List Edit
-edits =
+abbrev toyEdits : List Edit
+toyEdits =
     record { tree = 2 ∷ 5 ∷ 0 ∷ 6 ∷ []; block = 0 }
     ∷ record { tree = []; block = 0 }
     ∷ record { tree = 2 ∷ 5 ∷ 0 ∷ []; block = 3 }
@@ -53,18 +53,18 @@ edits =
     ∷ record { tree = 1 ∷ 5 ∷ 8 ∷ 6 ∷ []; block = 0 }
     ∷ []
 
-unfoldable answers : List Answer
-answers = (run toy start edits) .answers
+unfoldable toyAnswers : List Answer
+toyAnswers = (run toy start toyEdits) .answers
 
 answers-are :
     (first .answer ≡ converted 3 4)
-    × (answers ≡ edited 3 (pos 0) 3 ∷ refused 3 0 ∷ refused 6 0 ∷ refused 7 4 ∷ edited 4 (pos 1) 1 ∷ edited 3 (negsuc 0) 4 ∷ [])
-unfolding first start answers run edit convertDocument conversion settle room roomForText textAfter ledgerAfter write again editFits
+    × (toyAnswers ≡ edited 3 (pos 0) 3 ∷ refused 3 0 ∷ refused 6 0 ∷ refused 7 4 ∷ edited 4 (pos 1) 1 ∷ edited 3 (negsuc 0) 4 ∷ [])
+unfolding first start toyAnswers run edit convertDocument conversion settle room roomForText textAfter ledgerAfter write again editFits
     walk walkUntil sameCarry same encodeRow encodeCarry decodeRow allZero marksFit rowFits fits moveRow
 answers-are = (refl, refl)
 
 -- and so they are demanded, whatever the buffers hold
-answers-demanded : answers ≡ (reference toy (replicate 8 0) (replicate (rowSize * 4 + 1) 0) (1 ∷ 5 ∷ 0 ∷ 6 ∷ []) edits) .answers
-unfolding first start answers run edit convertDocument conversion settle room roomForText textAfter ledgerAfter write again editFits
+answers-demanded : toyAnswers ≡ (reference toy (replicate 8 0) (replicate (rowSize * 4 + 1) 0) (1 ∷ 5 ∷ 0 ∷ 6 ∷ []) toyEdits) .answers
+unfolding first start toyAnswers run edit convertDocument conversion settle room roomForText textAfter ledgerAfter write again editFits
     walk walkUntil sameCarry same encodeRow encodeCarry decodeRow allZero marksFit rowFits fits moveRow reference demanded
 answers-demanded = refl

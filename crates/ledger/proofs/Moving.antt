@@ -39,8 +39,8 @@ pub record RowsMoved (from old new : ℕ) (l₀ l : List ℕ) (i : ℕ) : Type 0
   pub within : rowSize * i ≤ length l₀
   pub are : l ≡ sets l₀ (rowSize * from) (moveRows (i - from) old new (drop (rowSize * from) l₀))
 
-pub moved-none : (from old new : ℕ) (l : List ℕ) → rowSize * from ≤ length l → RowsMoved from old new l l from
-moved-none from old new l h =
+pub rows-moved-none : (from old new : ℕ) (l : List ℕ) → rowSize * from ≤ length l → RowsMoved from old new l l from
+rows-moved-none from old new l h =
     let e : 0 ≡ from - from = omega arith in
     record {
       above = omega arith;
@@ -49,8 +49,8 @@ moved-none from old new l h =
     }
 
 module _ {from old new : ℕ} {l₀ l : List ℕ} {i : ℕ} (m : RowsMoved from old new l₀ l i) where
-  moved-length : rowSize * from + length (moveRows (i - from) old new (drop (rowSize * from) l₀)) ≡ rowSize * i
-  moved-length =
+  rows-moved-length : rowSize * from + length (moveRows (i - from) old new (drop (rowSize * from) l₀)) ≡ rowSize * i
+  rows-moved-length =
       let a = m .above in
       let w = m .within in
       omega (
@@ -58,26 +58,26 @@ module _ {from old new : ℕ} {l₀ l : List ℕ} {i : ℕ} (m : RowsMoved from 
         moveRows-length (i - from) old new (drop (rowSize * from) l₀) (omega (arith, length-drop (rowSize * from) l₀)),
       )
 
-  pub moved-same : length l ≡ length l₀
-  moved-same = ap length (m .are) ∙ length-sets l₀ (rowSize * from) (moveRows (i - from) old new (drop (rowSize * from) l₀))
+  pub rows-moved-same : length l ≡ length l₀
+  rows-moved-same = ap length (m .are) ∙ length-sets l₀ (rowSize * from) (moveRows (i - from) old new (drop (rowSize * from) l₀))
 
-  moved-rest : drop (rowSize * i) l ≡ drop (rowSize * i) l₀
-  moved-rest =
+  rows-moved-rest : drop (rowSize * i) l ≡ drop (rowSize * i) l₀
+  rows-moved-rest =
       let w = m .within in
       ap (drop (rowSize * i)) (m .are)
-      ∙ subst (λ n. drop n (sets l₀ (rowSize * from) (moveRows (i - from) old new (drop (rowSize * from) l₀))) ≡ drop n l₀) moved-length
-      (sets-drop (moveRows (i - from) old new (drop (rowSize * from) l₀)) l₀ (rowSize * from) (omega (arith, moved-length)))
+      ∙ subst (λ n. drop n (sets l₀ (rowSize * from) (moveRows (i - from) old new (drop (rowSize * from) l₀))) ≡ drop n l₀) rows-moved-length
+      (sets-drop (moveRows (i - from) old new (drop (rowSize * from) l₀)) l₀ (rowSize * from) (omega (arith, rows-moved-length)))
 
-  pub moved-movable : Movable i old new l₀ → Movable i old new l
-  moved-movable v =
-      let e : (rowAt i l) .end ≡ (rowAt i l₀) .end = ap (λ r. (decodeRow r) .end) moved-rest in
+  pub rows-moved-movable : Movable i old new l₀ → Movable i old new l
+  rows-moved-movable v =
+      let e : (rowAt i l) .end ≡ (rowAt i l₀) .end = ap (λ r. (decodeRow r) .end) rows-moved-rest in
       let b = v .behind in
       let s = v .small in
       record { behind = omega arith; small = omega arith }
 
-  pub moved-more : {l′ : List ℕ} → rowSize * (i + 1) ≤ length l₀ → l′ ≡ sets l (rowSize * i) (moveRow old new (drop (rowSize * i) l))
+  pub rows-moved-more : {l′ : List ℕ} → rowSize * (i + 1) ≤ length l₀ → l′ ≡ sets l (rowSize * i) (moveRow old new (drop (rowSize * i) l))
       → RowsMoved from old new l₀ l′ (i + 1)
-  moved-more {l′} h e =
+  rows-moved-more {l′} h e =
       let a = m .above in
       let k : ℕ = i - from in
       let M : List ℕ = moveRows k old new (drop (rowSize * from) l₀) in
@@ -89,8 +89,8 @@ module _ {from old new : ℕ} {l₀ l : List ℕ} {i : ℕ} (m : RowsMoved from 
         within = h;
         are =
             e
-            ∙ ap₂ (λ x y. sets x (rowSize * i) (moveRow old new y)) (m .are) moved-rest
-            ∙ ap (λ n. sets (sets l₀ (rowSize * from) M) n r) (sym moved-length)
+            ∙ ap₂ (λ x y. sets x (rowSize * i) (moveRow old new y)) (m .are) rows-moved-rest
+            ∙ ap (λ n. sets (sets l₀ (rowSize * from) M) n r) (sym rows-moved-length)
             ∙ sym (sets-append M r l₀ (rowSize * from))
             ∙ ap (λ d. sets l₀ (rowSize * from) (M ++ moveRow old new d))
             (sym (drop-drop (rowSize * k) (rowSize * from) l₀ ∙ ap (λ n. drop n l₀) j))
@@ -98,7 +98,7 @@ module _ {from old new : ℕ} {l₀ l : List ℕ} {i : ℕ} (m : RowsMoved from 
             ∙ ap (λ n. sets l₀ (rowSize * from) (moveRows n old new (drop (rowSize * from) l₀))) q;
       }
 
-  pub moved-all : (to : ℕ) → to ≤ i → i ≤ to → l ≡ sets l₀ (rowSize * from) (moveRows (to - from) old new (drop (rowSize * from) l₀))
-  moved-all to lo hi =
+  pub rows-moved-all : (to : ℕ) → to ≤ i → i ≤ to → l ≡ sets l₀ (rowSize * from) (moveRows (to - from) old new (drop (rowSize * from) l₀))
+  rows-moved-all to lo hi =
       let q : i ≡ to = omega arith in
       m .are ∙ ap (λ n. sets l₀ (rowSize * from) (moveRows (n - from) old new (drop (rowSize * from) l₀))) q

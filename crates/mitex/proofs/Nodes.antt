@@ -10,7 +10,7 @@ use Rattle.mitex_syntax.specs.Tree.{Tree, Forest, size, sizes, rowsOf, textOf}
 use Rattle.mitex_syntax.specs.Tree.Tree.{node}
 use Rattle.mitex_syntax.specs.Tree.Forest.{none, more}
 use Rattle.mitex_syntax.specs.Spells.{Sound, Spells, SpellsAll, SomeTree}
-use Rattle.mitex_syntax.proofs.Trees.{under, size-node, size-some}
+use Rattle.mitex_syntax.proofs.Trees.{spells-under, size-node, size-some}
 use Rattle.mitex_meaning.specs.Outcome.{Context, Carry, Outcome, Conv, flagged, shift}
 use Rattle.mitex_meaning.specs.Outcome.Outcome.{refused}
 use Rattle.mitex_meaning.specs.State.{contextOf, carryOf, Carried}
@@ -67,7 +67,7 @@ module _ (x : Context) (t : Tree) (c : Carry) {rows text : List ℕ} (sp : Spell
       let sp′ : Spells (node (getD rows 0 0) f) rows text = subst (λ (u : Tree). Spells u rows text) (n .1) sp in
       record {
         forest = f;
-        spells = subst (λ (r : List ℕ). SpellsAll f r text) (sym (part-rest rows 8)) (under sp′);
+        spells = subst (λ (r : List ℕ). SpellsAll f r text) (sym (part-rest rows 8)) (spells-under sp′);
         lower = l .lower;
         fits = omega (arith, ap size (n .1), size-node (getD rows 0 0) f, l .is);
         is = ap (λ (m : ℕ). convert m x t c) (l .is)
@@ -93,7 +93,7 @@ pub given-below :
 given-below {rows} {text} g e q z =
     let n = element-node (g .tree) (g .spells) e q z in
     let sp′ : Spells (node (getD rows 0 0) (n .0)) rows text = subst (λ (u : Tree). Spells u rows text) (n .1) (g .spells) in
-    record { forest = n .0; spells = subst (λ (r : List ℕ). SpellsAll (n .0) r text) (sym (part-rest rows 8)) (under sp′) }
+    record { forest = n .0; spells = subst (λ (r : List ℕ). SpellsAll (n .0) r text) (sym (part-rest rows 8)) (spells-under sp′) }
 
 -- a walk over them
 pub room-below :

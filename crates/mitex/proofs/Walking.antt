@@ -16,7 +16,7 @@ use Rattle.mitex_spec.specs.Index.{Ready, SomeRules}
 use Rattle.mitex_syntax.specs.Tree.{Tree, Forest, size, sizes, kindOf, textOf}
 use Rattle.mitex_syntax.specs.Spells.{Spells, SpellsAll, SomeTree}
 use Rattle.mitex_syntax.specs.Rows.{extentOf, tokenSum, Spans}
-use Rattle.mitex_syntax.proofs.Trees.{Element, element, all-begins, spans, kind-at, rows-e, text-n, part, part-spells, part-length, part-short, past-exact, no-left, size-more, length-rowss}
+use Rattle.mitex_syntax.proofs.Trees.{ElementAt, element, all-begins, spans, kind-at, rows-e, text-n, part, part-spells, part-length, part-short, past-exact, no-left, size-more, length-rowss}
 use Rattle.mitex_meaning.specs.Outcome.{Context, Label, Carry, Outcome, after, andThen, closing, shift, labelMost}
 use Rattle.mitex_meaning.specs.Outcome.Outcome.{done}
 use Rattle.mitex_meaning.specs.State.{contextOf, carryOf, labelOf}
@@ -129,7 +129,7 @@ module _ {rules index rows text : List ℕ} {row : ℕ} {out₀ : List ℕ} {w�
   loop-row h = omega (arith, i-eighth, length-rowss (k .spelt .forest), ap length (k .spelt .spells .rows-are))
 
   module _ (h : i < length rows) where
-    child-element : {f : Forest} → SpellsAll f (drop i rows) (drop j text) → Element f rows text i j
+    child-element : {f : Forest} → SpellsAll f (drop i rows) (drop j text) → ElementAt f rows text i j
     child-element sp = element (all-begins sp) h (k .stands .begun) (k .room .few) (k .room .short)
 
     pub child-spans : Spans rows i
@@ -187,7 +187,7 @@ module _ {rules index rows text : List ℕ} {row : ℕ} {out₀ : List ℕ} {w�
           abbrev at-head : Left (wholly rs level d₀ l₀ f) (placeOf d₀) row w₀ out₀ (remains rs level d₀ i l d) level rows text i j w out
           at-head = k .left rs ready f sp level fit
 
-          abbrev here : Element (at-head .forest) rows text i j
+          abbrev here : ElementAt (at-head .forest) rows text i j
           here = child-element (at-head .spells)
 
           smaller : size (here .tree) + sizes (here .others) ≤ level

@@ -67,15 +67,15 @@ heldModel s =
     model (inModel (textsOf (beforeBy (isOf TokenRBracket) (pastFirst s .elements))))
     (seek isSolid (pastFirst (seek (isOf TokenRBracket) (pastFirst s))))
 
-pub brackets : ModelBy bracketModel (isOf TokenLBracket) (λ s t. heldModel s)
-brackets = record { at-none = λ o. refl; at-more = λ o t f. refl }
+pub bracket-models : ModelBy bracketModel (isOf TokenLBracket) (λ s t. heldModel s)
+bracket-models = record { at-none = λ o. refl; at-more = λ o t f. refl }
 
 -- an argument in brackets, without these, and the next argument
 abbrev pub heldArgument : Rest → Tree → Model
 heldArgument s t = model (inModel (inner (textOf t))) (seek (isOf ClauseArgument) (pastFirst s))
 
-pub arguments : ModelBy firstModel (λ t. isModel (textOf t)) heldArgument
-arguments = record { at-none = λ o. refl; at-more = λ o t f. refl }
+pub argument-models : ModelBy firstModel (λ t. isModel (textOf t)) heldArgument
+argument-models = record { at-none = λ o. refl; at-more = λ o t f. refl }
 
 -- ---- where it stands
 
@@ -127,7 +127,7 @@ held-found {s = s} {behind = behind} a b c d f h k o e =
     let x = left-first (a .moved .there) h in
     let m = moved-then (moved-then (moved-then (moved-then (a .moved) (b .moved)) (c .moved)) (d .moved)) (f .moved) in
     model-found behind e
-    (held-by brackets (seek isSolid s) (x .0) (x .1 .0) (x .1 .1) (eq-eqb _ _ (sym (left-kind (a .moved .there) (x .0) (x .1 .0) (x .1 .1)) ∙ k)))
+    (held-by bracket-models (seek isSolid s) (x .0) (x .1 .0) (x .1 .1) (eq-eqb _ _ (sym (left-kind (a .moved .there) (x .0) (x .1 .0) (x .1 .1)) ∙ k)))
     (ap inModel (c .before)) (c .moved .onward) (c .moved .there .begun) (m .there) (omega (arith, m .row)) (m .fits)
 
 -- `\textcolor`: an argument that is a model, without its ends, and the next argument
@@ -165,7 +165,7 @@ argument-found {text = text} {s = s} {first = first} {next = next} {behind = beh
     let t = b .over (x .0) (x .1 .0) (x .1 .1) in
     let z = b .moved .there .begun in
     let w = model-wide (first .text) (next .text) text (b .moved .onward) z k in
-    model-found behind e (held-by arguments (seek (isOf ClauseArgument) s) (x .0) (x .1 .0) (x .1 .1) (ap isModel t ∙ k))
+    model-found behind e (held-by argument-models (seek (isOf ClauseArgument) s) (x .0) (x .1 .0) (x .1 .1) (ap isModel t ∙ k))
     (ap inModel (ap inner t ∙ inner-between (first .text) (next .text) text w z)) (omega arith) (omega arith) (m .there)
     (omega (arith, m .row)) (m .fits)
 
@@ -221,11 +221,11 @@ module _ {f : Forest} {rows text : List ℕ} (sp : SpellsAll f rows text) where
 
 -- with one, the model is found among its children
 module _ {f : Forest} {rows text : List ℕ} {a b c d : ℕ} (s : FirstAt (isOf ClauseArgument) f rows text 0 a b c d) where
-  abbrev pub argument-rest : Rest
-  argument-rest = rest (2 + offsetOf ClauseArgument f) (node-there s refl .0)
+  abbrev pub argumentRest : Rest
+  argumentRest = rest (2 + offsetOf ClauseArgument f) (node-there s refl .0)
 
   pub color-there :
-      {r : ModelPart} → ModelFound (modelIn (seek isSolid argument-rest)) (argument-rest .elements) (take b rows) (take d text) r
+      {r : ModelPart} → ModelFound (modelIn (seek isSolid argumentRest)) (argumentRest .elements) (take b rows) (take d text) r
       → ColorFound f rows text r
   color-there {r} x =
       let g = node-there s refl in

@@ -1,4 +1,4 @@
--- Scans over the children of a node: what is left after a step spells the elements after it (`passed`), and a scan that has come to
+-- Scans over the children of a node: what is left after a step spells the elements after it (`first-passed`), and a scan that has come to
 -- `now` finds from there what it finds from its start (`Scans`).
 use mathlib.Core.Path.{_≡_, refl, sym, ap, subst, _∙_}
 use mathlib.Core.Bool.{Bool, true, false, cond}
@@ -14,7 +14,7 @@ use Rattle.mitex_syntax.specs.Rows.{extentOf, tokenSum, Spans}
 use Rattle.mitex_syntax.specs.Views.{offsetBy, beforeBy, fromBy}
 use Rattle.mitex_syntax.specs.Spells.{Sound, SpellsAll, Begins, SomeForest}
 use Rattle.mitex_syntax.specs.declared.Cursor.{Cursor}
-use Rattle.mitex_syntax.proofs.Trees.{Element, element, spans, rows-e, text-n, left, no-left, length-rows, size-more, size-some}
+use Rattle.mitex_syntax.proofs.Trees.{ElementAt, element, spans, rows-e, text-n, left, no-left, length-rows, size-more, size-some}
 use Rattle.mitex_syntax.proofs.Seeking.{kind-here}
 use Rattle.mitex_meaning.specs.Colors.{Rest, rest, seek, past, pastFirst}
 use Rattle.mitex_meaning.specs.Parts.{between}
@@ -105,8 +105,8 @@ module _ {rows text tail : List ℕ} {i j : ℕ} {t : Tree} {f : Forest} (l : El
 -- ---- a step
 
 module _ {rows text tail : List ℕ} {i j : ℕ} (s : Rest) (l : ElementsLeft rows text tail i j (s .elements)) where
-  pub passed-none : length rows ≤ i → FirstPassed rows text tail i j s (record { row = i; text = j })
-  passed-none h =
+  pub first-passed-none : length rows ≤ i → FirstPassed rows text tail i j s (record { row = i; text = j })
+  first-passed-none h =
       let e = left-none l h in
       record {
         moved =
@@ -116,16 +116,16 @@ module _ {rows text tail : List ℕ} {i j : ℕ} (s : Rest) (l : ElementsLeft ro
       }
 
   module _ (h : i < length rows) (few : length rows < cap) (short : length text < cap) where
-    first : Element (s .elements) rows text i j
+    first : ElementAt (s .elements) rows text i j
     first = element (left-begins l) h (l .begun) few short
 
-    pub passed-spans : Spans rows i
-    passed-spans = spans first few short
+    pub first-passed-spans : Spans rows i
+    first-passed-spans = spans first few short
 
-    pub passed :
+    pub first-passed :
         (e n : ℕ) → e ≡ extentOf (drop i rows) → n ≡ tokenSum (take (extentOf (drop i rows)) (drop i rows))
         → FirstPassed rows text tail i j s (record { row = i + e; text = j + n })
-    passed e n is-e is-n =
+    first-passed e n is-e is-n =
         let t = first .tree in
         let g = first .others in
         let q : s .elements ≡ more t g = first .is in
@@ -149,8 +149,8 @@ module _ {rows text tail : List ℕ} {i j : ℕ} (s : Rest) (l : ElementsLeft ro
         }
 
     -- a step goes on
-    pub passed-far : (at : Cursor) → FirstPassed rows text tail i j s at → i < at .row
-    passed-far at w =
+    pub first-passed-far : (at : Cursor) → FirstPassed rows text tail i j s at → i < at .row
+    first-passed-far at w =
         let q = first .is in
         omega (arith, w .moved .row, ap (λ (f : Forest). past (s .rows) f .rows) q, size-some (first .tree))
 

@@ -17,7 +17,7 @@ use Rattle.mitex_syntax.specs.Tree.Tree.{node}
 use Rattle.mitex_syntax.specs.Views.{firstBy, isOf, childrenOf}
 use Rattle.mitex_syntax.specs.Spells.{Spells, SpellsAll, SomeForest}
 use Rattle.mitex_syntax.specs.Places.{FirstAt}
-use Rattle.mitex_syntax.proofs.Trees.{kind-spelt, token-spelt, node-spelt, as-node, under, size-node}
+use Rattle.mitex_syntax.proofs.Trees.{kind-spelt, token-spelt, node-spelt, as-node, spells-under, size-node}
 use Rattle.mitex_meaning.specs.Commands.{isArgument, greedyIn}
 use Rattle.mitex_meaning.specs.Parts.{between, GreedyFound}
 use Rattle.mitex_meaning.specs.Parts.GreedyFound.{no-greedy, greedy-at}
@@ -36,7 +36,7 @@ module _ {p : Tree → Bool} {f : Forest} {rows text : List ℕ} {a b c d : ℕ}
       let n : b - a - 8 ≡ b - (a + 8) = omega arith in
       subst (λ (l : List ℕ). SpellsAll g l (between c d text))
       (drop-take 8 (b - a) (drop a rows) ∙ ap (λ (m : ℕ). take m (drop 8 (drop a rows))) n ∙ ap (take (b - (a + 8))) (drop-drop 8 a rows))
-      (under (subst (λ (t : Tree). Spells t (between a b rows) (between c d text)) e (s .spells)))
+      (spells-under (subst (λ (t : Tree). Spells t (between a b rows) (between c d text)) e (s .spells)))
 
   pub smaller : {k : ℕ} {g : Forest} → s .tree ≡ node k g → sizes g < sizes f
   smaller {k} {g} e = omega (arith, s .fits, ap size e, size-node k g)

@@ -21,7 +21,7 @@ use mitex_spec::Found;
 use mitex_syntax::CLAUSE_ARGUMENT;
 use mitex_syntax::CLAUSE_COMMAND_NAME;
 use mitex_syntax::Cursor;
-use mitex_syntax::Place;
+use mitex_syntax::Spot;
 use mitex_syntax::TOKEN_LBRACKET;
 use mitex_syntax::TOKEN_RBRACKET;
 use mitex_syntax::Wanted;
@@ -43,8 +43,8 @@ pub fn greedy_node(rows: &[u8], text: &[u8]) -> GreedyPart
         Wanted::Other(CLAUSE_COMMAND_NAME),
     );
     match found {
-        Place::Nowhere => GreedyPart::NoGreedy,
-        Place::At { row, end, from, to } => {
+        Spot::Nowhere => GreedyPart::NoGreedy,
+        Spot::At { row, end, from, to } => {
             if rows[row + 1] == TOKEN_MARK {
                 return GreedyPart::NoGreedy;
             }
@@ -160,7 +160,7 @@ pub fn color_model(rows: &[u8], text: &[u8]) -> ModelPart
 {
     let found = mitex_syntax::find_kind(rows, text, CLAUSE_ARGUMENT);
     match found {
-        Place::Nowhere => model_part(
+        Spot::Nowhere => model_part(
             rows,
             text,
             false,
@@ -171,7 +171,7 @@ pub fn color_model(rows: &[u8], text: &[u8]) -> ModelPart
                 text: text.len(),
             },
         ),
-        Place::At { row, end, from, to } => greedy_model(
+        Spot::At { row, end, from, to } => greedy_model(
             &rows[..end],
             &text[..to],
             Cursor {

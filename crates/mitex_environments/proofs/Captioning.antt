@@ -1,4 +1,4 @@
--- The last caption of a figure: what a child shows, and the loop over the children (`Rest`): the caption so far, joined with that of
+-- The last caption of a figure: what a child shows, and the loop over the children (`CaptionRest`): the caption so far, joined with that of
 -- the elements that are left, is that of all.
 use mathlib.Core.Path.{_≡_, refl, sym, ap, subst, _∙_}
 use mathlib.Core.Bool.{Bool, false, true, cond}
@@ -17,7 +17,7 @@ use Rattle.mitex_syntax.specs.Rows.{extentOf, tokenSum}
 use Rattle.mitex_syntax.specs.Views.{isOf, firstOf, offsetOf, childrenOf}
 use Rattle.mitex_syntax.specs.Spells.{Spells, Begins, SomeForest}
 use Rattle.mitex_syntax.specs.Places.{FirstAt}
-use Rattle.mitex_syntax.proofs.Trees.{kind-spelt, children-begin, getD-here, size-children, size-more, no-left, Element, element, rows-e, part-spells, past, child}
+use Rattle.mitex_syntax.proofs.Trees.{kind-spelt, children-begin, getD-here, size-children, size-more, no-left, ElementAt, element, rows-e, part-spells, past-begins, child-part}
 use Rattle.mitex_syntax.proofs.Places.{some-forest}
 use Rattle.mitex_meaning.specs.Environments.{Caption, isCaption, captionAt, orLater, lastCaption}
 use Rattle.mitex_meaning.specs.Environments.Caption.{absent, bare, caption}
@@ -25,7 +25,7 @@ use Rattle.mitex_meaning.specs.Parts.{between, CaptionFound}
 use Rattle.mitex_meaning.specs.Parts.CaptionFound.{no-caption, bare-caption, caption-at}
 use Rattle.mitex_meaning.specs.declared.CaptionPart.{CaptionPart}
 use Rattle.mitex_meaning.specs.declared.CaptionPart.the-variants.{NoCaption, BareCaption, CaptionAt}
-use Rattle.mitex_environments.specs.Captions.{ChildAt, captionIn, Shows, laterPart}
+use Rattle.mitex_environments.specs.Captions.{ChildAt, childCaption, Shows, laterPart}
 use Rattle.mitex_environments.specs.Captions.Shows.{shows-none, shows-bare, shows-at}
 
 -- ---- parts of parts
@@ -103,12 +103,12 @@ found-shows (shows-at a) =
 -- a child that is a caption, and one that is not
 pub caption-shows :
     (t : Tree) (o : ℕ) {n : ℕ} {rows text : List ℕ} {r : CaptionPart} {b : Bool} → b ≡ isCaption t → b ≡ true
-    → Shows (captionAt o t (firstOf ClauseArgument (childrenOf t))) n rows text r → Shows (captionIn o t) n rows text r
+    → Shows (captionAt o t (firstOf ClauseArgument (childrenOf t))) n rows text r → Shows (childCaption o t) n rows text r
 caption-shows t o e z s =
     shows-as (ap (λ (x : Bool). cond x (captionAt o t (firstOf ClauseArgument (childrenOf t))) absent) (sym e ∙ z)) s
 
 pub other-shows :
-    (t : Tree) (o : ℕ) {n : ℕ} {rows text : List ℕ} {b : Bool} → b ≡ isCaption t → b ≡ false → Shows (captionIn o t) n rows text NoCaption
+    (t : Tree) (o : ℕ) {n : ℕ} {rows text : List ℕ} {b : Bool} → b ≡ isCaption t → b ≡ false → Shows (childCaption o t) n rows text NoCaption
 other-shows t o e z = shows-none (ap (λ (x : Bool). cond x (captionAt o t (firstOf ClauseArgument (childrenOf t))) absent) (sym e ∙ z))
 
 -- the first argument of a caption
@@ -173,7 +173,7 @@ later-absent absent = refl
 later-absent (bare o) = refl
 later-absent (caption o t) = refl
 
-pub record Rest (f : Forest) (rows text : List ℕ) (found : CaptionPart) (i j : ℕ) : Type 0 where
+pub record CaptionRest (f : Forest) (rows text : List ℕ) (found : CaptionPart) (i j : ℕ) : Type 0 where
   pub forest : Forest
   pub begins : Begins forest (drop i rows) (drop j text)
   pub below : ℕ
@@ -183,14 +183,14 @@ pub record Rest (f : Forest) (rows text : List ℕ) (found : CaptionPart) (i j :
   pub shows : Shows so-far (sizes f) rows text found
   pub whole : lastCaption 1 f ≡ orLater so-far (lastCaption (1 + below) forest)
 
-pub rest-start : {f : Forest} {rows text : List ℕ} → Begins f rows text → Rest f rows text NoCaption 0 0
-rest-start {f} sp =
+pub caption-rest-start : {f : Forest} {rows text : List ℕ} → Begins f rows text → CaptionRest f rows text NoCaption 0 0
+caption-rest-start {f} sp =
     record { forest = f; begins = sp; below = 0; row = refl; fits = omega arith; so-far = absent; shows = shows-none refl; whole = refl }
 
-module _ {f : Forest} {rows text : List ℕ} {found : CaptionPart} {i j : ℕ} (w : Rest f rows text found i j) where
-  pub rest-end : length rows ≤ i → CaptionFound f rows text found
+module _ {f : Forest} {rows text : List ℕ} {found : CaptionPart} {i j : ℕ} (w : CaptionRest f rows text found i j) where
+  pub caption-rest-end : length rows ≤ i → CaptionFound f rows text found
   unfolding lastCaption
-  rest-end h =
+  caption-rest-end h =
       let e : w .forest ≡ none = no-left (w .forest) (w .begins .rows-are) (simp length-drop (omega arith)) in
       found-shows
       (shows-as
@@ -198,23 +198,23 @@ module _ {f : Forest} {rows text : List ℕ} {found : CaptionPart} {i j : ℕ} (
       (w .shows))
 
   module _ (h : i < length rows) (hj : j ≤ length text) (few : length rows < cap) (short : length text < cap) where
-    abbrev pub rest-element : Element (w .forest) rows text i j
-    rest-element = element (w .begins) h hj few short
+    abbrev pub caption-rest-element : ElementAt (w .forest) rows text i j
+    caption-rest-element = element (w .begins) h hj few short
 
     module _ (e n : ℕ) (is-e : e ≡ extentOf (drop i rows)) (is-n : n ≡ tokenSum (take (extentOf (drop i rows)) (drop i rows))) where
-      pub rest-child : ChildAt rows text i (i + e) j (j + n)
-      rest-child =
-          let c = child rest-element e n is-e is-n in
+      pub caption-rest-child : ChildAt rows text i (i + e) j (j + n)
+      caption-rest-child =
+          let c = child-part caption-rest-element e n is-e is-n in
           let some = c .some in
           record { few = few; short = short; some-rows = omega arith; end = c .end; some-text = omega arith; stop = c .stop; child = c .given }
 
-      pub rest-next :
+      pub caption-rest-next :
           {b r : CaptionPart}
-          → ((t : Tree) (o : ℕ) → i ≡ 8 * o → Spells t (between i (i + e) rows) (between j (j + n) text) → Shows (captionIn (1 + o) t) (size t) rows text b)
-          → r ≡ laterPart found b → Rest f rows text r (i + e) (j + n)
+          → ((t : Tree) (o : ℕ) → i ≡ 8 * o → Spells t (between i (i + e) rows) (between j (j + n) text) → Shows (childCaption (1 + o) t) (size t) rows text b)
+          → r ≡ laterPart found b → CaptionRest f rows text r (i + e) (j + n)
       unfolding lastCaption
-      rest-next {b} {r} told q =
-          let x = rest-element in
+      caption-rest-next {b} {r} told q =
+          let x = caption-rest-element in
           let t = x .tree in
           let g = x .others in
           let re = rows-e x e n is-e is-n in
@@ -225,15 +225,15 @@ module _ {f : Forest} {rows text : List ℕ} {found : CaptionPart} {i j : ℕ} (
           let here = told t (w .below) row (part-spells x e n is-e is-n) in
           record {
             forest = g;
-            begins = past x e n is-e is-n;
+            begins = past-begins x e n is-e is-n;
             below = w .below + size t;
             row = omega arith;
             fits = omega arith;
-            so-far = orLater (w .so-far) (captionIn (1 + w .below) t);
-            shows = subst (Shows (orLater (w .so-far) (captionIn (1 + w .below) t)) (sizes f) rows text) (sym q) (shows-later (w .shows) (shows-more (omega arith) here));
+            so-far = orLater (w .so-far) (childCaption (1 + w .below) t);
+            shows = subst (Shows (orLater (w .so-far) (childCaption (1 + w .below) t)) (sizes f) rows text) (sym q) (shows-later (w .shows) (shows-more (omega arith) here));
             whole =
                 w .whole ∙ ap (λ (y : Forest). orLater (w .so-far) (lastCaption (1 + w .below) y)) (x .is)
-                ∙ sym (later-assoc (w .so-far) (captionIn (1 + w .below) t) (lastCaption (1 + w .below + size t) g))
-                ∙ ap (λ (m : ℕ). orLater (orLater (w .so-far) (captionIn (1 + w .below) t)) (lastCaption m g))
+                ∙ sym (later-assoc (w .so-far) (childCaption (1 + w .below) t) (lastCaption (1 + w .below + size t) g))
+                ∙ ap (λ (m : ℕ). orLater (orLater (w .so-far) (childCaption (1 + w .below) t)) (lastCaption m g))
                 (let z : 1 + w .below + size t ≡ 1 + (w .below + size t) = omega arith in z);
           }

@@ -27,8 +27,8 @@ pub record ChildAt (rows text : List ℕ) (i e j u : ℕ) : Type 0 where
   pub child : SomeTree (between i e rows) (between j u text)
 
 -- the caption that a child is, o rows below the figure
-abbrev pub captionIn : ℕ → Tree → Caption
-captionIn o t = cond (isCaption t) (captionAt o t (firstOf ClauseArgument (childrenOf t))) absent
+abbrev pub childCaption : ℕ → Tree → Caption
+childCaption o t = cond (isCaption t) (captionAt o t (firstOf ClauseArgument (childrenOf t))) absent
 
 -- the part is the argument of a caption of at most n rows
 pub record ArgumentAt (w : Caption) (n : ℕ) (rows text : List ℕ) (p : Part) : Type 0 where

@@ -13,11 +13,11 @@ ghost use Rattle.mitex_syntax.specs.Spells.{Spells, SpellsAll, SomeForest};
 ghost use Rattle.mitex_meaning.specs.Outcome.{labelMost};
 ghost use Rattle.mitex_meaning.specs.Texts.{leftParen, hash};
 ghost use Rattle.mitex_meaning.specs.State.{labelOf};
-ghost use Rattle.mitex_meaning.specs.Contract.{Place, Takes};
+ghost use Rattle.mitex_meaning.specs.Contract.{Takes};
 ghost use Rattle.mitex_meaning.specs.Environments.{envOf, isList, envBegin, heldText, isCaption, captionAt};
 ghost use Rattle.mitex_meaning.specs.Parts.{between, BeginFound, CaptionFound};
 ghost use Rattle.mitex_environments.specs.Plain.{isPlain};
-ghost use Rattle.mitex_environments.specs.Captions.{ChildAt, captionIn, Shows, laterPart};
+ghost use Rattle.mitex_environments.specs.Captions.{ChildAt, childCaption, Shows, laterPart};
 use mitex_meaning::CaptionPart;
 use mitex_meaning::Converter;
 use mitex_meaning::LaTeXEnv;
@@ -26,7 +26,7 @@ use mitex_meaning::Part;
 use mitex_meaning::Walked;
 use mitex_syntax::CLAUSE_ARGUMENT;
 use mitex_syntax::ITEM_CMD;
-use mitex_syntax::Place;
+use mitex_syntax::Spot;
 
 // The classes of environments, in the order of `ContextFeature`; from 3 on, and any other is None.
 const CLASS_MATH: u8 = 4;
@@ -179,13 +179,13 @@ pub fn begin_part(rows: &[u8], text: &[u8]) -> Part
     ensures { λ r. ⌜ ((f : Forest) → SpellsAll f (now (rows .entry)) (now (text .entry)) → BeginFound f (now (rows .entry)) (now (text .entry)) r) ⌝ }
 {
     match mitex_syntax::begin(rows, text) {
-        Place::Nowhere => Part {
+        Spot::Nowhere => Part {
             i: 0,
             e: 0,
             j: 0,
             u: 0,
         },
-        Place::At { row, end, from, to } => Part {
+        Spot::At { row, end, from, to } => Part {
             i: row + 8,
             e: end,
             j: from,
@@ -200,8 +200,8 @@ pub fn table_argument<'a>(rows: &[u8], text: &'a [u8]) -> &'a [u8]
     ensures { λ r. ⌜ ((f : Forest) → SpellsAll f (now (rows .entry)) (now (text .entry)) → now r ≡ textIn (firstOf ClauseArgument (beginOf f))) ⌝ }
 {
     match mitex_syntax::begin(rows, text) {
-        Place::Nowhere => &text[0..0],
-        Place::At { row, end, from, to } => {
+        Spot::Nowhere => &text[0..0],
+        Spot::At { row, end, from, to } => {
             mitex_commands::argument_text(&rows[row + 8..end], &text[from..to])
         }
     }
@@ -230,8 +230,8 @@ fn argument_at(rows: &[u8], text: &[u8], i: usize, e: usize, j: usize, u: usize)
         → Shows (captionAt (1 + o) t (firstOf ClauseArgument (childrenOf t))) (size t) (now (rows .entry)) (now (text .entry)) r) ⌝ }
 {
     match mitex_syntax::find_kind(&rows[i + 8..e], &text[j..u], CLAUSE_ARGUMENT) {
-        Place::Nowhere => CaptionPart::BareCaption(i / 8),
-        Place::At { row, end, from, to } => CaptionPart::CaptionAt(Part {
+        Spot::Nowhere => CaptionPart::BareCaption(i / 8),
+        Spot::At { row, end, from, to } => CaptionPart::CaptionAt(Part {
             i: i + 8 + row,
             e: i + 8 + end,
             j: j + from,
@@ -244,7 +244,7 @@ fn argument_at(rows: &[u8], text: &[u8], i: usize, e: usize, j: usize, u: usize)
 fn caption_at(rows: &[u8], text: &[u8], i: usize, e: usize, j: usize, u: usize) -> CaptionPart
     requires { ⌜ ChildAt (now rows) (now text) i e j u ⌝ }
     ensures { λ r. ⌜ ((t : Tree) (o : ℕ) → i ≡ 8 * o → Spells t (between i e (now (rows .entry))) (between j u (now (text .entry)))
-        → Shows (captionIn (1 + o) t) (size t) (now (rows .entry)) (now (text .entry)) r) ⌝ }
+        → Shows (childCaption (1 + o) t) (size t) (now (rows .entry)) (now (text .entry)) r) ⌝ }
 {
     if is_caption(rows, text, i, e, j, u) {
         return argument_at(rows, text, i, e, j, u);

@@ -62,7 +62,7 @@ fn put_length(out: &mut [u8], at: usize, v: &[u8]) -> usize
 // ---- options
 
 // The place after the byte at `n`, as far as the end.
-fn past(s: &[u8], n: usize) -> usize
+fn past_byte(s: &[u8], n: usize) -> usize
     requires { ⌜ n ≤ length (now s) ⌝ }
     ensures { λ r. ⌜ r ≡ min (length (now (s .entry))) (n + 1) ⌝ }
 {
@@ -76,7 +76,7 @@ fn past(s: &[u8], n: usize) -> usize
 fn value_of(s: &[u8]) -> &[u8]
     ensures { λ r. ⌜ now r ≡ valueOf (cutAt equalsByte (now (s .entry))) ⌝ }
 {
-    let from = past(s, text::index_of(s, EQUALS));
+    let from = past_byte(s, text::index_of(s, EQUALS));
     let v = &s[from..];
     if text::index_of(v, EQUALS) < v.len() {
         return &v[..0];
@@ -128,7 +128,7 @@ fn put_options(out: &mut [u8], at: usize, s: &[u8]) -> usize
     while 0 < rest.len() {
         let n = text::index_of(rest, COMMA);
         p = put_option(out, p, &rest[..n]);
-        let from = past(rest, n);
+        let from = past_byte(rest, n);
         rest = &rest[from..];
     }
     p

@@ -1,6 +1,6 @@
 -- The contracts of the forms on a lent converter, and of the forms by value that they call, as data: a proof about one of them is
 -- then a proof about any. Such a form takes the converter and a datum (plain data that owns only facts).
---     Datum            plain data with its laws: `mode`, `env`, `none`
+--     Datum            plain data with its laws: `modeDatum`, `envDatum`, `noDatum`
 --     mach, Held       a converter's machine value, and what whoever holds the converter knows
 --     Form, Lends      a form on a lent converter, and its contract
 --     Move, Moves      a form by value, and its contract
@@ -52,8 +52,8 @@ pub record Datum : Type 2 where
 abbrev pub Known : (P : Datum) → P .row .Denot → Type 0
 Known P x = Is (P .row) x (P .word x ∷ [])
 
-abbrev pub mode : Datum
-mode =
+abbrev pub modeDatum : Datum
+modeDatum =
     record {
       row = D.the-row;
       word = EL.val D.the-type D′.the-laws;
@@ -63,8 +63,8 @@ mode =
       silent = λ x f. refl;
     }
 
-abbrev pub env : Datum
-env =
+abbrev pub envDatum : Datum
+envDatum =
     record {
       row = E.the-row;
       word = EL.val E.the-type E′.the-laws;
@@ -74,8 +74,8 @@ env =
       silent = λ x f. refl;
     }
 
-abbrev pub none : Datum
-none =
+abbrev pub noDatum : Datum
+noDatum =
     record {
       row = unit;
       word = λ _. vunit;
@@ -93,17 +93,17 @@ abbrev pub Held : Converter → Type 0
 Held h = Is T.the-row h (mach h ∷ [])
 
 -- what whoever holds the converter knows of its mode, its environment and its indent
-pub mode-known : (h : Converter) → Held h → Known mode (h .mode)
+pub mode-known : (h : Converter) → Held h → Known modeDatum (h .mode)
 mode-known h was = LL.owed T.the-type T′.the-laws h _ was .0
 
-pub env-known : (h : Converter) → Held h → Known env (h .env)
+pub env-known : (h : Converter) → Held h → Known envDatum (h .env)
 env-known h was = LL.owed T.the-type T′.the-laws h _ was .1 .0
 
 pub indent-fits : (h : Converter) → Held h → h .indent < 2 ^ 64
 indent-fits h was = LL.owed T.the-type T′.the-laws h _ was .1 .1 .0 .1
 
 -- in another mode: of the mode what is known of it, of the other fields what was known
-pub held-in-mode : (h : Converter) (m : LaTeXMode) → Held h → Known mode m → Held (withMode m h)
+pub held-in-mode : (h : Converter) (m : LaTeXMode) → Held h → Known modeDatum m → Held (withMode m h)
 held-in-mode h m was is = LL.owes T.the-type T′.the-laws (withMode m h) (is, LL.owed T.the-type T′.the-laws h _ was .1)
 
 -- ---- a form on a lent converter takes the datum P and returns the datum R
@@ -172,25 +172,25 @@ module _ (N : Move) where
 
 -- ---- the forms, with the definitions that their contracts cite
 abbrev pub entered-env-move : Move
-entered-env-move = record { P = env; Asks = λ h e. h .indent + stepOf e < 2 ^ 64; gives = enteredEnv }
+entered-env-move = record { P = envDatum; Asks = λ h e. h .indent + stepOf e < 2 ^ 64; gives = enteredEnv }
 
 abbrev pub exited-env-move : Move
-exited-env-move = record { P = env; Asks = λ h e. stepOf (h .env) ≤ h .indent; gives = exitedEnv }
+exited-env-move = record { P = envDatum; Asks = λ h e. stepOf (h .env) ≤ h .indent; gives = exitedEnv }
 
 abbrev pub enter-mode-form : Form
-enter-mode-form = record { P = mode; R = mode; asks = λ 𝓤 h m. emp 𝓤; Promise = λ h m r h′. (r ≡ h .mode) × (h′ ≡ withMode m h) }
+enter-mode-form = record { P = modeDatum; R = modeDatum; asks = λ 𝓤 h m. emp 𝓤; Promise = λ h m r h′. (r ≡ h .mode) × (h′ ≡ withMode m h) }
 
 abbrev pub exit-mode-form : Form
-exit-mode-form = record { P = mode; R = none; asks = λ 𝓤 h m. emp 𝓤; Promise = λ h m r h′. h′ ≡ withMode m h }
+exit-mode-form = record { P = modeDatum; R = noDatum; asks = λ 𝓤 h m. emp 𝓤; Promise = λ h m r h′. h′ ≡ withMode m h }
 
 abbrev pub enter-env-form : Form
 enter-env-form =
     record {
-      P = env;
-      R = env;
+      P = envDatum;
+      R = envDatum;
       asks = λ 𝓤 h e. fact 𝓤 (entered-env-move .Asks h e);
       Promise = λ h e r h′. (r ≡ h .env) × (h′ ≡ enteredEnv e h);
     }
 
 abbrev pub exit-env-form : Form
-exit-env-form = record { P = env; R = none; asks = λ 𝓤 h e. fact 𝓤 (exited-env-move .Asks h e); Promise = λ h e r h′. h′ ≡ exitedEnv e h }
+exit-env-form = record { P = envDatum; R = noDatum; asks = λ 𝓤 h e. fact 𝓤 (exited-env-move .Asks h e); Promise = λ h e r h′. h′ ≡ exitedEnv e h }

@@ -39,7 +39,7 @@ use denote.Triple.Statement.{Triple}
 use denote.Triple.Table.{entered}
 use denote.Triple.Walked.{says, Stays, stay-ref, stay-none, walkOf, goes-none, goes-ref, ends-at, walked, walk-meets}
 use Rattle.mitex_meaning.specs.declared.Converter.{Converter}
-use Rattle.mitex_meaning.proofs.LentForms.{Datum, Known, mode, env, mach, Held, Form, ended, clauses, Lends}
+use Rattle.mitex_meaning.proofs.LentForms.{Datum, Known, modeDatum, envDatum, mach, Held, Form, ended, clauses, Lends}
 use Rattle.mitex_meaning.proofs.Converter as T
 use Rattle.mitex_meaning.proofs.Converter.Laws as T′
 use Rattle.mitex_meaning.proofs.LaTeXEnv as E
@@ -52,11 +52,11 @@ module _ {M : Type 1} (𝓤 : URA M) (H : Heap 𝓤) (A : Atoms 𝓤) (W : Given
   pub typed : (h : Converter) → Held h → Holds (hasTy T′.mir (mach h)) × WT (mach h)
   typed h is = LL.lawful T.the-type T′.the-laws 𝓤 H A W .typed h (mach h ∷ []) is .0
 
-  pub mode-typed : (m : mode .row .Denot) → Known mode m → Holds (hasTy D′.mir (mode .word m)) × WT (mode .word m)
-  mode-typed m is = EL.lawful D.the-type D′.the-laws 𝓤 H A W tt .typed m (mode .word m ∷ []) is .0
+  pub mode-typed : (m : modeDatum .row .Denot) → Known modeDatum m → Holds (hasTy D′.mir (modeDatum .word m)) × WT (modeDatum .word m)
+  mode-typed m is = EL.lawful D.the-type D′.the-laws 𝓤 H A W tt .typed m (modeDatum .word m ∷ []) is .0
 
-  pub env-typed : (e : env .row .Denot) → Known env e → Holds (hasTy E′.mir (env .word e)) × WT (env .word e)
-  env-typed e is = EL.lawful E.the-type E′.the-laws 𝓤 H A W tt .typed e (env .word e ∷ []) is .0
+  pub env-typed : (e : envDatum .row .Denot) → Known envDatum e → Holds (hasTy E′.mir (envDatum .word e)) × WT (envDatum .word e)
+  env-typed e is = EL.lawful E.the-type E′.the-laws 𝓤 H A W tt .typed e (envDatum .word e ∷ []) is .0
 
 -- ---- steps
 module _ {M : Type 1} {𝓤 : URA M} {H : Heap 𝓤} {A : Atoms 𝓤} {K : Type 0} {W : Given 𝓤 H A} {Γ : List (Item 𝓤)} {G : Goal 𝓤 H} where
@@ -77,7 +77,7 @@ module _ {M : Type 1} {𝓤 : URA M} {H : Heap 𝓤} {A : Atoms 𝓤} {K : Type 
       move t (1 ∷ []) $ facts t T.the-row (Is T.the-row) shown h (mach h ∷ []) k
 
 module _ {M : Type 1} {𝓤 : URA M} {H : Heap 𝓤} {A : Atoms 𝓤} {K : Type 0} {W : Given 𝓤 H A} {Γ : List (Item 𝓤)} {G : Goal 𝓤 H} where
-  pub opened : K → Soaks G → {κ : Lft} {q : Share} (h : Converter) {γ : GName} (b o : ℕ)
+  pub loan-opened : K → Soaks G → {κ : Lft} {q : Share} (h : Converter) {γ : GName} (b o : ℕ)
       → (Held h
       → Seq K W
       (‵ (fat fullShare T′.mir b o (mach h))
@@ -87,12 +87,12 @@ module _ {M : Type 1} {𝓤 : URA M} {H : Heap 𝓤} {A : Atoms 𝓤} {K : Type 
       ∷ Γ)
       G)
       → Seq K W (‵ (fobs γ (T.the-row .coded .code h)) ∷ ‵ (fbor κ (Body (mem T.the-row) b o γ)) ∷ ‵ (flft κ q) ∷ Γ) G
-  opened t z {κ} {q} h {γ} b o k = opens t z T.the-row {κ = κ} {q = q} {h = h} {γ = γ} b o (λ vs. lies t h vs b o k)
+  loan-opened t z {κ} {q} h {γ} b o k = opens t z T.the-row {κ = κ} {q = q} {h = h} {γ = γ} b o (λ vs. lies t h vs b o k)
 
-  pub closed : K → Soaks G → {κ : Lft} {q : Share} {u w : Gv} (h : Converter) {γ : GName} (b o : ℕ) → Held h
+  pub loan-closed : K → Soaks G → {κ : Lft} {q : Share} {u w : Gv} (h : Converter) {γ : GName} (b o : ℕ) → Held h
       → Step K W (‵ (fobs γ (T.the-row .coded .code h)) ∷ ‵ (fbor κ (Body (mem T.the-row) b o γ)) ∷ ‵ (flft κ q) ∷ Γ) G
       (‵ (fat fullShare T′.mir b o (mach h)) ∷ ‵ (fobor κ q (Body (mem T.the-row) b o γ)) ∷ ‵ (fobs γ u) ∷ ‵ (fauth γ w) ∷ Γ) G
-  closed t z h b o is =
+  loan-closed t z h b o is =
       step (λ s.
       use1 W (‵ (cellAt fullShare (T.the-row .mir) (mach h ∷ []) b o)) (W .laws .at-raw fullShare T′.mir b o (mach h)) $
       converter-had t h is $ move t (1 ∷ 0 ∷ []) $ closes t z T.the-row h (mach h ∷ []) b o $ s)
@@ -130,13 +130,13 @@ module _ (F : Form) where
           had ! (F .R) r known $ move ! (1 ∷ 0 ∷ []) $ done !
 
   module _ {M : Type 1} (𝓤 : URA M) (H : Heap 𝓤) (A : Atoms 𝓤) (𝓣 : Tables 𝓤 H) (fn : Fn) where
-    abbrev pub Walk : Type 1
-    Walk =
+    abbrev pub LoanWalk : Type 1
+    LoanWalk =
         (κ : Lft) (q : Share) (b o : ℕ) (γ : GName) (h : Converter) (p : F .P .row .Denot) → Known (F .P) p
         → ent 𝓤 (⋆ 𝓤 H A (raw (F .asks 𝓤 h p) ∷ Loan 𝓤 H A κ q b o γ h))
         (WpFn 𝓤 H (𝓣 .C) (𝓣 .Λ) fn (vptr b o ∷ F .P .word p ∷ []) (Ends 𝓤 H A κ q b o γ h p))
 
-    meets : Given 𝓤 H A → Walk → Triple 𝓤 (WpFn 𝓤 H (𝓣 .C) (𝓣 .Λ) fn) (Lends F 𝓤 H A)
+    meets : Given 𝓤 H A → LoanWalk → Triple 𝓤 (WpFn 𝓤 H (𝓣 .C) (𝓣 .Λ) fn) (Lends F 𝓤 H A)
     meets W walk =
         walk-meets 𝓤 H A (ended F) stayed W
         (goes-ref 𝓤 H A W 1 0 tt (plain (λ _. T.the-row)), (goes-none 𝓤 H A W 1 (λ _. F .P .row) yes (λ κs. F .P .silent), tt))
@@ -155,7 +155,7 @@ module _ (F : Form) where
   -- the function fn, which the table ρ has under the name k
   module _ {M : Type 1} (𝓤 : URA M) (H : Heap 𝓤) (𝓜 : Model 𝓤 H) (𝓖 : GhostRules 𝓤 H) (𝓡 : Running 𝓤 H 𝓜) (ρ : Env) (k : Name) where
     pub proved : (fn : Fn) → Closed 𝓤 H (tables 𝓤 H 𝓜 𝓡 ρ .C) (tables 𝓤 H 𝓜 𝓡 ρ .Λ) k fn
-        → Walk 𝓤 H (𝓖 .A) (tablesOf 𝓤 H 𝓜 (tables 𝓤 H 𝓜 𝓡 ρ)) fn → Triple 𝓤 (tables 𝓤 H 𝓜 𝓡 ρ .C k) (Lends F 𝓤 H (𝓖 .A))
+        → LoanWalk 𝓤 H (𝓖 .A) (tablesOf 𝓤 H 𝓜 (tables 𝓤 H 𝓜 𝓡 ρ)) fn → Triple 𝓤 (tables 𝓤 H 𝓜 𝓡 ρ .C k) (Lends F 𝓤 H (𝓖 .A))
     unfolding tablesOf
     proved fn is-code walk =
         let 𝓣 = tables 𝓤 H 𝓜 𝓡 ρ in

@@ -46,8 +46,8 @@ childrenIn-size k f = children-size (sizes f) (firstOf k f) (firstBy-size _ f)
 
 -- ---- colours
 
-abbrev Within : ℕ → Rest → Type 0
-Within n r = sizes (r .elements) ≤ n
+abbrev RestWithin : ℕ → Rest → Type 0
+RestWithin n r = sizes (r .elements) ≤ n
 
 pub fromBy-size : (p : Tree → Bool) (f : Forest) → sizes (fromBy p f) ≤ sizes f
 unfolding fromBy
@@ -64,7 +64,7 @@ bracketModel-size : (o : ℕ) (f : Forest) → sizes (bracketModel o f .behind .
 bracketModel-size o none = omega arith
 bracketModel-size o (more t f) =
     let r = seek (isOf TokenRBracket) (rest (o + size t) f) in
-    by-cases (λ (m : Model). Within (sizes (more t f)) (m .behind)) (isOf TokenLBracket t) _ _
+    by-cases (λ (m : Model). RestWithin (sizes (more t f)) (m .behind)) (isOf TokenLBracket t) _ _
     (omega (
       arith,
       size-more t f,
@@ -79,7 +79,7 @@ greedyModel-size o f = omega (arith, fromBy-size isSolid f, bracketModel-size (o
 firstModel-size : (o : ℕ) (f : Forest) → sizes (firstModel o f .behind .elements) ≤ sizes f
 firstModel-size o none = omega arith
 firstModel-size o (more t f) =
-    by-cases (λ (m : Model). Within (sizes (more t f)) (m .behind)) (isModel (textOf t)) _ _
+    by-cases (λ (m : Model). RestWithin (sizes (more t f)) (m .behind)) (isModel (textOf t)) _ _
     (omega (arith, size-more t f, fromBy-size (isOf ClauseArgument) f)) (omega arith)
 
 pub argumentModel-size : (o : ℕ) (f : Forest) → sizes (argumentModel o f .behind .elements) ≤ sizes f

@@ -1,4 +1,4 @@
--- How the tables of worked conversions are written: trees by short names, and the test that a table holds. A case's own rules
+-- How the tables of worked conversions are written: trees by short names, and the test that a table holds. An example's own rules
 -- stand before the usual ones; the first rule of a name counts.
 use mathlib.Core.Bool.{Bool, true, false, _&&_}
 use mathlib.Core.Option.{Option}
@@ -48,32 +48,32 @@ abbrev pub times : ℕ → List ℕ → List ℕ
 times zero s = []
 times (suc n) s = s ++ times n s
 
-abbrev pub word : String → Tree
-word s = tok TokenWord s
+abbrev pub tokWord : String → Tree
+tokWord s = tok TokenWord s
 
-abbrev pub name : String → Tree
-name s = tok ClauseCommandName s
+abbrev pub tokName : String → Tree
+tokName s = tok ClauseCommandName s
 
-abbrev pub sym : String → Tree
-sym s = tok TokenCommandSym s
+abbrev pub tokSym : String → Tree
+tokSym s = tok TokenCommandSym s
 
-abbrev pub space : Tree
-space = tok TokenWhiteSpace " "
+abbrev pub tokSpace : Tree
+tokSpace = tok TokenWhiteSpace " "
 
-abbrev pub break : Tree
-break = tok TokenLineBreak "\n"
+abbrev pub tokBreak : Tree
+tokBreak = tok TokenLineBreak "\n"
 
-abbrev pub newline : Tree
-newline = tok ItemNewLine "\\\\"
+abbrev pub tokNewLine : Tree
+tokNewLine = tok ItemNewLine "\\\\"
 
-abbrev pub comment : Tree
-comment = tok TokenComment "%"
+abbrev pub tokComment : Tree
+tokComment = tok TokenComment "%"
 
-abbrev pub ampersand : Tree
-ampersand = tok TokenAmpersand "&"
+abbrev pub tokAmpersand : Tree
+tokAmpersand = tok TokenAmpersand "&"
 
-abbrev pub dollar : Tree
-dollar = tok TokenDollar "$"
+abbrev pub tokDollar : Tree
+tokDollar = tok TokenDollar "$"
 
 abbrev pub curly : List Tree → Tree
 curly ts = over ItemCurly (tok TokenLBrace "{" ∷ (ts ++ (tok TokenRBrace "}" ∷ [])))
@@ -92,11 +92,11 @@ abbrev pub bracketed : List Tree → Tree
 bracketed ts = arg (bracket ts ∷ [])
 
 abbrev pub cmd : String → List Tree → Tree
-cmd s ts = over ItemCmd (name s ∷ ts)
+cmd s ts = over ItemCmd (tokName s ∷ ts)
 
 -- an environment with its arguments and what stands in it
 abbrev pub env : String → List Tree → List Tree → Tree
-env s args ts = over ItemEnv (over ItemBegin (sym s ∷ args) ∷ (ts ++ (over ItemEnd (sym s ∷ []) ∷ [])))
+env s args ts = over ItemEnv (over ItemBegin (tokSym s ∷ args) ∷ (ts ++ (over ItemEnd (tokSym s ∷ []) ∷ [])))
 
 -- ---- rules
 
@@ -104,65 +104,65 @@ env s args ts = over ItemEnv (over ItemBegin (sym s ∷ args) ∷ (ts ++ (over I
 abbrev pub ruleBy : List ℕ → ℕ → Option (List ℕ) → Rule
 ruleBy s k a = record { name = s; alias = a; class = k }
 
-abbrev pub rule : String → ℕ → Rule
-rule s k = ruleBy (ascii s) k nothing
+abbrev pub ruleFor : String → ℕ → Rule
+ruleFor s k = ruleBy (ascii s) k nothing
 
 abbrev pub ruleAs : String → ℕ → String → Rule
 ruleAs s k a = ruleBy (ascii s) k (some (ascii a))
 
-abbrev pub few : List Rule
-few = rule "quote" 3 ∷ ruleAs "tabular" 8 "table" ∷ []
+abbrev pub fewRules : List Rule
+fewRules = ruleFor "quote" 3 ∷ ruleAs "tabular" 8 "table" ∷ []
 
 abbrev pub usual : List Rule
 usual =
-    rule "alpha" 0
-    ∷ rule "cases" 6
+    ruleFor "alpha" 0
+    ∷ ruleFor "cases" 6
     ∷ ruleAs "color" 1 "mycolor"
-    ∷ rule "enumerate" 10
+    ∷ ruleFor "enumerate" 10
     ∷ ruleAs "equation" 4 "aligned"
-    ∷ rule "figure" 7
-    ∷ rule "frac" 2
-    ∷ rule "itemize" 9
+    ∷ ruleFor "figure" 7
+    ∷ ruleFor "frac" 2
+    ∷ ruleFor "itemize" 9
     ∷ ruleAs "matrix" 5 "mat"
     ∷ ruleAs "mbox" 2 "#textmath"
-    ∷ rule "quote" 3
+    ∷ ruleFor "quote" 3
     ∷ ruleAs "rm" 1 "upright"
-    ∷ rule "substack" 2
+    ∷ ruleFor "substack" 2
     ∷ ruleAs "tabular" 8 "table"
     ∷ ruleAs "textbf" 2 "bold"
     ∷ []
 
--- ---- cases
+-- ---- examples
 
--- the text that is written, or the number and the row of a refusal
-pub data Answer : Type 0 where
-  text : List ℕ → Answer
-  refusal : ℕ → ℕ → Answer
+-- what is to come out: the text that is written, or the number and the row of a refusal
+pub data Expected : Type 0 where
+  text : List ℕ → Expected
+  refusal : ℕ → ℕ → Expected
 
-abbrev pub writes : String → Answer
+abbrev pub writes : String → Expected
 writes s = text (ascii s)
 
-abbrev pub answers : Outcome → Answer → Bool
-answers (refused n r) (refusal m s) = eqb n m && eqb r s
-answers (refused n r) (text w) = false
-answers (done c w) (refusal n r) = false
-answers (done c w) (text v) = same w v
+abbrev pub asExpected : Outcome → Expected → Bool
+asExpected (refused n r) (refusal m s) = eqb n m && eqb r s
+asExpected (refused n r) (text w) = false
+asExpected (done c w) (refusal n r) = false
+asExpected (done c w) (text v) = same w v
 
-pub record Case : Type 0 where
+pub record Example : Type 0 where
   pub rules : List Rule
   pub mode : LaTeXMode
   pub blocks : List Tree
-  pub answer : Answer
+  pub expects : Expected
 
-abbrev pub case : List Rule → LaTeXMode → List Tree → Answer → Case
-case rs m ts a = record { rules = rs; mode = m; blocks = ts; answer = a }
+abbrev pub example : List Rule → LaTeXMode → List Tree → Expected → Example
+example rs m ts a = record { rules = rs; mode = m; blocks = ts; expects = a }
 
 -- the root, converted from the state of `Converter::new`
-abbrev pub holds : Case → Bool
-holds c = answers (convert levels (startContext (c .rules) (c .mode)) (over ScopeRoot (c .blocks)) newCarry) (c .answer)
+abbrev pub holds : Example → Bool
+holds c = asExpected (convert levels (startContext (c .rules) (c .mode)) (over ScopeRoot (c .blocks)) newCarry) (c .expects)
 
 -- whoever unfolds this unfolds all that a conversion computes by
-unfoldable pub hold : List Case → Bool
+unfoldable pub hold : List Example → Bool
 unfolding convert step each turn tokenOut spaced clauseLr cutAt stripped optionsText othersFollow lettersFit columns alignments vlines lastCaption size
     textOf firstBy offsetBy beforeBy fromBy firstToken lastToken get same startsWith endsWith digits chars concat skipWhite trimStart trimEnd trim
 hold [] = true

@@ -9,32 +9,32 @@ use Rattle.mitex_syntax.specs.Syntax.{TokenDollar, TokenBeginMath, TokenEndMath
 use Rattle.mitex_syntax.specs.Syntax.{TokenSlash, TokenCaret, TokenUnderscore, TokenHash, TokenAsterisk, TokenAtSign, TokenDitto, TokenSemicolon, TokenLParen, TokenRParen}
 use Rattle.mitex_syntax.specs.Syntax.{TokenLBracket, TokenTilde, TokenCommandSym, ItemEnv, ItemTypstCode}
 use Rattle.mitex_syntax.specs.Tree.Tree.{token}
-use Rattle.mitex_meaning.specs.Examples.{Case, case, hold, rule, ruleAs, ruleBy, writes, over, tok, word, name, sym, space, break, newline, ampersand, curly, arg, braced}
+use Rattle.mitex_meaning.specs.Examples.{Example, example, hold, ruleFor, ruleAs, ruleBy, writes, over, tok, tokWord, tokName, tokSym, tokSpace, tokBreak, tokNewLine, tokAmpersand, curly, arg, braced}
 use Rattle.mitex_meaning.specs.Examples.{bracketed, cmd, env}
-use Rattle.mitex_meaning.specs.Examples.Answer.{text}
+use Rattle.mitex_meaning.specs.Examples.Expected.{text}
 use Rattle.mitex_meaning.specs.declared.LaTeXMode.the-variants.{Text, Math}
 
-abbrev pub cases : List Case
-cases =
+abbrev pub documentExamples : List Example
+documentExamples =
     -- 1 block
-    case (rule "" 0 ∷ rule "textcolor" 2 ∷ []) Math
+    example (ruleFor "" 0 ∷ ruleFor "textcolor" 2 ∷ []) Math
     (
-    cmd "\\textcolor" (braced (word "red" ∷ []) ∷ braced (tok TokenAsterisk "*" ∷ over ItemText (token TokenWhiteSpace (226 ∷ 128 ∷ 128 ∷ []) ∷ tok TokenComment "% note" ∷ []) ∷ []) ∷ [])
+    cmd "\\textcolor" (braced (tokWord "red" ∷ []) ∷ braced (tok TokenAsterisk "*" ∷ over ItemText (token TokenWhiteSpace (226 ∷ 128 ∷ 128 ∷ []) ∷ tok TokenComment "% note" ∷ []) ∷ []) ∷ [])
     ∷ []
     )
     (text (ascii "mitexcolor(none, [red])[$\\*" ++ ((226 ∷ 128 ∷ 128 ∷ []) ++ (ascii "$]"))))
     -- 2 blocks
-    ∷ case [] Math
+    ∷ example [] Math
     (token TokenRBrace (ascii "\\(" ++ (226 ∷ 128 ∷ 168 ∷ [])) ∷ tok TokenApostrophe "leftb&" ∷ [])
     (writes "'")
     -- 3 blocks
-    ∷ case (rule "" 0 ∷ ruleAs "caption" 2 "#substack" ∷ ruleBy (229 ∷ 155 ∷ 190 ∷ []) 7 nothing ∷ []) Text
+    ∷ example (ruleFor "" 0 ∷ ruleAs "caption" 2 "#substack" ∷ ruleBy (229 ∷ 155 ∷ 190 ∷ []) 7 nothing ∷ []) Text
     (
     tok TokenLParen "("
     ∷ tok TokenSlash "/"
     ∷ over ItemEnv (
     over ItemBegin (token TokenCommandSym (229 ∷ 155 ∷ 190 ∷ []) ∷ [])
-    ∷ cmd "\\caption" (braced (tok TokenSemicolon ";" ∷ break ∷ token TokenWhiteSpace (227 ∷ 128 ∷ 128 ∷ []) ∷ []) ∷ [])
+    ∷ cmd "\\caption" (braced (tok TokenSemicolon ";" ∷ tokBreak ∷ token TokenWhiteSpace (227 ∷ 128 ∷ 128 ∷ []) ∷ []) ∷ [])
     ∷ over ItemEnd (token TokenCommandSym (229 ∷ 155 ∷ 190 ∷ []) ∷ [])
     ∷ []
     )
@@ -42,31 +42,31 @@ cases =
     )
     (text (ascii "\\(\\/#" ++ ((229 ∷ 155 ∷ 190 ∷ []) ++ (ascii "(caption: [\\;\n],)[];"))))
     -- 6 blocks
-    ∷ case (
+    ∷ example (
     ruleAs "" 0 ""
     ∷ ruleBy (ascii "Zitat-" ++ (195 ∷ 159 ∷ [])) 3 (some (ascii "mitexcolor"))
     ∷ ruleAs "equation" 4 "equation"
-    ∷ rule "includegraphics" 2
-    ∷ rule "section" 2
-    ∷ rule "substack" 2
+    ∷ ruleFor "includegraphics" 2
+    ∷ ruleFor "section" 2
+    ∷ ruleFor "substack" 2
     ∷ ruleAs "textcolor" 2 "#emph"
     ∷ []
     ) Math
     (
     tok TokenHash "#"
-    ∷ break
-    ∷ cmd "\\textcolor" (braced [] ∷ braced (cmd "\\includegraphics" (bracketed [] ∷ braced (word "a/b" ∷ []) ∷ []) ∷ []) ∷ [])
+    ∷ tokBreak
+    ∷ cmd "\\textcolor" (braced [] ∷ braced (cmd "\\includegraphics" (bracketed [] ∷ braced (tokWord "a/b" ∷ []) ∷ []) ∷ []) ∷ [])
     ∷ token TokenWhiteSpace (9 ∷ [])
     ∷ over ItemEnv (
     over ItemBegin (token TokenCommandSym (ascii "Zitat-" ++ (195 ∷ 159 ∷ [])) ∷ [])
-    ∷ break
+    ∷ tokBreak
     ∷ over ItemFormula (
     tok TokenBeginMath "\\["
     ∷ env "equation" [] []
-    ∷ sym "\\section"
-    ∷ over ItemAttachComponent (break ∷ tok TokenUnderscore "_" ∷ [])
-    ∷ sym "\\substack"
-    ∷ word "width"
+    ∷ tokSym "\\section"
+    ∷ over ItemAttachComponent (tokBreak ∷ tok TokenUnderscore "_" ∷ [])
+    ∷ tokSym "\\substack"
+    ∷ tokWord "width"
     ∷ tok TokenEndMath "\\]"
     ∷ []
     )
@@ -78,40 +78,40 @@ cases =
     )
     (text (ascii "\\#\n#emph(none, [])[$#image(\"a/b\")$]" ++ ((9 ∷ []) ++ (ascii "#mitexcolor[\nequation()section\n_()substackw i d t h ];" ++ (226 ∷ 128 ∷ 175 ∷ [])))))
     -- 11 blocks
-    ∷ case (rule "" 0 ∷ rule " " 0 ∷ rule "color" 1 ∷ rule "rm" 1 ∷ rule "tabular" 10 ∷ []) Text
+    ∷ example (ruleFor "" 0 ∷ ruleFor " " 0 ∷ ruleFor "color" 1 ∷ ruleFor "rm" 1 ∷ ruleFor "tabular" 10 ∷ []) Text
     (
-    env "tabular" (braced (word "\nlc" ∷ []) ∷ []) []
-    ∷ word "1"
+    env "tabular" (braced (tokWord "\nlc" ∷ []) ∷ []) []
+    ∷ tokWord "1"
     ∷ cmd "\\color" (arg (tok TokenWhiteSpace "\n" ∷ []) ∷ [])
     ∷ curly (cmd "\\rm" (arg (tok TokenWhiteSpace "  " ∷ []) ∷ []) ∷ [])
     ∷ token TokenWhiteSpace (11 ∷ [])
-    ∷ break
+    ∷ tokBreak
     ∷ tok TokenComment "% note"
     ∷ token TokenWhiteSpace (227 ∷ 128 ∷ 128 ∷ [])
-    ∷ space
+    ∷ tokSpace
     ∷ tok TokenSlash "/"
     ∷ tok TokenRParen ")"
     ∷ []
     )
     (text (ascii "1mitexcolor(none, [black])[];rm(  )" ++ ((11 ∷ []) ++ (ascii "\n" ++ ((227 ∷ 128 ∷ 128 ∷ []) ++ (ascii " \\/\\)"))))))
     -- 41 blocks
-    ∷ case (rule "right" 2 ∷ ruleBy (ascii "textcolor") 10 (some (195 ∷ 169 ∷ [])) ∷ ruleBy (240 ∷ 159 ∷ 142 ∷ 137 ∷ []) 2 (some (ascii "a b")) ∷ []) Text
+    ∷ example (ruleFor "right" 2 ∷ ruleBy (ascii "textcolor") 10 (some (195 ∷ 169 ∷ [])) ∷ ruleBy (240 ∷ 159 ∷ 142 ∷ 137 ∷ []) 2 (some (ascii "a b")) ∷ []) Text
     (
-    cmd "\\textcolor" (braced (word "red" ∷ []) ∷ braced [] ∷ [])
-    ∷ over ItemAttachComponent (tok TokenRParen ")" ∷ word "a" ∷ [])
+    cmd "\\textcolor" (braced (tokWord "red" ∷ []) ∷ braced [] ∷ [])
+    ∷ over ItemAttachComponent (tok TokenRParen ")" ∷ tokWord "a" ∷ [])
     ∷ tok TokenComma ","
-    ∷ over ItemTypstCode (tok TokenCaret "^" ∷ cmd "\\color" (braced (word "red" ∷ []) ∷ []) ∷ [])
+    ∷ over ItemTypstCode (tok TokenCaret "^" ∷ cmd "\\color" (braced (tokWord "red" ∷ []) ∷ []) ∷ [])
     ∷ tok TokenWhiteSpace "\n"
     ∷ over ItemAttachComponent []
     ∷ token TokenWhiteSpace (227 ∷ 128 ∷ 128 ∷ [])
-    ∷ cmd "\\colorbox" (braced (word "red" ∷ []) ∷ [])
+    ∷ cmd "\\colorbox" (braced (tokWord "red" ∷ []) ∷ [])
     ∷ tok TokenLParen "("
-    ∷ over ItemBracket (over ItemLR (over ItemBracket (word "|" ∷ over ClauseLR (word "\\leftx" ∷ []) ∷ []) ∷ []) ∷ [])
+    ∷ over ItemBracket (over ItemLR (over ItemBracket (tokWord "|" ∷ over ClauseLR (tokWord "\\leftx" ∷ []) ∷ []) ∷ []) ∷ [])
     ∷ tok TokenApostrophe "'"
-    ∷ word "."
-    ∷ over ItemLR (over ClauseLR (name "\\left" ∷ word "|" ∷ []) ∷ over ClauseLR (name "\\right" ∷ word ")" ∷ []) ∷ [])
-    ∷ over ScopeRoot (cmd "\\textcolor" (braced (word "red" ∷ []) ∷ braced (word "ab" ∷ []) ∷ []) ∷ [])
-    ∷ newline
+    ∷ tokWord "."
+    ∷ over ItemLR (over ClauseLR (tokName "\\left" ∷ tokWord "|" ∷ []) ∷ over ClauseLR (tokName "\\right" ∷ tokWord ")" ∷ []) ∷ [])
+    ∷ over ScopeRoot (cmd "\\textcolor" (braced (tokWord "red" ∷ []) ∷ braced (tokWord "ab" ∷ []) ∷ []) ∷ [])
+    ∷ tokNewLine
     ∷ over ItemAttachComponent (token TokenWhiteSpace (225 ∷ 154 ∷ 128 ∷ []) ∷ token TokenWord (195 ∷ 159 ∷ []) ∷ tok TokenCaret "^" ∷ cmd "\\colorbox" [] ∷ token TokenWhiteSpace (12 ∷ []) ∷ [])
     ∷ over ItemBlockComment []
     ∷ over ItemBracket (
@@ -119,22 +119,22 @@ cases =
     tok TokenSemicolon ";"
     ∷ arg (token TokenWhiteSpace (194 ∷ 133 ∷ []) ∷ tok TokenRParen "\\)&." ∷ tok TokenEndMath "\\)" ∷ [])
     ∷ over ItemLR (
-    over ClauseLR (name "\\left" ∷ word "[" ∷ [])
+    over ClauseLR (tokName "\\left" ∷ tokWord "[" ∷ [])
     ∷ over ItemAttachComponent (token TokenWhiteSpace (11 ∷ []) ∷ tok TokenUnderscore "_" ∷ [])
     ∷ token TokenWhiteSpace (225 ∷ 154 ∷ 128 ∷ [])
-    ∷ over ClauseLR (name "\\right" ∷ tok TokenWhiteSpace "\n" ∷ word "." ∷ [])
+    ∷ over ClauseLR (tokName "\\right" ∷ tok TokenWhiteSpace "\n" ∷ tokWord "." ∷ [])
     ∷ []
     )
     ∷ []
     )
     ∷ []
     )
-    ∷ over ClauseLR (word "\\left" ∷ word "." ∷ [])
+    ∷ over ClauseLR (tokWord "\\left" ∷ tokWord "." ∷ [])
     ∷ tok TokenComment "]"
     ∷ tok TokenSemicolon ";"
-    ∷ newline
+    ∷ tokNewLine
     ∷ token TokenWord (ascii "na" ++ ((195 ∷ 175 ∷ []) ++ (ascii "ve")))
-    ∷ over ItemAttachComponent (tok TokenCaret "^" ∷ word "=" ∷ [])
+    ∷ over ItemAttachComponent (tok TokenCaret "^" ∷ tokWord "=" ∷ [])
     ∷ tok TokenLParen "("
     ∷ tok TokenSlash "/"
     ∷ tok TokenApostrophe "'"
@@ -142,12 +142,12 @@ cases =
     ∷ tok TokenDollar "$$"
     ∷ tok TokenDitto "\""
     ∷ tok TokenComment "% note"
-    ∷ cmd "\\label" (braced (word "lab:16" ∷ []) ∷ [])
+    ∷ cmd "\\label" (braced (tokWord "lab:16" ∷ []) ∷ [])
     ∷ tok TokenDitto "\""
     ∷ tok TokenLBracket "["
-    ∷ over ItemLR (cmd "\\right" (braced (over ItemParen (sym "\\right" ∷ []) ∷ []) ∷ []) ∷ [])
-    ∷ over ClauseLR (sym "\\leftx" ∷ [])
-    ∷ over ClauseLR (name "\\right" ∷ [])
+    ∷ over ItemLR (cmd "\\right" (braced (over ItemParen (tokSym "\\right" ∷ []) ∷ []) ∷ []) ∷ [])
+    ∷ over ClauseLR (tokSym "\\leftx" ∷ [])
+    ∷ over ClauseLR (tokName "\\right" ∷ [])
     ∷ over ItemTypstCode (tok TokenTilde "~" ∷ [])
     ∷ tok TokenDitto "\""
     ∷ tok TokenEndMath "\\]"
@@ -168,17 +168,17 @@ cases =
     ++ ((225 ∷ 154 ∷ 128 ∷ [])
     ++ (ascii "\\right\n.lr( \\;\\ na" ++ ((195 ∷ 175 ∷ []) ++ (ascii "ve\\^=\\(\\/'" ++ ((240 ∷ 159 ∷ 142 ∷ 137 ∷ []) ++ (ascii "\\\"<lab:16>\\\"\\[right[right];)~\\\"<lab:10>"))))))))))))))))))
     -- 2 blocks
-    ∷ case (ruleAs "" 0 "#" ∷ rule "colorbox" 2 ∷ ruleBy (232 ∷ 161 ∷ 168 ∷ []) 0 (some (ascii "#strong")) ∷ []) Math
+    ∷ example (ruleAs "" 0 "#" ∷ ruleFor "colorbox" 2 ∷ ruleBy (232 ∷ 161 ∷ 168 ∷ []) 0 (some (ascii "#strong")) ∷ []) Math
     (
     tok TokenAtSign "@"
     ∷ cmd "\\colorbox" (
-    braced (word "red" ∷ [])
+    braced (tokWord "red" ∷ [])
     ∷ braced (
     over ItemAttachComponent (
-    over ItemAttachComponent (token TokenWhiteSpace (225 ∷ 154 ∷ 128 ∷ []) ∷ word "l" ∷ tok TokenUnderscore "_" ∷ token TokenWord (232 ∷ 161 ∷ 168 ∷ []) ∷ [])
+    over ItemAttachComponent (token TokenWhiteSpace (225 ∷ 154 ∷ 128 ∷ []) ∷ tokWord "l" ∷ tok TokenUnderscore "_" ∷ token TokenWord (232 ∷ 161 ∷ 168 ∷ []) ∷ [])
     ∷ tok TokenCaret "^"
     ∷ token TokenWhiteSpace (226 ∷ 128 ∷ 175 ∷ [])
-    ∷ word "||"
+    ∷ tokWord "||"
     ∷ []
     )
     ∷ []
@@ -189,7 +189,7 @@ cases =
     )
     (text (ascii "\\@mitexcolor(none, [red])[$" ++ ((225 ∷ 154 ∷ 128 ∷ []) ++ (ascii "l _(" ++ ((232 ∷ 161 ∷ 168 ∷ []) ++ (ascii " )^(" ++ ((226 ∷ 128 ∷ 175 ∷ []) ++ (ascii "| | )$]"))))))))
     -- 2 blocks
-    ∷ case (rule "" 0 ∷ rule "item" 0 ∷ rule "list" 9 ∷ ruleAs "midrule" 0 "#midrule" ∷ ruleAs "tabular" 6 "#tabular" ∷ []) Math
+    ∷ example (ruleFor "" 0 ∷ ruleFor "item" 0 ∷ ruleFor "list" 9 ∷ ruleAs "midrule" 0 "#midrule" ∷ ruleAs "tabular" 6 "#tabular" ∷ []) Math
     (
     token TokenRParen ((227 ∷ 128 ∷ 128 ∷ []) ++ (ascii "lright"))
     ∷ over ItemEnv (
@@ -197,8 +197,8 @@ cases =
     ∷ token TokenLineBreak ((13 ∷ []) ++ (ascii "\n"))
     ∷ token TokenWhiteSpace (194 ∷ 133 ∷ [])
     ∷ cmd "\\item" []
-    ∷ env "tabular" (braced (token TokenWord ((225 ∷ 160 ∷ 142 ∷ []) ++ (ascii "lclc")) ∷ []) ∷ []) (newline ∷ cmd "\\midrule" [] ∷ ampersand ∷ [])
-    ∷ break
+    ∷ env "tabular" (braced (token TokenWord ((225 ∷ 160 ∷ 142 ∷ []) ++ (ascii "lclc")) ∷ []) ∷ []) (tokNewLine ∷ cmd "\\midrule" [] ∷ tokAmpersand ∷ [])
+    ∷ tokBreak
     ∷ cmd "\\item" []
     ∷ over ItemEnd (token TokenCommandSym (ascii "list" ++ (226 ∷ 128 ∷ 131 ∷ 226 ∷ 128 ∷ 168 ∷ [])) ∷ [])
     ∷ []
@@ -208,6 +208,6 @@ cases =
     (text (ascii "\\)" ++ ((13 ∷ []) ++ (ascii "\n  \n- #tabular(arg0: " ++ ((225 ∷ 160 ∷ 142 ∷ []) ++ (ascii " l c l c ,,#midrule &)\n  \n- "))))))
     ∷ []
 
-pub cases-hold : hold cases ≡ true
+pub document-examples-hold : hold documentExamples ≡ true
 unfolding hold
-cases-hold = refl
+document-examples-hold = refl

@@ -7,58 +7,58 @@ use Rattle.text.specs.Ascii.{ascii}
 use Rattle.mitex_syntax.specs.Syntax.{ItemFormula, ItemAttachComponent, TokenWord, TokenCaret}
 use Rattle.mitex_syntax.specs.Tree.Tree.{token}
 use Rattle.mitex_meaning.specs.Outcome.{labelMost}
-use Rattle.mitex_meaning.specs.Examples.{Case, case, hold, few, writes, over, tok, word, space, break, newline, dollar, times, curly, braced, bracketed, cmd, env}
-use Rattle.mitex_meaning.specs.Examples.Answer.{refusal}
+use Rattle.mitex_meaning.specs.Examples.{Example, example, hold, fewRules, writes, over, tok, tokWord, tokSpace, tokBreak, tokNewLine, tokDollar, times, curly, braced, bracketed, cmd, env}
+use Rattle.mitex_meaning.specs.Examples.Expected.{refusal}
 use Rattle.mitex_meaning.specs.declared.LaTeXMode.the-variants.{Text, Math}
 
-abbrev pub cases : List Case
-cases =
+abbrev pub handExamples : List Example
+handExamples =
     -- empty root
-    case few Text [] (writes "")
+    example fewRules Text [] (writes "")
     -- Math ab
-    ∷ case few Math (word "ab" ∷ []) (writes "a b ")
+    ∷ example fewRules Math (tokWord "ab" ∷ []) (writes "a b ")
     -- line feed, space, space
-    ∷ case few Text (break ∷ space ∷ space ∷ []) (writes "\n ")
+    ∷ example fewRules Text (tokBreak ∷ tokSpace ∷ tokSpace ∷ []) (writes "\n ")
     -- one leading space
-    ∷ case few Text (space ∷ []) (writes " ")
+    ∷ example fewRules Text (tokSpace ∷ []) (writes " ")
     -- Math {}
-    ∷ case few Math (curly [] ∷ []) (writes "zws ")
+    ∷ example fewRules Math (curly [] ∷ []) (writes "zws ")
     -- Math {a}
-    ∷ case few Math (curly (word "a" ∷ []) ∷ []) (writes "a ")
+    ∷ example fewRules Math (curly (tokWord "a" ∷ []) ∷ []) (writes "a ")
     -- Math x^2
-    ∷ case few Math (over ItemAttachComponent (word "x" ∷ tok TokenCaret "^" ∷ word "2" ∷ []) ∷ []) (writes "x ^(2 )")
+    ∷ example fewRules Math (over ItemAttachComponent (tokWord "x" ∷ tok TokenCaret "^" ∷ tokWord "2" ∷ []) ∷ []) (writes "x ^(2 )")
     -- Math ^2
-    ∷ case few Math (over ItemAttachComponent (tok TokenCaret "^" ∷ word "2" ∷ []) ∷ []) (writes "zws^(2 )")
+    ∷ example fewRules Math (over ItemAttachComponent (tok TokenCaret "^" ∷ tokWord "2" ∷ []) ∷ []) (writes "zws^(2 )")
     -- Text $x$
-    ∷ case few Text (over ItemFormula (dollar ∷ word "x" ∷ dollar ∷ []) ∷ []) (writes "#math.equation(block: false, $x $);")
+    ∷ example fewRules Text (over ItemFormula (tokDollar ∷ tokWord "x" ∷ tokDollar ∷ []) ∷ []) (writes "#math.equation(block: false, $x $);")
     -- item as row 1
-    ∷ case few Text (cmd "\\item" [] ∷ []) (refusal 11 1)
+    ∷ example fewRules Text (cmd "\\item" [] ∷ []) (refusal 11 1)
     -- table
-    ∷ case few Text
-    (env "tabular" (braced (word "|l|" ∷ []) ∷ []) (word "a" ∷ newline ∷ []) ∷ [])
+    ∷ example fewRules Text
+    (env "tabular" (braced (tokWord "|l|" ∷ []) ∷ []) (tokWord "a" ∷ tokNewLine ∷ []) ∷ [])
     (writes "#table(stroke: none,\ncolumns: 1,\nalign: (left, ),\ntable.vline(stroke: .5pt, x: 0), table.vline(stroke: .5pt, x: 1), \n[a],\n);")
     -- label, then table
-    ∷ case few Text
+    ∷ example fewRules Text
     (
-    over ItemFormula (dollar ∷ curly (cmd "\\label" (braced (word "e" ∷ []) ∷ []) ∷ []) ∷ dollar ∷ [])
-    ∷ env "tabular" (braced (word "|l|" ∷ []) ∷ []) (word "a" ∷ newline ∷ [])
+    over ItemFormula (tokDollar ∷ curly (cmd "\\label" (braced (tokWord "e" ∷ []) ∷ []) ∷ []) ∷ tokDollar ∷ [])
+    ∷ env "tabular" (braced (tokWord "|l|" ∷ []) ∷ []) (tokWord "a" ∷ tokNewLine ∷ [])
     ∷ []
     )
     (writes "#math.equation(block: false, $$);#table(stroke: none,\ncolumns: 1,\nalign: (left, ),\ntable.vline(stroke: .5pt, x: 0), table.vline(stroke: .5pt, x: 1), \n[a],\n);<e>")
     -- held label of the most bytes
-    ∷ case few Text
-    (over ItemFormula (dollar ∷ curly (cmd "\\label" (braced (token TokenWord (times labelMost (ascii "l")) ∷ []) ∷ []) ∷ []) ∷ dollar ∷ []) ∷ [])
+    ∷ example fewRules Text
+    (over ItemFormula (tokDollar ∷ curly (cmd "\\label" (braced (token TokenWord (times labelMost (ascii "l")) ∷ []) ∷ []) ∷ []) ∷ tokDollar ∷ []) ∷ [])
     (writes "#math.equation(block: false, $$);")
     -- held label of one byte more
-    ∷ case few Text
-    (over ItemFormula (dollar ∷ curly (cmd "\\label" (braced (token TokenWord (times (1 + labelMost) (ascii "l")) ∷ []) ∷ []) ∷ []) ∷ dollar ∷ []) ∷ [])
+    ∷ example fewRules Text
+    (over ItemFormula (tokDollar ∷ curly (cmd "\\label" (braced (token TokenWord (times (1 + labelMost) (ascii "l")) ∷ []) ∷ []) ∷ []) ∷ tokDollar ∷ []) ∷ [])
     (refusal 14 5)
     -- image width
-    ∷ case few Text
-    (cmd "\\includegraphics" (bracketed (word "width=0.5\\textwidth" ∷ []) ∷ braced (word "p" ∷ []) ∷ []) ∷ [])
+    ∷ example fewRules Text
+    (cmd "\\includegraphics" (bracketed (tokWord "width=0.5\\textwidth" ∷ []) ∷ braced (tokWord "p" ∷ []) ∷ []) ∷ [])
     (writes "#image(width: 0.5 * 100%, \"p\")")
     ∷ []
 
-pub cases-hold : hold cases ≡ true
+pub hand-examples-hold : hold handExamples ≡ true
 unfolding hold
-cases-hold = refl
+hand-examples-hold = refl

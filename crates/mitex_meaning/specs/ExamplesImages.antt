@@ -5,29 +5,29 @@ use mathlib.Core.List.{List, [], _∷_, _++_}
 use Rattle.text.specs.Ascii.{ascii}
 use Rattle.mitex_syntax.specs.Syntax.{TokenError, TokenWord}
 use Rattle.mitex_syntax.specs.Tree.Tree.{token}
-use Rattle.mitex_meaning.specs.Examples.{Case, case, hold, usual, writes, tok, word, space, curly, arg, braced, bracketed, cmd}
+use Rattle.mitex_meaning.specs.Examples.{Example, example, hold, usual, writes, tok, tokWord, tokSpace, curly, arg, braced, bracketed, cmd}
 use Rattle.mitex_meaning.specs.declared.LaTeXMode.the-variants.{Text, Math}
 
-abbrev pub cases : List Case
-cases =
+abbrev pub imageExamples : List Example
+imageExamples =
     -- image: two = give an empty value
-    case usual Text
-    (cmd "\\includegraphics" (bracketed (word "width=1=2" ∷ []) ∷ braced (word "p" ∷ []) ∷ []) ∷ [])
+    example usual Text
+    (cmd "\\includegraphics" (bracketed (tokWord "width=1=2" ∷ []) ∷ braced (tokWord "p" ∷ []) ∷ []) ∷ [])
     (writes "#image(width: , \"p\")")
     -- image: no = gives an empty value
-    ∷ case usual Text
-    (cmd "\\includegraphics" (bracketed (word "width" ∷ []) ∷ braced (word "p" ∷ []) ∷ []) ∷ [])
+    ∷ example usual Text
+    (cmd "\\includegraphics" (bracketed (tokWord "width" ∷ []) ∷ braced (tokWord "p" ∷ []) ∷ []) ∷ [])
     (writes "#image(width: , \"p\")")
     -- image: endings removed as often as they repeat, one kind only
-    ∷ case usual Text
-    (cmd "\\includegraphics" (bracketed (word "width=2\\textheight\\textwidth\\textwidth,height=\\textheight" ∷ []) ∷ braced (word "p" ∷ []) ∷ []) ∷ [])
+    ∷ example usual Text
+    (cmd "\\includegraphics" (bracketed (tokWord "width=2\\textheight\\textwidth\\textwidth,height=\\textheight" ∷ []) ∷ braced (tokWord "p" ∷ []) ∷ []) ∷ [])
     (writes "#image(width: 2\\textheight * 100%, height:  * 100%, \"p\")")
     -- image: the space before the ending stays
-    ∷ case usual Text
-    (cmd "\\includegraphics" (bracketed (word " width = 0.5 \\textwidth ,angle=4,Width=3" ∷ []) ∷ braced (word "p" ∷ []) ∷ []) ∷ [])
+    ∷ example usual Text
+    (cmd "\\includegraphics" (bracketed (tokWord " width = 0.5 \\textwidth ,angle=4,Width=3" ∷ []) ∷ braced (tokWord "p" ∷ []) ∷ []) ∷ [])
     (writes "#image(width: 0.5  * 100%, \"p\")")
     -- image: Unicode white space trimmed
-    ∷ case usual Text
+    ∷ example usual Text
     (
     cmd "\\includegraphics" (
     bracketed (
@@ -36,32 +36,32 @@ cases =
     ++ ((194 ∷ 160 ∷ []) ++ (ascii "=" ++ ((226 ∷ 128 ∷ 131 ∷ []) ++ (ascii "3cm" ++ ((226 ∷ 128 ∷ 168 ∷ []) ++ (ascii "," ++ ((194 ∷ 133 ∷ []) ++ (ascii "height=1"))))))))))
     ∷ []
     )
-    ∷ braced (word "p" ∷ [])
+    ∷ braced (tokWord "p" ∷ [])
     ∷ []
     )
     ∷ []
     )
     (writes "#image(width: 3cm, height: 1, \"p\")")
     -- image: the argument's text, ends cut whatever they are
-    ∷ case usual Text
-    (cmd "\\includegraphics" (arg (space ∷ curly (word "p" ∷ []) ∷ space ∷ []) ∷ []) ∷ [])
+    ∷ example usual Text
+    (cmd "\\includegraphics" (arg (tokSpace ∷ curly (tokWord "p" ∷ []) ∷ tokSpace ∷ []) ∷ []) ∷ [])
     (writes "#image(\"{p}\")")
     -- image: the first bracket and the first curly argument
-    ∷ case usual Text
-    (cmd "\\includegraphics" (braced (word "p" ∷ []) ∷ bracketed (word "width=1" ∷ []) ∷ bracketed (word "width=2" ∷ []) ∷ braced (word "q" ∷ []) ∷ []) ∷ [])
+    ∷ example usual Text
+    (cmd "\\includegraphics" (braced (tokWord "p" ∷ []) ∷ bracketed (tokWord "width=1" ∷ []) ∷ bracketed (tokWord "width=2" ∷ []) ∷ braced (tokWord "q" ∷ []) ∷ []) ∷ [])
     (writes "#image(width: 1, \"p\")")
     -- image: no semicolon, also in Math
-    ∷ case usual Math
-    (cmd "\\includegraphics" (bracketed (word "height=2" ∷ []) ∷ braced (word "p" ∷ []) ∷ []) ∷ [])
+    ∷ example usual Math
+    (cmd "\\includegraphics" (bracketed (tokWord "height=2" ∷ []) ∷ braced (tokWord "p" ∷ []) ∷ []) ∷ [])
     (writes "#image(height: 2, \"p\")")
     -- image: its arguments are not walked
-    ∷ case usual Text (cmd "\\includegraphics" (braced (tok TokenError "a?b" ∷ []) ∷ []) ∷ []) (writes "#image(\"a?b\")")
+    ∷ example usual Text (cmd "\\includegraphics" (braced (tok TokenError "a?b" ∷ []) ∷ []) ∷ []) (writes "#image(\"a?b\")")
     -- 5: only the first curly argument needs good ends
-    ∷ case usual Text
-    (cmd "\\includegraphics" (braced (word "p" ∷ []) ∷ arg (token TokenWord (195 ∷ 169 ∷ []) ∷ curly [] ∷ []) ∷ []) ∷ [])
+    ∷ example usual Text
+    (cmd "\\includegraphics" (braced (tokWord "p" ∷ []) ∷ arg (token TokenWord (195 ∷ 169 ∷ []) ∷ curly [] ∷ []) ∷ []) ∷ [])
     (writes "#image(\"p\")")
     ∷ []
 
-pub cases-hold : hold cases ≡ true
+pub image-examples-hold : hold imageExamples ≡ true
 unfolding hold
-cases-hold = refl
+image-examples-hold = refl

@@ -7,85 +7,85 @@ use Rattle.text.specs.Ascii.{ascii}
 use Rattle.mitex_syntax.specs.Syntax.{TokenError, ItemFormula, TokenWord, ItemCmd}
 use Rattle.mitex_syntax.specs.Tree.Tree.{token}
 use Rattle.mitex_meaning.specs.Outcome.{labelMost}
-use Rattle.mitex_meaning.specs.Examples.{Case, case, hold, usual, writes, over, tok, word, name, space, comment, dollar, times, curly, arg, braced, cmd, env}
-use Rattle.mitex_meaning.specs.Examples.Answer.{text, refusal}
+use Rattle.mitex_meaning.specs.Examples.{Example, example, hold, usual, writes, over, tok, tokWord, tokName, tokSpace, tokComment, tokDollar, times, curly, arg, braced, cmd, env}
+use Rattle.mitex_meaning.specs.Examples.Expected.{text, refusal}
 use Rattle.mitex_meaning.specs.declared.LaTeXMode.the-variants.{Text, Math}
 
-abbrev pub cases : List Case
-cases =
+abbrev pub labelExamples : List Example
+labelExamples =
     -- label under None in Math: nothing, and not held
-    case usual Math (cmd "\\label" (braced (word "k" ∷ []) ∷ []) ∷ []) (writes "")
+    example usual Math (cmd "\\label" (braced (tokWord "k" ∷ []) ∷ []) ∷ []) (writes "")
     -- label under None of any length is written, no 14
-    ∷ case usual Text
+    ∷ example usual Text
     (cmd "\\label" (braced (token TokenWord (times (10 + labelMost) (ascii "k")) ∷ []) ∷ []) ∷ [])
     (text (ascii "<" ++ (times (10 + labelMost) (ascii "k") ++ (ascii ">"))))
     -- label directly in a formula: env is None, so it is not held
-    ∷ case usual Text
-    (over ItemFormula (dollar ∷ cmd "\\label" (braced (word "k" ∷ []) ∷ []) ∷ dollar ∷ []) ∷ env "quote" [] [] ∷ [])
+    ∷ example usual Text
+    (over ItemFormula (tokDollar ∷ cmd "\\label" (braced (tokWord "k" ∷ []) ∷ []) ∷ tokDollar ∷ []) ∷ env "quote" [] [] ∷ [])
     (writes "#math.equation(block: false, $$);#quote[];")
     -- label in a formula's curly group is held
-    ∷ case usual Text
+    ∷ example usual Text
     (
-    over ItemFormula (dollar ∷ curly (cmd "\\label" (braced (word "k" ∷ []) ∷ []) ∷ []) ∷ dollar ∷ [])
+    over ItemFormula (tokDollar ∷ curly (cmd "\\label" (braced (tokWord "k" ∷ []) ∷ []) ∷ []) ∷ tokDollar ∷ [])
     ∷ env "quote" [] []
     ∷ []
     )
     (writes "#math.equation(block: false, $$);#quote[];<k>")
     -- label in quote is written at once: its env is None
-    ∷ case usual Text (env "quote" [] (cmd "\\label" (braced (word "k" ∷ []) ∷ []) ∷ []) ∷ []) (writes "#quote[<k>];")
+    ∷ example usual Text (env "quote" [] (cmd "\\label" (braced (tokWord "k" ∷ []) ∷ []) ∷ []) ∷ []) (writes "#quote[<k>];")
     -- empty label is held and written as <>
-    ∷ case usual Text (env "figure" [] (cmd "\\label" (braced (space ∷ []) ∷ []) ∷ []) ∷ []) (writes "#figure()[];<>")
+    ∷ example usual Text (env "figure" [] (cmd "\\label" (braced (tokSpace ∷ []) ∷ []) ∷ []) ∷ []) (writes "#figure()[];<>")
     -- later label replaces the held one
-    ∷ case usual Text
-    (env "figure" [] (cmd "\\label" (braced (word "a" ∷ []) ∷ []) ∷ cmd "\\label" (braced (word "b" ∷ []) ∷ []) ∷ []) ∷ [])
+    ∷ example usual Text
+    (env "figure" [] (cmd "\\label" (braced (tokWord "a" ∷ []) ∷ []) ∷ cmd "\\label" (braced (tokWord "b" ∷ []) ∷ []) ∷ []) ∷ [])
     (writes "#figure()[];<b>")
     -- figure in Math keeps the label held
-    ∷ case usual Math (env "figure" [] (cmd "\\label" (braced (word "k" ∷ []) ∷ []) ∷ []) ∷ []) (writes "#figure()[];")
+    ∷ example usual Math (env "figure" [] (cmd "\\label" (braced (tokWord "k" ∷ []) ∷ []) ∷ []) ∷ []) (writes "#figure()[];")
     -- a list between leaves the label held
-    ∷ case usual Text
+    ∷ example usual Text
     (
-    over ItemFormula (dollar ∷ curly (cmd "\\label" (braced (word "k" ∷ []) ∷ []) ∷ []) ∷ dollar ∷ [])
+    over ItemFormula (tokDollar ∷ curly (cmd "\\label" (braced (tokWord "k" ∷ []) ∷ []) ∷ []) ∷ tokDollar ∷ [])
     ∷ env "itemize" [] []
     ∷ env "quote" [] []
     ∷ []
     )
     (writes "#math.equation(block: false, $$);#quote[];<k>")
     -- label in a caption: an environment inside the caption takes it
-    ∷ case usual Text
-    (env "figure" [] (cmd "\\caption" (braced (cmd "\\label" (braced (word "k" ∷ []) ∷ []) ∷ env "quote" [] [] ∷ []) ∷ []) ∷ []) ∷ [])
+    ∷ example usual Text
+    (env "figure" [] (cmd "\\caption" (braced (cmd "\\label" (braced (tokWord "k" ∷ []) ∷ []) ∷ env "quote" [] [] ∷ []) ∷ []) ∷ []) ∷ [])
     (writes "#figure(caption: [#quote[];<k>],)[];")
     -- label before a caption in the file is set after the caption's
-    ∷ case usual Text
-    (env "figure" [] (cmd "\\label" (braced (word "first" ∷ []) ∷ []) ∷ cmd "\\caption" (braced (cmd "\\label" (braced (word "cap" ∷ []) ∷ []) ∷ []) ∷ []) ∷ []) ∷ [])
+    ∷ example usual Text
+    (env "figure" [] (cmd "\\label" (braced (tokWord "first" ∷ []) ∷ []) ∷ cmd "\\caption" (braced (cmd "\\label" (braced (tokWord "cap" ∷ []) ∷ []) ∷ []) ∷ []) ∷ []) ∷ [])
     (writes "#figure(caption: [],)[];<first>")
     -- label's argument is its first ClauseArgument, also before the name
-    ∷ case usual Text
-    (over ItemCmd (arg (word "<x>" ∷ []) ∷ name "\\label" ∷ braced (word "y" ∷ []) ∷ []) ∷ [])
+    ∷ example usual Text
+    (over ItemCmd (arg (tokWord "<x>" ∷ []) ∷ tokName "\\label" ∷ braced (tokWord "y" ∷ []) ∷ []) ∷ [])
     (writes "<x>")
     -- label text is the argument's text, ends cut whatever they are
-    ∷ case usual Text (cmd "\\label" (arg (word "abc" ∷ []) ∷ []) ∷ []) (writes "<b>")
+    ∷ example usual Text (cmd "\\label" (arg (tokWord "abc" ∷ []) ∷ []) ∷ []) (writes "<b>")
     -- label in an argument of an environment for Math
-    ∷ case usual Text
-    (env "matrix" (braced (cmd "\\label" (braced (word "k" ∷ []) ∷ []) ∷ []) ∷ []) [] ∷ [])
+    ∷ example usual Text
+    (env "matrix" (braced (cmd "\\label" (braced (tokWord "k" ∷ []) ∷ []) ∷ []) ∷ []) [] ∷ [])
     (writes "$ mat(arg0: ,) $<k>")
     -- label in a matrix inside a formula waits for Text
-    ∷ case usual Text
+    ∷ example usual Text
     (
-    over ItemFormula (dollar ∷ env "matrix" [] (cmd "\\label" (braced (word "k" ∷ []) ∷ []) ∷ []) ∷ dollar ∷ [])
+    over ItemFormula (tokDollar ∷ env "matrix" [] (cmd "\\label" (braced (tokWord "k" ∷ []) ∷ []) ∷ []) ∷ tokDollar ∷ [])
     ∷ env "quote" [] []
     ∷ []
     )
     (writes "#math.equation(block: false, $mat()$);#quote[];<k>")
     -- long label in a figure
-    ∷ case usual Text
+    ∷ example usual Text
     (env "figure" [] (cmd "\\label" (braced (token TokenWord (times (1 + labelMost / 2) (195 ∷ 169 ∷ [])) ∷ []) ∷ []) ∷ []) ∷ [])
     (refusal 14 4)
     -- \label writes its argument's raw text, unwalked
-    ∷ case usual Text
-    (cmd "\\label" (braced (word "a" ∷ cmd "\\b" [] ∷ tok TokenError "?" ∷ comment ∷ []) ∷ []) ∷ [])
+    ∷ example usual Text
+    (cmd "\\label" (braced (tokWord "a" ∷ cmd "\\b" [] ∷ tok TokenError "?" ∷ tokComment ∷ []) ∷ []) ∷ [])
     (writes "<a\\b?%>")
     ∷ []
 
-pub cases-hold : hold cases ≡ true
+pub label-examples-hold : hold labelExamples ≡ true
 unfolding hold
-cases-hold = refl
+label-examples-hold = refl

@@ -12,7 +12,7 @@ use Rattle.mitex_syntax.specs.Tree.Forest.{none, more}
 use Rattle.mitex_syntax.specs.Spells.{Spells, SpellsAll, SomeForest}
 use Rattle.mitex_syntax.specs.Rows.{extentOf, tokenSum, Spans}
 use Rattle.mitex_syntax.specs.declared.Span.{Span}
-use Rattle.mitex_syntax.proofs.Trees.{length-rows, length-rowss, extent-tree, size-some, Element, element, all-begins, spells-alone, no-left, spans, rows-e, text-n, part-spells, past-exact}
+use Rattle.mitex_syntax.proofs.Trees.{length-rows, length-rowss, extent-tree, size-some, ElementAt, element, all-begins, spells-alone, no-left, spans, rows-e, text-n, part-spells, past-exact}
 use Rattle.mitex_meaning.specs.Parts.{between, partRows, partText, Inside}
 use Rattle.mitex_meaning.specs.declared.Part.{Part}
 use Rattle.mitex_colors.proofs.Scans.{between-take}
@@ -31,7 +31,7 @@ positive {n} h = omega arith
 -- ---- what reading the first child's size asks, and that it stays inside
 
 module _ {rows text : List ℕ} (g : SomeForest rows text 0 0) (h : 0 < length rows) where
-  some-head : Element (g .forest) rows text 0 0
+  some-head : ElementAt (g .forest) rows text 0 0
   some-head = element (g .begins) h (omega arith) (g .few) (g .short)
 
   pub head-spans : Spans rows 0
@@ -65,7 +65,7 @@ module _ {f : Forest} {rows text : List ℕ} (sp : SpellsAll f rows text) where
   some-apart h few short s is-e is-n =
       let e = s .rows in
       let n = s .text in
-      let x : Element f rows text 0 0 = element (all-begins sp) h (omega arith) few short in
+      let x : ElementAt f rows text 0 0 = element (all-begins sp) h (omega arith) few short in
       let z = past-exact x e n is-e is-n sp in
       let ze : 0 + e - 0 ≡ e - 0 = omega arith in
       let zn : 0 + n - 0 ≡ n - 0 = omega arith in

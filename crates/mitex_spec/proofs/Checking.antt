@@ -23,7 +23,7 @@ use Rattle.text.specs.Trailer.{ahead}
 use Rattle.mitex_spec.specs.RuleFile.{classMost, noAlias, padded, validAlias, ruleFits, risesFrom, rises, nameLength}
 use Rattle.mitex_spec.specs.RuleFile.{aliasLength, ruleTaken, aliasAt, ruleAt, ruleRowFits, rulesIn, rising}
 use Rattle.mitex_spec.specs.Index.{startsFrom, accepted}
-use Rattle.mitex_spec.proofs.RuleFile.{RuleRowFits, row-says}
+use Rattle.mitex_spec.proofs.RuleFile.{RuleRowFits, rule-row-says}
 
 -- ---- one row
 
@@ -43,7 +43,7 @@ pub or-later : (b x r : Bool) → r ≡ x → b ≡ false → r ≡ (b || x)
 or-later b x r e f = e ∙ sym (ap (λ t. t || x) f)
 
 pub row-not : (rows text : List ℕ) → (RuleRowFits rows text → ⊥) → false ≡ ruleRowFits rows text
-row-not rows text h = by-test (ruleRowFits rows text) (λ e. absurd (h (row-says rows text e))) (λ e. sym e)
+row-not rows text h = by-test (ruleRowFits rows text) (λ e. absurd (h (rule-row-says rows text e))) (λ e. sym e)
 
 alias-valid : (m : ℕ) (t : List ℕ) → validAlias (aliasAt m t) ≡ valid (take (cond (eqb m noAlias) 0 m) t)
 unfolding valid charSteps
@@ -84,36 +84,36 @@ abbrev risesAfter : Bool → List ℕ → List Rule → Bool
 risesAfter true last rs = rises rs
 risesAfter false last rs = risesFrom last rs
 
-abbrev after : Bool → List ℕ → Option (List Rule) → Bool
-after first last none = false
-after first last (some rs) = risesAfter first last rs
+abbrev acceptedAfter : Bool → List ℕ → Option (List Rule) → Bool
+acceptedAfter first last none = false
+acceptedAfter first last (some rs) = risesAfter first last rs
 
 -- the answer for n rows is that for the m rows that are left, after the name before them
 pub record RulesLeft (n : ℕ) (rows text : List ℕ) (first : Bool) (last l t : List ℕ) : Type 0 where
   pub m : ℕ
   pub long : length l ≡ 8 * m
-  pub still : accepted (rising (rulesIn n rows text)) ≡ after first last (rulesIn m l t)
+  pub still : accepted (rising (rulesIn n rows text)) ≡ acceptedAfter first last (rulesIn m l t)
 
-left-all : (last : List ℕ) (o : Option (List Rule)) → accepted (rising o) ≡ after true last o
-left-all last none = refl
-left-all last (some rs) =
+rules-left-all : (last : List ℕ) (o : Option (List Rule)) → accepted (rising o) ≡ acceptedAfter true last o
+rules-left-all last none = refl
+rules-left-all last (some rs) =
     by-test (rises rs)
     (λ e. ap (λ b. accepted (cond b (some rs) none)) e ∙ sym e)
     (λ e. ap (λ b. accepted (cond b (some rs) none)) e ∙ sym e)
 
-pub left-start : (n : ℕ) (rows text last : List ℕ) → length rows ≡ 8 * n → RulesLeft n rows text true last rows text
-left-start n rows text last h = record { m = n; long = h; still = left-all last (rulesIn n rows text) }
+pub rules-left-start : (n : ℕ) (rows text last : List ℕ) → length rows ≡ 8 * n → RulesLeft n rows text true last rows text
+rules-left-start n rows text last h = record { m = n; long = h; still = rules-left-all last (rulesIn n rows text) }
 
-after-ahead :
+acceptedAfter-ahead :
     (first : Bool) (last : List ℕ) (r : Rule) (o : Option (List Rule))
-    → after first last (ahead r o) ≡ ((first || precedes last (r .name)) && after false (r .name) o)
+    → acceptedAfter first last (ahead r o) ≡ ((first || precedes last (r .name)) && acceptedAfter false (r .name) o)
 unfolding risesFrom
-after-ahead true last r none = refl
-after-ahead true last r (some rs) = refl
-after-ahead false last r none = sym (mathlib.Core.Bool.and-false (precedes last (r .name)))
-after-ahead false last r (some rs) = refl
+acceptedAfter-ahead true last r none = refl
+acceptedAfter-ahead true last r (some rs) = refl
+acceptedAfter-ahead false last r none = sym (mathlib.Core.Bool.and-false (precedes last (r .name)))
+acceptedAfter-ahead false last r (some rs) = refl
 
-none-left : (l t : List ℕ) (first : Bool) (last : List ℕ) → eqb (length t) 0 ≡ after first last (rulesIn 0 l t)
+none-left : (l t : List ℕ) (first : Bool) (last : List ℕ) → eqb (length t) 0 ≡ acceptedAfter first last (rulesIn 0 l t)
 unfolding rulesIn risesFrom
 none-left l [] true last = refl
 none-left l [] false last = refl
@@ -124,51 +124,51 @@ module _ {n : ℕ} {rows text : List ℕ} {first : Bool} {last l t : List ℕ} (
   abbrev others : ℕ → Option (List Rule)
   others k = rulesIn k (drop 8 l) (drop (ruleTaken l) t)
 
-  next-row : (k : ℕ) → s .m ≡ suc k → accepted (rising (rulesIn n rows text)) ≡ after first last (cond (ruleRowFits l t) (ahead (ruleAt l t) (others k)) none)
+  next-row : (k : ℕ) → s .m ≡ suc k → accepted (rising (rulesIn n rows text)) ≡ acceptedAfter first last (cond (ruleRowFits l t) (ahead (ruleAt l t) (others k)) none)
   unfolding rulesIn
-  next-row k e = s .still ∙ ap (λ j. after first last (rulesIn j l t)) e
+  next-row k e = s .still ∙ ap (λ j. acceptedAfter first last (rulesIn j l t)) e
 
   one-more : 8 ≤ length l → s .m ≡ suc (s .m - 1)
   one-more h = let q = s .long in omega arith
 
-  pub left-unfit : 8 ≤ length l → ruleRowFits l t ≡ false → false ≡ accepted (rising (rulesIn n rows text))
-  left-unfit h e = sym (next-row (s .m - 1) (one-more h) ∙ ap (λ b. after first last (cond b (ahead (ruleAt l t) (others (s .m - 1))) none)) e)
+  pub rules-left-unfit : 8 ≤ length l → ruleRowFits l t ≡ false → false ≡ accepted (rising (rulesIn n rows text))
+  rules-left-unfit h e = sym (next-row (s .m - 1) (one-more h) ∙ ap (λ b. acceptedAfter first last (cond b (ahead (ruleAt l t) (others (s .m - 1))) none)) e)
 
   fit-row :
       (k : ℕ) (b : Bool) (i : ℕ) → s .m ≡ suc k → ruleRowFits l t ≡ true → i ≡ nameLength l → b ≡ (first || precedes last (take i t))
-      → accepted (rising (rulesIn n rows text)) ≡ (b && after false (take i t) (others k))
+      → accepted (rising (rulesIn n rows text)) ≡ (b && acceptedAfter false (take i t) (others k))
   fit-row k b i q e p f =
       next-row k q
-      ∙ ap (λ b. after first last (cond b (ahead (ruleAt l t) (others k)) none)) e
-      ∙ after-ahead first last (ruleAt l t) (others k)
-      ∙ ap (λ j. (first || precedes last (take j t)) && after false (take j t) (others k)) (sym p)
-      ∙ ap (λ b. b && after false (take i t) (others k)) (sym f)
+      ∙ ap (λ b. acceptedAfter first last (cond b (ahead (ruleAt l t) (others k)) none)) e
+      ∙ acceptedAfter-ahead first last (ruleAt l t) (others k)
+      ∙ ap (λ j. (first || precedes last (take j t)) && acceptedAfter false (take j t) (others k)) (sym p)
+      ∙ ap (λ b. b && acceptedAfter false (take i t) (others k)) (sym f)
 
-  pub left-falls :
+  pub rules-left-falls :
       (b : Bool) (i : ℕ) → 8 ≤ length l → ruleRowFits l t ≡ true → i ≡ nameLength l → b ≡ (first || precedes last (take i t)) → b ≡ false
       → false ≡ accepted (rising (rulesIn n rows text))
-  left-falls b i h e p f g =
-      sym (fit-row (s .m - 1) b i (one-more h) e p f ∙ ap (λ b. b && after false (take i t) (others (s .m - 1))) g)
+  rules-left-falls b i h e p f g =
+      sym (fit-row (s .m - 1) b i (one-more h) e p f ∙ ap (λ b. b && acceptedAfter false (take i t) (others (s .m - 1))) g)
 
-  pub left-next :
+  pub rules-left-next :
       (b : Bool) (i k : ℕ) → 8 ≤ length l → ruleRowFits l t ≡ true → i ≡ nameLength l → b ≡ (first || precedes last (take i t)) → b ≡ true
       → k ≡ ruleTaken l → RulesLeft n rows text false (take i t) (take (length l - 8) (drop 8 l)) (take (length t - k) (drop k t))
-  left-next b i k h e p f g q =
+  rules-left-next b i k h e p f g q =
       let go : RulesLeft n rows text false (take i t) (drop 8 l) (drop (ruleTaken l) t)
       = record {
         m = s .m - 1;
         long = length-drop 8 l ∙ (let w = s .long in omega arith);
-        still = fit-row (s .m - 1) b i (one-more h) e p f ∙ ap (λ b. b && after false (take i t) (others (s .m - 1))) g;
+        still = fit-row (s .m - 1) b i (one-more h) e p f ∙ ap (λ b. b && acceptedAfter false (take i t) (others (s .m - 1))) g;
       } in
       subst (λ x. RulesLeft n rows text false (take i t) x (take (length t - k) (drop k t))) (sym (part-rest l 8))
       (subst (λ x. RulesLeft n rows text false (take i t) (drop 8 l) x) (sym (part-rest t k))
       (subst (λ x. RulesLeft n rows text false (take i t) (drop 8 l) (drop x t)) (sym q) go))
 
-  pub left-end : length l < 8 → eqb (length t) 0 ≡ accepted (rising (rulesIn n rows text))
-  left-end h =
+  pub rules-left-end : length l < 8 → eqb (length t) 0 ≡ accepted (rising (rulesIn n rows text))
+  rules-left-end h =
       let q = s .long in
       let z : s .m ≡ 0 = omega arith in
-      none-left l t first last ∙ sym (s .still ∙ ap (λ j. after first last (rulesIn j l t)) z)
+      none-left l t first last ∙ sym (s .still ∙ ap (λ j. acceptedAfter first last (rulesIn j l t)) z)
 
 -- ---- the index
 

@@ -114,9 +114,9 @@ pub record RuleRowFits (rows text : List ℕ) : Type 0 where
   pub low : getD rows 4 0 ≤ classMost
   pub name : valid (take (nameLength rows) text) ≡ true
 
-pub row-says : (rows text : List ℕ) → ruleRowFits rows text ≡ true → RuleRowFits rows text
+pub rule-row-says : (rows text : List ℕ) → ruleRowFits rows text ≡ true → RuleRowFits rows text
 unfolding ruleRowFits
-row-says rows text e =
+rule-row-says rows text e =
     let r = ruleAt rows text in
     let a = and-eq-true-iff (padded rows) (leb (ruleTaken rows) (length text) && ruleFits r) .0 e in
     let b = and-eq-true-iff (leb (ruleTaken rows) (length text)) (ruleFits r) .0 (a .1) in
@@ -172,7 +172,7 @@ text-written rows text =
 
 -- ---- all rows
 
-pub record Written (n : ℕ) (rows text : List ℕ) (rs : List Rule) : Type 0 where
+pub record RulesWritten (n : ℕ) (rows text : List ℕ) (rs : List Rule) : Type 0 where
   pub many : length rs ≡ n
   pub rows-are : rows ≡ rowsOfRules rs
   pub text-is : text ≡ textOfRules rs
@@ -181,7 +181,7 @@ pub record Written (n : ℕ) (rows text : List ℕ) (rs : List Rule) : Type 0 wh
 no-rules : {rs : List Rule} → none ≡ some rs → ⊥
 no-rules e = let z : _≡_ {A = ℕ} 0 1 = cc in omega arith
 
-pub rulesIn-says : (n : ℕ) (rows text : List ℕ) (rs : List Rule) → Bytes rows → length rows ≡ 8 * n → rulesIn n rows text ≡ some rs → Written n rows text rs
+pub rulesIn-says : (n : ℕ) (rows text : List ℕ) (rs : List Rule) → Bytes rows → length rows ≡ 8 * n → rulesIn n rows text ≡ some rs → RulesWritten n rows text rs
 unfolding rulesIn rowsOfRules textOfRules allFit
 rulesIn-says zero [] [] [] by l e = record { many = refl; rows-are = refl; text-is = refl; fit = refl }
 rulesIn-says zero (x ∷ rows) text rs by l e = absurd (omega arith)
@@ -190,12 +190,12 @@ rulesIn-says zero [] [] (r ∷ rs) by l e = absurd (let z : _≡_ {A = ℕ} 0 1 
 rulesIn-says (suc n) rows text rs by l e =
     by-test (ruleRowFits rows text)
     (λ t.
-    let s = row-says rows text t in
+    let s = rule-row-says rows text t in
     let o = rulesIn n (drop 8 rows) (drop (ruleTaken rows) text) in
     let a = ahead-some (ruleAt rows text) o rs (sym (ap (λ b. cond b (ahead (ruleAt rows text) o) none) t) ∙ e) in
     let i = rulesIn-says n (drop 8 rows) (drop (ruleTaken rows) text) (a .0) (bytes-drop 8 rows by) (length-drop 8 rows ∙ omega arith) (a .1 .0) in
     let many = i .many in
-    subst (Written (suc n) rows text) (a .1 .1)
+    subst (RulesWritten (suc n) rows text) (a .1 .1)
     (record {
       many = ap suc many;
       rows-are = row-written rows text by (omega arith) s ∙ ap (ruleRow (ruleAt rows text)) (i .rows-are);

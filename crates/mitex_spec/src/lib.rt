@@ -98,7 +98,7 @@ fn rule_row_fits(rows: &[u8], text: &[u8], plain: bool) -> bool
 }
 
 // Whether a name follows the one before it; the first follows none.
-fn follows(first: bool, last: &[u8], name: &[u8]) -> bool
+fn may_follow(first: bool, last: &[u8], name: &[u8]) -> bool
     ensures { λ r. ⌜ r ≡ (first || precedes (now (last .entry)) (now (name .entry))) ⌝ }
 {
     if first {
@@ -121,7 +121,7 @@ fn rules_fit(rows: &[u8], text: &[u8]) -> bool
             return false;
         }
         let n = text::read_u16(l, 0);
-        if !follows(first, last, &t[..n]) {
+        if !may_follow(first, last, &t[..n]) {
             return false;
         }
         let m = rule_taken(l);

@@ -14,8 +14,8 @@ use Rattle.mitex_syntax.specs.Views.{firstBy, childrenOf, childrenIn, te
 use Rattle.mitex_syntax.specs.Spells.{Spells, Begins, SomeForest}
 use Rattle.mitex_syntax.specs.Places.{FirstAt, Placed, partAt, InText}
 use Rattle.mitex_syntax.specs.Places.Placed.{missing, there}
-use Rattle.mitex_syntax.specs.declared.Place.{Place}
-use Rattle.mitex_syntax.specs.declared.Place.the-variants.{Nowhere, At}
+use Rattle.mitex_syntax.specs.declared.Spot.{Spot}
+use Rattle.mitex_syntax.specs.declared.Spot.the-variants.{Nowhere, At}
 use Rattle.mitex_syntax.proofs.Trees.{children-begin, children-part}
 
 -- what a view asks of children that are spelt
@@ -30,28 +30,28 @@ some-children t sp few short = some-forest (children-part t sp) (simp (length-ta
 
 module _ {p : Tree → Bool} {f : Forest} {rows text : List ℕ} {i : ℕ} where
   -- a place that was found, taken apart
-  pub stands : {r : Place} {a b c d : ℕ} → Placed p f rows text i r → r ≡ At a b c d → FirstAt p f rows text i a b c d
+  pub stands : {r : Spot} {a b c d : ℕ} → Placed p f rows text i r → r ≡ At a b c d → FirstAt p f rows text i a b c d
   stands {r} {a} {b} {c} {d} m e = go (subst (Placed p f rows text i) e m)
     where
       go : Placed p f rows text i (At a b c d) → FirstAt p f rows text i a b c d
       go (there s) = s
 
-  pub nowhere : {r : Place} → Placed p f rows text i r → r ≡ Nowhere → firstBy p f ≡ nothing
+  pub nowhere : {r : Spot} → Placed p f rows text i r → r ≡ Nowhere → firstBy p f ≡ nothing
   nowhere m e = go (subst (Placed p f rows text i) e m)
     where
       go : Placed p f rows text i Nowhere → firstBy p f ≡ nothing
       go (missing h) = h
 
   -- the text of a place is that of what was found
-  pub place-text : {r : Place} → Placed p f rows text i r → partAt r text ≡ textIn (firstBy p f)
+  pub place-text : {r : Spot} → Placed p f rows text i r → partAt r text ≡ textIn (firstBy p f)
   place-text (missing h) = ap textIn (sym h)
   place-text (there s) = s .spells .text-is ∙ ap textIn (sym (s .is))
 
-  pub place-inside : {r : Place} → Placed p f rows text i r → InText text r
+  pub place-inside : {r : Spot} → Placed p f rows text i r → InText text r
   place-inside (missing h) = tt
   place-inside (there s) = (s .some-text, s .stop)
 
-pub at-inside : (text : List ℕ) {r : Place} {a b c d : ℕ} → InText text r → r ≡ At a b c d → (c ≤ d) × (d ≤ length text)
+pub at-inside : (text : List ℕ) {r : Spot} {a b c d : ℕ} → InText text r → r ≡ At a b c d → (c ≤ d) × (d ≤ length text)
 at-inside text m e = subst (InText text) e m
 
 -- ---- the children of what was found

@@ -20,7 +20,7 @@ use Rattle.mitex_syntax.specs.Rows.{extentOf, tokenSum}
 use Rattle.mitex_syntax.specs.Views.{firstBy, offsetBy, allBy, fromBy, isOf, isOther, isNodeTree, isArgumentWith, firstNode, childrenOf, kindIn}
 use Rattle.mitex_syntax.specs.Spells.{Begins}
 use Rattle.mitex_syntax.specs.Places.{FirstAt}
-use Rattle.mitex_syntax.proofs.Trees.{length-rows, size-some, size-more, left, no-left, getD-here, Element, element, rows-e, text-n, part-spells, past}
+use Rattle.mitex_syntax.proofs.Trees.{length-rows, size-some, size-more, left, no-left, getD-here, ElementAt, element, rows-e, text-n, part-spells, past-begins}
 
 -- what was found passes the test
 pub first-picked : (p : Tree → Bool) (f : Forest) {t : Tree} → firstBy p f ≡ some t → p t ≡ true
@@ -65,12 +65,12 @@ rows-children (node k f) = refl
 -- ---- the kind of the first node
 
 -- what is left of the rows is that of elements among which the first node is the same
-pub record Nodes (f : Forest) (rows : List ℕ) (i : ℕ) : Type 0 where
+pub record NodesLeft (f : Forest) (rows : List ℕ) (i : ℕ) : Type 0 where
   pub forest : Forest
   pub rows-are : drop i rows ≡ rowsOfs forest
   pub still : firstNode f ≡ firstNode forest
 
-pub nodes-start : (f : Forest) (rows : List ℕ) → rows ≡ rowsOfs f → Nodes f rows 0
+pub nodes-start : (f : Forest) (rows : List ℕ) → rows ≡ rowsOfs f → NodesLeft f rows 0
 nodes-start f rows e = record { forest = f; rows-are = e; still = refl }
 
 nodes-eight : (f : Forest) {l : List ℕ} → l ≡ rowsOfs f → 0 < length l → 8 ≤ length l
@@ -78,7 +78,7 @@ unfolding rowsOf
 nodes-eight none e h = absurd (omega (arith, ap length e))
 nodes-eight (more t g) e h = omega (arith, ap length e ∙ length-append (rowsOf t) (rowsOfs g), length-rows t, size-some t)
 
-module _ {f : Forest} {rows : List ℕ} {i : ℕ} (w : Nodes f rows i) where
+module _ {f : Forest} {rows : List ℕ} {i : ℕ} (w : NodesLeft f rows i) where
   pub nodes-inside : i < length rows → i + 8 ≤ length rows
   nodes-inside h = let l = length-drop i rows in omega (arith, nodes-eight (w .forest) (w .rows-are) (omega arith))
 
@@ -99,7 +99,7 @@ module _ {f : Forest} {rows : List ℕ} {i : ℕ} (w : Nodes f rows i) where
         let b : isNodeTree t ≡ true = mark-here rows i t (rowsOfs g) e (ne-eqb _ 1 ne) in
         kind-here rows i t (rowsOfs g) e ∙ sym (ap kindIn (w .still ∙ ap firstNode (x .1 .1) ∙ ap (λ (y : Bool). cond y (some t) (firstNode g)) b))
 
-    pub nodes-next : getD rows (i + 1) 0 ≡ 1 → Nodes f rows (i + 8)
+    pub nodes-next : getD rows (i + 1) 0 ≡ 1 → NodesLeft f rows (i + 8)
     unfolding firstBy rowsOf size
     nodes-next m =
         let x = left (w .forest) (w .rows-are) (simp length-drop (omega arith)) in
@@ -116,8 +116,8 @@ module _ {f : Forest} {rows : List ℕ} {i : ℕ} (w : Nodes f rows i) where
 -- ---- whether an element is wanted
 
 module _ (t : Tree) (rows : List ℕ) (e : rows ≡ rowsOf t) where
-  pub rows-eight : 8 ≤ length rows
-  rows-eight = omega (arith, ap length e, length-rows t, size-some t)
+  pub element-eight : 8 ≤ length rows
+  element-eight = omega (arith, ap length e, length-rows t, size-some t)
 
   pub wanted-kind : (k : ℕ) → eqb (getD rows 0 0) k ≡ isOf k t
   wanted-kind k = ap (λ (n : ℕ). eqb n k) (kind-here rows 0 t [] (e ∙ sym (append-nil (rowsOf t))))
@@ -152,7 +152,7 @@ seek-start p f rows text i j sp = record { forest = f; begins = sp; first = refl
 
 module _ {p : Tree → Bool} {f : Forest} {rows text : List ℕ} {i₀ i j : ℕ} (s : Seeks p f rows text i₀ i j) where
   module _ (h : i < length rows) (hj : j ≤ length text) (few : length rows < cap) (short : length text < cap) where
-    abbrev pub seek-element : Element (s .forest) rows text i j
+    abbrev pub seek-element : ElementAt (s .forest) rows text i j
     seek-element = element (s .begins) h hj few short
 
     smaller : size (seek-element .tree) + sizes (seek-element .others) ≤ sizes f
@@ -186,7 +186,7 @@ module _ {p : Tree → Bool} {f : Forest} {rows text : List ℕ} {i₀ i j : ℕ
             spells = part-spells x e n is-e is-n;
             fits = omega (arith, smaller);
             others = g;
-            past = past x e n is-e is-n;
+            past = past-begins x e n is-e is-n;
             all = s .all ∙ ap (allBy p) (x .is) ∙ ap (λ (c : Bool). cond c (more t (allBy p g)) (allBy p g)) pt;
             from = s .from ∙ ap (fromBy p) (x .is) ∙ ap (λ (c : Bool). cond c (more t g) (fromBy p g)) pt;
           }
@@ -201,7 +201,7 @@ module _ {p : Tree → Bool} {f : Forest} {rows text : List ℕ} {i₀ i j : ℕ
           let re = rows-e x e n is-e is-n in
           record {
             forest = g;
-            begins = past x e n is-e is-n;
+            begins = past-begins x e n is-e is-n;
             first = s .first ∙ ap (firstBy p) (x .is) ∙ ap (λ (c : Bool). cond c (some t) (firstBy p g)) pt;
             all = s .all ∙ ap (allBy p) (x .is) ∙ ap (λ (c : Bool). cond c (more t (allBy p g)) (allBy p g)) pt;
             from = s .from ∙ ap (fromBy p) (x .is) ∙ ap (λ (c : Bool). cond c (more t g) (fromBy p g)) pt;

@@ -19,12 +19,12 @@ use Rattle.mitex_syntax.specs.Tree.Forest.{none, more}
 use Rattle.mitex_syntax.specs.Rows.{numOf, extentOf}
 use Rattle.mitex_syntax.specs.Views.{isNodeTree, childrenOf, kindIn, textIn, firstToken, firstTokens, lastToken, lastTokens, isTokenOf}
 use Rattle.mitex_syntax.specs.Spells.{Sound, Begins}
-use Rattle.mitex_syntax.specs.Places.{TokenIs, Hops}
+use Rattle.mitex_syntax.specs.Places.{TokenIs, LastHop}
 use Rattle.mitex_syntax.specs.declared.Token.{Token}
 use Rattle.mitex_syntax.specs.declared.Span.{Span}
 use Rattle.mitex_syntax.proofs.Deciding.{and-then, and-not}
 use Rattle.text.proofs.Numbers.{four-says}
-use Rattle.mitex_syntax.proofs.Trees.{length-rowss, size-some, left, no-left, First, first-spelt, Element, element, rows-e, text-n, past}
+use Rattle.mitex_syntax.proofs.Trees.{length-rowss, size-some, left, no-left, First, first-spelt, ElementAt, element, rows-e, text-n, past-begins}
 use Rattle.mitex_syntax.proofs.Seeking.{kind-here, mark-here, size-token}
 
 -- ---- the first row of an element
@@ -61,8 +61,8 @@ into (node k f) {g} sp e =
 
 -- ---- no token
 
-pub no-token : {o : Option Tree} {text : List ℕ} {r : Token} → o ≡ nothing → r .kind ≡ 0 → r .from ≡ 0 → r .to ≡ 0 → TokenIs o text r
-no-token {o} {text} {r} e k a b =
+pub token-none : {o : Option Tree} {text : List ℕ} {r : Token} → o ≡ nothing → r .kind ≡ 0 → r .from ≡ 0 → r .to ≡ 0 → TokenIs o text r
+token-none {o} {text} {r} e k a b =
     record {
       kind = k ∙ ap kindIn (sym e);
       some = omega arith;
@@ -195,7 +195,7 @@ last-over t u g h e = ap (λ (x : Forest). lastTokens (more t x)) e ∙ sym (ap 
 
 module _ {f : Forest} {rows text : List ℕ} {i j : ℕ} (w : Lasts f rows text i j) where
   module _ (h : i < length rows) (hj : j ≤ length text) (few : length rows < cap) (short : length text < cap) where
-    abbrev pub last-element : Element (w .forest) rows text i j
+    abbrev pub last-element : ElementAt (w .forest) rows text i j
     last-element = element (w .begins) h hj few short
 
     still-last : lastTokens f ≡ lastTokens (more (last-element .tree) (last-element .others))
@@ -252,14 +252,14 @@ module _ {f : Forest} {rows text : List ℕ} {i j : ℕ} (w : Lasts f rows text 
           still-last ∙ last-alone (x .tree) (x .others) (alone (omega arith)) ∙ last-of-node (x .tree) b
           ∙ ap lastTokens (sizes-none (childrenOf (x .tree)) (omega arith))
 
-    module _ (s : Span) (hop : Hops rows i s) where
+    module _ (s : Span) (hop : LastHop rows i s) where
       -- over an element that is not the last
       over : i + extentOf (drop i rows) < length rows → LastSteps f rows text i j s
       over lt =
           let x = last-element in
           let re = rows-e x (s .rows) (s .text) (hop .over-rows lt) (hop .over-text lt) in
           let tn = text-n x (s .rows) (s .text) (hop .over-rows lt) (hop .over-text lt) in
-          let p = past x (s .rows) (s .text) (hop .over-rows lt) (hop .over-text lt) in
+          let p = past-begins x (s .rows) (s .text) (hop .over-rows lt) (hop .over-text lt) in
           let end = x .end in
           let stop = x .stop in
           let b = x .some in

@@ -1,5 +1,5 @@
 -- Rows and trees: what the rows of an element say, and how the rows and the text of elements side by side split at the one that
--- begins at row byte i and text byte j (`Element`). The terms are those that code over parts has in its goals.
+-- begins at row byte i and text byte j (`ElementAt`). The terms are those that code over parts has in its goals.
 use mathlib.Core.Path.{_≡_, refl, sym, ap, subst, _∙_}
 use mathlib.Core.Bool.{Bool, false, _&&_}
 use mathlib.Core.List.{List, [], _++_, append-assoc, append-nil}
@@ -98,15 +98,15 @@ pub all-begins : {f : Forest} {rows text : List ℕ} → SpellsAll f rows text �
 all-begins {f} sp = record { rows-are = sp .rows-are; rest = []; text-is = sp .text-is ∙ sym (append-nil (textsOf f)); sound = sp .sound }
 
 -- the children of a node begin at its second row
-pub under : {k : ℕ} {f : Forest} {rows text : List ℕ} → Spells (node k f) rows text → SpellsAll f (drop 8 rows) text
+pub spells-under : {k : ℕ} {f : Forest} {rows text : List ℕ} → Spells (node k f) rows text → SpellsAll f (drop 8 rows) text
 unfolding rowsOf textOf Sound
-under sp = record { rows-are = ap (drop 8) (sp .rows-are); text-is = sp .text-is; sound = sp .sound .1 }
+spells-under sp = record { rows-are = ap (drop 8) (sp .rows-are); text-is = sp .text-is; sound = sp .sound .1 }
 
 -- and those of any element, a token having none
 pub children-begin : (t : Tree) {rows text : List ℕ} → Spells t rows text → Begins (childrenOf t) (drop 8 rows) text
 unfolding rowsOf textOf Sound
 children-begin (token k s) {rows} {text} sp = record { rows-are = ap (drop 8) (sp .rows-are); rest = text; text-is = refl; sound = tt }
-children-begin (node k f) sp = all-begins (under sp)
+children-begin (node k f) sp = all-begins (spells-under sp)
 
 -- the same of the part that code takes from the second row on
 pub children-part : (t : Tree) {rows text : List ℕ} → Spells t rows text → Begins (childrenOf t) (take (length rows - 8) (drop 8 rows)) text
@@ -211,7 +211,7 @@ getD-here rows i = getD-drop i rows 0 0 ∙ ap (λ (n : ℕ). getD rows n 0) (le
 
 -- ---- the element at i, whose text begins at j
 
-pub record Element (forest : Forest) (rows text : List ℕ) (i j : ℕ) : Type 0 where
+pub record ElementAt (forest : Forest) (rows text : List ℕ) (i j : ℕ) : Type 0 where
   pub tree : Tree
   pub others : Forest
   pub is : forest ≡ more tree others
@@ -222,7 +222,7 @@ pub record Element (forest : Forest) (rows text : List ℕ) (i j : ℕ) : Type 0
 
 pub element :
     {forest : Forest} {rows text : List ℕ} {i j : ℕ} → Begins forest (drop i rows) (drop j text) → i < length rows → j ≤ length text
-    → length rows < cap → length text < cap → Element forest rows text i j
+    → length rows < cap → length text < cap → ElementAt forest rows text i j
 element {forest} {rows} {text} {i} {j} sp h hj few short =
     let lr = length-drop i rows in
     let lt = length-drop j text in
@@ -234,7 +234,7 @@ element {forest} {rows} {text} {i} {j} sp h hj few short =
     (omega arith) (omega arith) in
     record { tree = t; others = g; is = e; first = fr; end = let z = fr .inside in omega arith; stop = let z = fr .fits in omega arith; some = size-some t }
 
-module _ {forest : Forest} {rows text : List ℕ} {i j : ℕ} (x : Element forest rows text i j) where
+module _ {forest : Forest} {rows text : List ℕ} {i j : ℕ} (x : ElementAt forest rows text i j) where
   -- what reading its size asks
   pub spans : length rows < cap → length text < cap → Spans rows i
   spans few short =
@@ -292,8 +292,8 @@ module _ {forest : Forest} {rows text : List ℕ} {i j : ℕ} (x : Element fores
     text-past = drop-drop (length (textOf (x .tree))) j text ∙ ap (λ (m : ℕ). drop (j + m) text) (sym text-n)
 
     -- the elements after it
-    pub past : Begins (x .others) (drop (i + e) rows) (drop (j + n) text)
-    past =
+    pub past-begins : Begins (x .others) (drop (i + e) rows) (drop (j + n) text)
+    past-begins =
         subst (λ (l : List ℕ). Begins (x .others) l (drop (j + n) text)) rows-past
         (subst (λ (s : List ℕ). Begins (x .others) (drop (8 * size (x .tree)) (drop i rows)) s) text-past (x .first .others))
 
@@ -309,7 +309,7 @@ module _ {forest : Forest} {rows text : List ℕ} {i j : ℕ} (x : Element fores
 abbrev pub part : List ℕ → ℕ → ℕ → List ℕ
 part l i e = take (i + e - i) (drop i l)
 
-pub record Child (rows text : List ℕ) (i j e n : ℕ) : Type 0 where
+pub record ChildPart (rows text : List ℕ) (i j e n : ℕ) : Type 0 where
   pub end : i + e ≤ length rows
   pub stop : j + n ≤ length text
   pub some : 8 ≤ e
@@ -317,10 +317,10 @@ pub record Child (rows text : List ℕ) (i j e n : ℕ) : Type 0 where
   pub rows-long : length (part rows i e) ≡ e
   pub text-long : length (part text j n) ≡ n
 
-pub child :
-    {forest : Forest} {rows text : List ℕ} {i j : ℕ} → Element forest rows text i j → (e n : ℕ) → e ≡ extentOf (drop i rows)
-    → n ≡ tokenSum (take (extentOf (drop i rows)) (drop i rows)) → Child rows text i j e n
-child x e n is-e is-n =
+pub child-part :
+    {forest : Forest} {rows text : List ℕ} {i j : ℕ} → ElementAt forest rows text i j → (e n : ℕ) → e ≡ extentOf (drop i rows)
+    → n ≡ tokenSum (take (extentOf (drop i rows)) (drop i rows)) → ChildPart rows text i j e n
+child-part x e n is-e is-n =
     let re = rows-e x e n is-e is-n in
     let tn = text-n x e n is-e is-n in
     let z = x .end in

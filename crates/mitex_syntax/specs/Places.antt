@@ -12,8 +12,8 @@ use Rattle.mitex_syntax.specs.Tree.Forest.{more}
 use Rattle.mitex_syntax.specs.Rows.{extentOf, tokenSum}
 use Rattle.mitex_syntax.specs.Views.{firstBy, offsetBy, allBy, fromBy, isOf, isOther, isArgumentWith, kindIn, textIn}
 use Rattle.mitex_syntax.specs.Spells.{Spells, Begins}
-use Rattle.mitex_syntax.specs.declared.Place.{Place}
-use Rattle.mitex_syntax.specs.declared.Place.the-variants.{Nowhere, At}
+use Rattle.mitex_syntax.specs.declared.Spot.{Spot}
+use Rattle.mitex_syntax.specs.declared.Spot.the-variants.{Nowhere, At}
 use Rattle.mitex_syntax.specs.declared.Wanted.{Wanted}
 use Rattle.mitex_syntax.specs.declared.Wanted.the-variants.{Kind, ArgumentWith, Other}
 use Rattle.mitex_syntax.specs.declared.Token.{Token}
@@ -45,20 +45,20 @@ pub record FirstAt (p : Tree → Bool) (f : Forest) (rows text : List ℕ) (i a 
   pub from : fromBy p f ≡ more tree others
 
 -- the place is that of the first such element
-pub data Placed (p : Tree → Bool) (f : Forest) (rows text : List ℕ) (i : ℕ) : Place → Type 0 where
+pub data Placed (p : Tree → Bool) (f : Forest) (rows text : List ℕ) (i : ℕ) : Spot → Type 0 where
   missing : firstBy p f ≡ nothing → Placed p f rows text i Nowhere
   there : {a b c d : ℕ} → FirstAt p f rows text i a b c d → Placed p f rows text i (At a b c d)
 
 -- the place is the right one for all elements that the rows and the text spell from row byte i and text byte j on
-abbrev pub FindsPlace : (Tree → Bool) → List ℕ → List ℕ → ℕ → ℕ → Place → Type 0
-FindsPlace p rows text i j r = (f : Forest) → Begins f (drop i rows) (drop j text) → Placed p f rows text i r
+abbrev pub FindsSpot : (Tree → Bool) → List ℕ → List ℕ → ℕ → ℕ → Spot → Type 0
+FindsSpot p rows text i j r = (f : Forest) → Begins f (drop i rows) (drop j text) → Placed p f rows text i r
 
 -- the text at a place; none where nothing was found
-abbrev pub partAt : Place → List ℕ → List ℕ
+abbrev pub partAt : Spot → List ℕ → List ℕ
 partAt Nowhere text = []
 partAt (At a b c d) text = take (d - c) (drop c text)
 
-abbrev pub InText : List ℕ → Place → Type 0
+abbrev pub InText : List ℕ → Spot → Type 0
 InText text Nowhere = Unit {0}
 InText text (At a b c d) = (c ≤ d) × (d ≤ length text)
 
@@ -75,7 +75,7 @@ abbrev pub TokenInText : List ℕ → Token → Type 0
 TokenInText text t = (t .from ≤ t .to) × (t .to ≤ length text)
 
 -- the way to the last token: over an element that is not the last, and into one that is
-pub record Hops (rows : List ℕ) (i : ℕ) (r : Span) : Type 0 where
+pub record LastHop (rows : List ℕ) (i : ℕ) (r : Span) : Type 0 where
   pub over-rows : i + extentOf (drop i rows) < length rows → r .rows ≡ extentOf (drop i rows)
   pub over-text : i + extentOf (drop i rows) < length rows → r .text ≡ tokenSum (take (extentOf (drop i rows)) (drop i rows))
   pub into-rows : i + extentOf (drop i rows) ≡ length rows → r .rows ≡ 8

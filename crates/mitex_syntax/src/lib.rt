@@ -12,7 +12,7 @@ ghost use Rattle.mitex_syntax.specs.Rows.{numOf, extentOf, tokenAt, toke
 ghost use Rattle.mitex_syntax.specs.Views.{isOf, isArgumentWith, firstNode, kindIn, cmdName, firstTokens, lastTokens};
 ghost use Rattle.mitex_syntax.specs.Views.{envName, isTokenOf, isInline, isPair, dollarEnds, mathEnds, isValid, inner};
 ghost use Rattle.mitex_syntax.specs.Spells.{Begins, SomeRows, SomeElement, SomeForest};
-ghost use Rattle.mitex_syntax.specs.Places.{isWanted, FindsPlace, InText, partAt, TokenIs, TokenInText, Hops};
+ghost use Rattle.mitex_syntax.specs.Places.{isWanted, FindsSpot, InText, partAt, TokenIs, TokenInText, LastHop};
 
 // ---- kinds, in the order in which the main match of `Converter::convert` names them
 
@@ -221,7 +221,7 @@ pub fn span_at(rows: &[u8], i: usize) -> Span
 // ---- the children of a node: `rows` are those after the node's own row, `text` begins with theirs
 
 // Where a child stands: its rows from `row` to `end`, its text from `from` to `to`, in bytes.
-pub enum Place {
+pub enum Spot {
     Nowhere,
     At {
         row: usize,
@@ -290,9 +290,9 @@ fn is_wanted(rows: &[u8], wanted: Wanted) -> bool
 }
 
 // The first child from a cursor on that is what is looked for.
-pub fn find(rows: &[u8], text: &[u8], at: Cursor, wanted: Wanted) -> Place
+pub fn find(rows: &[u8], text: &[u8], at: Cursor, wanted: Wanted) -> Spot
     requires { ⌜ SomeForest (now rows) (now text) (at .row) (at .text) ⌝ }
-    ensures { λ r. ⌜ FindsPlace (isWanted wanted) (now (rows .entry)) (now (text .entry)) (at .row) (at .text) r ⌝ }
+    ensures { λ r. ⌜ FindsSpot (isWanted wanted) (now (rows .entry)) (now (text .entry)) (at .row) (at .text) r ⌝ }
 {
     let mut i = at.row;
     let mut j = at.text;
@@ -301,7 +301,7 @@ pub fn find(rows: &[u8], text: &[u8], at: Cursor, wanted: Wanted) -> Place
         let end = i + s.rows;
         let to = j + s.text;
         if is_wanted(&rows[i..end], wanted) {
-            return Place::At {
+            return Spot::At {
                 row: i,
                 end,
                 from: j,
@@ -311,21 +311,21 @@ pub fn find(rows: &[u8], text: &[u8], at: Cursor, wanted: Wanted) -> Place
         i = end;
         j = to;
     }
-    Place::Nowhere
+    Spot::Nowhere
 }
 
 // The first child of a kind.
-pub fn find_kind(rows: &[u8], text: &[u8], kind: u8) -> Place
+pub fn find_kind(rows: &[u8], text: &[u8], kind: u8) -> Spot
     requires { ⌜ SomeForest (now rows) (now text) 0 0 ⌝ }
-    ensures { λ r. ⌜ FindsPlace (isOf kind) (now (rows .entry)) (now (text .entry)) 0 0 r ⌝ }
+    ensures { λ r. ⌜ FindsSpot (isOf kind) (now (rows .entry)) (now (text .entry)) 0 0 r ⌝ }
 {
     find(rows, text, Cursor { row: 0, text: 0 }, Wanted::Kind(kind))
 }
 
 // The first argument whose first node is of a kind.
-pub fn argument_with(rows: &[u8], text: &[u8], kind: u8) -> Place
+pub fn argument_with(rows: &[u8], text: &[u8], kind: u8) -> Spot
     requires { ⌜ SomeForest (now rows) (now text) 0 0 ⌝ }
-    ensures { λ r. ⌜ FindsPlace (isArgumentWith kind) (now (rows .entry)) (now (text .entry)) 0 0 r ⌝ }
+    ensures { λ r. ⌜ FindsSpot (isArgumentWith kind) (now (rows .entry)) (now (text .entry)) 0 0 r ⌝ }
 {
     find(
         rows,
@@ -336,13 +336,13 @@ pub fn argument_with(rows: &[u8], text: &[u8], kind: u8) -> Place
 }
 
 // The text at a place; none where nothing was found.
-pub fn text_at<'a>(text: &'a [u8], place: Place) -> &'a [u8]
+pub fn text_at<'a>(text: &'a [u8], place: Spot) -> &'a [u8]
     requires { ⌜ InText (now text) place ⌝ }
     ensures { λ r. ⌜ now r ≡ partAt place (now (text .entry)) ⌝ }
 {
     match place {
-        Place::Nowhere => &text[0..0],
-        Place::At {
+        Spot::Nowhere => &text[0..0],
+        Spot::At {
             row: _,
             end: _,
             from,
@@ -388,7 +388,7 @@ pub fn first_token(rows: &[u8], text: &[u8]) -> Token
 // A step on the way to the last token: over the element at `i`, or into it where it is the last.
 fn hop(rows: &[u8], i: usize) -> Span
     requires { ⌜ Spans (now rows) i ⌝ }
-    ensures { λ r. ⌜ Hops (now (rows .entry)) i r ⌝ }
+    ensures { λ r. ⌜ LastHop (now (rows .entry)) i r ⌝ }
 {
     let e = extent(rows, i);
     if i + e < rows.len() {
@@ -443,9 +443,9 @@ pub fn token_text<'a>(text: &'a [u8], t: Token) -> &'a [u8]
 // ---- environments
 
 // `EnvItem::begin`: where the first ItemBegin stands.
-pub fn begin(rows: &[u8], text: &[u8]) -> Place
+pub fn begin(rows: &[u8], text: &[u8]) -> Spot
     requires { ⌜ SomeForest (now rows) (now text) 0 0 ⌝ }
-    ensures { λ r. ⌜ FindsPlace (isOf ItemBegin) (now (rows .entry)) (now (text .entry)) 0 0 r ⌝ }
+    ensures { λ r. ⌜ FindsSpot (isOf ItemBegin) (now (rows .entry)) (now (text .entry)) 0 0 r ⌝ }
 {
     find_kind(rows, text, ITEM_BEGIN)
 }
@@ -456,8 +456,8 @@ pub fn env_name<'a>(rows: &[u8], text: &'a [u8]) -> &'a [u8]
     ensures { λ r. ⌜ ((f : Forest) → Begins f (now (rows .entry)) (now (text .entry)) → now r ≡ envName f) ⌝ }
 {
     match begin(rows, text) {
-        Place::Nowhere => &text[0..0],
-        Place::At { row, end, from, to } => {
+        Spot::Nowhere => &text[0..0],
+        Spot::At { row, end, from, to } => {
             let s = &text[from..to];
             token_text(s, first_token(&rows[row + 8..end], s))
         }

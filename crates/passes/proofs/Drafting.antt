@@ -11,8 +11,8 @@ use Rattle.mitex_meaning.specs.State.{carryOf}
 use Rattle.ledger.specs.Ledger.{rowSize, encodeRow}
 use Rattle.passes.specs.Passes.{BlocksUpTo, Pieced, Steps, Measures, Writes}
 use Rattle.passes.specs.declared.Standing.{Standing}
-use Rattle.passes.proofs.Measuring.{BlocksPassed, passed-start, passed-end, passed-refused, passed-next}
-use Rattle.passes.proofs.Rewriting.{BlocksLeft, left-start, left-next, left-end, row-left, went-well}
+use Rattle.passes.proofs.Measuring.{BlocksPassed, blocks-passed-start, blocks-passed-end, blocks-passed-refused, blocks-passed-next}
+use Rattle.passes.proofs.Rewriting.{BlocksLeft, blocks-left-start, blocks-left-next, blocks-left-end, row-left, went-well}
 
 module _ (rules index rows text : List ℕ) (from : Standing) (n : ℕ) (out₀ ledger₀ : List ℕ) where
   -- the pass has come to s, and the buffers are as long as they were
@@ -23,21 +23,21 @@ module _ (rules index rows text : List ℕ) (from : Standing) (n : ℕ) (out₀ 
     pub ledger-long : length ledger ≡ length ledger₀
 
   pub drafted-start : Drafted from out₀ ledger₀
-  drafted-start = record { passed = λ w. passed-start w; left = λ w. left-start w out₀; long = refl; ledger-long = refl }
+  drafted-start = record { passed = λ w. blocks-passed-start w; left = λ w. blocks-left-start w out₀; long = refl; ledger-long = refl }
 
 module _ {rules index rows text : List ℕ} {from : Standing} {n : ℕ} {out₀ ledger₀ : List ℕ} {s : Standing} {out ledger : List ℕ}
     (d : Drafted rules index rows text from n out₀ ledger₀ s out ledger) where
   -- what the pass promises of a standing at which it ends
-  abbrev Ends : Standing → List ℕ → Type 0
-  Ends r out′ =
+  abbrev DraftEnds : Standing → List ℕ → Type 0
+  DraftEnds r out′ =
       Measures rules index rows text from n false [] r × Writes rules index rows text from n out₀ ledger₀ out′ ledger
 
-  pub drafted-end : n ≤ s .block → Ends s out
-  drafted-end h = (λ w. passed-end (d .passed w) h, λ w. left-end w out₀ (d .left w) h)
+  pub drafted-end : n ≤ s .block → DraftEnds s out
+  drafted-end h = (λ w. blocks-passed-end (d .passed w) h, λ w. blocks-left-end w out₀ (d .left w) h)
 
   module _ (h : s .block < n) {out′ : List ℕ} {r : Standing} (p : Steps rules index rows text s out r out′) where
-    pub drafted-refused : (r .walked .refusal ≡ 0 → ⊥) → Ends r out′
-    drafted-refused z = (λ w. passed-refused (d .passed w) h p z, λ w. absurd (z (went-well (d .left w .here) h p)))
+    pub drafted-refused : (r .walked .refusal ≡ 0 → ⊥) → DraftEnds r out′
+    drafted-refused z = (λ w. blocks-passed-refused (d .passed w) h p z, λ w. absurd (z (went-well (d .left w .here) h p)))
 
     -- where pieces were given, the row can say where the text ends
     pub drafted-next :
@@ -48,8 +48,8 @@ module _ {rules index rows text : List ℕ} {from : Standing} {n : ℕ} {out₀ 
         → Drafted rules index rows text from n out₀ ledger₀ r out′ ledger′
     drafted-next z long ledger-long e =
         record {
-          passed = λ w. passed-next (d .passed w) h p z false refl refl;
-          left = λ w. left-next w out₀ (d .left w) h p (e (row-left (d .left w .here) h p .1));
+          passed = λ w. blocks-passed-next (d .passed w) h p z false refl refl;
+          left = λ w. blocks-left-next w out₀ (d .left w) h p (e (row-left (d .left w .here) h p .1));
           long = long ∙ d .long;
           ledger-long = ledger-long ∙ d .ledger-long;
         }

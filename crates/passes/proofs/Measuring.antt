@@ -1,6 +1,6 @@
 -- A measuring pass, one block a turn. `walkFrom` is the walk over the blocks that are left; after some blocks, who finishes it from there
--- has finished it from the start (`BlocksPassed`). A turn ends the pass by a refusal (`passed-refused`) or at the kept carry (`passed-met`), or
--- the pass goes on (`passed-next`) until no block is left (`passed-end`).
+-- has finished it from the start (`BlocksPassed`). A turn ends the pass by a refusal (`blocks-passed-refused`) or at the kept carry (`blocks-passed-met`), or
+-- the pass goes on (`blocks-passed-next`) until no block is left (`blocks-passed-end`).
 use mathlib.Core.Path.{_≡_, refl, sym, ap, subst, _∙_}
 use mathlib.Core.Bool.{Bool, true, false, cond, _&&_}
 use mathlib.Core.List.{List, [], _∷_}
@@ -49,15 +49,15 @@ module _ {rules index rows text : List ℕ} {from : Standing} {n : ℕ} (w : Blo
 -- ---- one block of a walk
 
 -- an outcome, and then what follows from its carry, but nothing at the kept carry of an edit
-abbrev turn : Bool → Outcome → ℕ → Carry → (Carry → Walk) → Walk
-turn edits (refused n i) r d k = stopped n (r + i)
-turn edits (done c t) r d k = onto (record { text = t; after = c }) (cond (edits && sameCarry c d) (pieces []) (k c))
+abbrev walkTurn : Bool → Outcome → ℕ → Carry → (Carry → Walk) → Walk
+walkTurn edits (refused n i) r d k = stopped n (r + i)
+walkTurn edits (done c t) r d k = onto (record { text = t; after = c }) (cond (edits && sameCarry c d) (pieces []) (k c))
 
-next-turn : (o : Outcome) (r : ℕ) (d : Carry) (k : Carry → Walk) → next o r k ≡ turn false o r d k
+next-turn : (o : Outcome) (r : ℕ) (d : Carry) (k : Carry → Walk) → next o r k ≡ walkTurn false o r d k
 next-turn (refused n i) r d k = refl
 next-turn (done c t) r d k = refl
 
-until-turn : (o : Outcome) (r : ℕ) (d : Carry) (k : Carry → Walk) → nextUntil o r d k ≡ turn true o r d k
+until-turn : (o : Outcome) (r : ℕ) (d : Carry) (k : Carry → Walk) → nextUntil o r d k ≡ walkTurn true o r d k
 until-turn (refused n i) r d k = refl
 until-turn (done c t) r d k = refl
 
@@ -66,7 +66,7 @@ module _ (𝓒 : BlockConverter) where
 
   walkBy-turn :
       (edits : Bool) (c : Carry) (r : ℕ) (b : Block) (bs : List Block) (d : Carry) (ds : List Carry)
-      → walkBy 𝓒 edits c r (b ∷ bs) (d ∷ ds) ≡ turn edits (convertBlock c b) r d (λ c′. walkBy 𝓒 edits c′ (r + rowsOf b) bs ds)
+      → walkBy 𝓒 edits c r (b ∷ bs) (d ∷ ds) ≡ walkTurn edits (convertBlock c b) r d (λ c′. walkBy 𝓒 edits c′ (r + rowsOf b) bs ds)
   unfolding walk walkUntil
   walkBy-turn false c r b bs d ds = next-turn (convertBlock c b) r d (λ c′. walk 𝓒 c′ (r + rowsOf b) bs)
   walkBy-turn true c r b bs d ds = until-turn (convertBlock c b) r d (λ c′. walkUntil 𝓒 c′ (r + rowsOf b) bs ds)
@@ -86,7 +86,7 @@ module _ {s r q : Standing} (p : Piece) (counted : r .block ≡ s .block + 1)
 -- by what is known of a block's answer
 module _ {s r : Standing} {x : Place} {row : ℕ} {out out′ : List ℕ} (edits : Bool) (d : Carry) (k : Carry → Walk) where
   came-refused :
-      {o : Outcome} → Agrees (r .walked) x row (s .walked .at) out out′ o → (r .walked .refusal ≡ 0 → ⊥) → Came s r (turn edits o row d k)
+      {o : Outcome} → Agrees (r .walked) x row (s .walked .at) out out′ o → (r .walked .refusal ≡ 0 → ⊥) → Came s r (walkTurn edits o row d k)
   came-refused (declines h e f) z = stops h e f
   came-refused (accepts u ex ec l w) z = absurd (z u)
 
@@ -94,7 +94,7 @@ module _ {s r : Standing} {x : Place} {row : ℕ} {out out′ : List ℕ} (edits
       {o : Outcome} {q : Standing} → Agrees (r .walked) x row (s .walked .at) out out′ o → r .walked .refusal ≡ 0
       → r .block ≡ s .block + 1
       → Came r q (cond (edits && sameCarry (carryOf (r .walked .converter)) d) (pieces []) (k (carryOf (r .walked .converter))))
-      → Came s q (turn edits o row d k)
+      → Came s q (walkTurn edits o row d k)
   came-after (declines h e f) z counted m = absurd (omega arith)
   came-after {q = q} (accepts {c} {w = t} u ex ec l w) z counted m =
       came-onto (record { text = t; after = c }) counted (w .next)
@@ -178,7 +178,7 @@ module _ {rules index rows text : List ℕ} {s : Standing} {n : ℕ} (w : Blocks
 
       walk-turn :
           walkFrom w edits kept
-          ≡ turn edits (block (s .walked .converter .mode) (w .given .rs) (carryOf (s .walked .converter)) tree) (rowNo s) carry rest
+          ≡ walkTurn edits (block (s .walked .converter .mode) (w .given .rs) (carryOf (s .walked .converter)) tree) (rowNo s) carry rest
       walk-turn =
           let c = carryOf (s .walked .converter) in
           let 𝓒 = converterOf (w .given) in
@@ -209,19 +209,19 @@ module _ {rules index rows text : List ℕ} {s : Standing} {n : ℕ} (w : Blocks
 
 -- ---- the loop
 
-pub passed-start :
+pub blocks-passed-start :
     {rules index rows text : List ℕ} {from : Standing} {n : ℕ} {edits : Bool} {kept : List ℕ} (w : BlocksUpTo rules index rows text from n)
     → BlocksPassed w edits kept from
-passed-start w = record { whole = w; later = omega arith; finish = λ r m. m }
+blocks-passed-start w = record { whole = w; later = omega arith; finish = λ r m. m }
 
 module _ {rules index rows text : List ℕ} {from s : Standing} {n : ℕ} {w : BlocksUpTo rules index rows text from n} {edits : Bool}
     {kept : List ℕ} (p : BlocksPassed w edits kept s) where
-  pub passed-end : n ≤ s .block → Came from s (walkFrom w edits kept)
-  passed-end h = p .finish s (came-last (p .whole) edits kept h)
+  pub blocks-passed-end : n ≤ s .block → Came from s (walkFrom w edits kept)
+  blocks-passed-end h = p .finish s (came-last (p .whole) edits kept h)
 
   module _ (h : s .block < n) {out out′ : List ℕ} {r : Standing} (passes : Steps rules index rows text s out r out′) where
-    pub passed-refused : (r .walked .refusal ≡ 0 → ⊥) → Came from r (walkFrom w edits kept)
-    passed-refused z = p .finish r (came-declined (p .whole) h passes edits kept z)
+    pub blocks-passed-refused : (r .walked .refusal ≡ 0 → ⊥) → Came from r (walkFrom w edits kept)
+    blocks-passed-refused z = p .finish r (came-declined (p .whole) h passes edits kept z)
 
     module _ (z : r .walked .refusal ≡ 0) (b : Bool) (is : b ≡ meets edits (from .block) r kept) where
       abbrev next-whole : BlocksUpTo rules index rows text r n
@@ -235,11 +235,11 @@ module _ {rules index rows text : List ℕ} {from s : Standing} {n : ℕ} {w : B
           let row : r .block - 1 ≡ s .block = omega arith in
           is ∙ (λ i. edits && (past i && sameCarry (carryOf (r .walked .converter)) ((rowAt (row i) kept) .carry)))
 
-      pub passed-met : b ≡ true → Came from r (walkFrom w edits kept)
-      passed-met e = p .finish r (came-turn (p .whole) h passes edits kept z (sym e ∙ is-met) (came-here z (next-whole .given .place)))
+      pub blocks-passed-met : b ≡ true → Came from r (walkFrom w edits kept)
+      blocks-passed-met e = p .finish r (came-turn (p .whole) h passes edits kept z (sym e ∙ is-met) (came-here z (next-whole .given .place)))
 
-      pub passed-next : b ≡ false → BlocksPassed w edits kept r
-      passed-next e =
+      pub blocks-passed-next : b ≡ false → BlocksPassed w edits kept r
+      blocks-passed-next e =
           record {
             whole = next-whole;
             later = omega (arith, p .later, one-more (p .whole) h passes);

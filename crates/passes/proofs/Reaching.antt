@@ -10,7 +10,7 @@ use Rattle.mitex_syntax.specs.Tree.{Tree, Forest, size, sizes, count}
 use Rattle.mitex_syntax.specs.Tree.Forest.{none, more}
 use Rattle.mitex_syntax.specs.Spells.{SpellsAll}
 use Rattle.mitex_syntax.specs.Rows.{extentOf, tokenSum, Spans}
-use Rattle.mitex_syntax.proofs.Trees.{Element, element, all-begins, spans, rows-e, text-n, past-exact, length-rowss, size-some, size-more}
+use Rattle.mitex_syntax.proofs.Trees.{ElementAt, element, all-begins, spans, rows-e, text-n, past-exact, length-rowss, size-some, size-more}
 use Rattle.text.specs.Trailer.{fileMost}
 use Rattle.mitex_meaning.specs.Contract.{Went}
 use Rattle.mitex_meaning.specs.declared.Converter.{Converter}
@@ -48,7 +48,7 @@ reached-start {blocks} sp = record { left = blocks; are = refl; spells = sp; row
 -- there is a block at k
 module _ {blocks : Forest} {rows text : List ℕ} {k i j : ℕ} (r : Reached blocks rows text k i j) (h : k < count blocks)
     (few : length rows ≤ fileMost) (short : length text ≤ fileMost) where
-  pub reached-element : Element (r .left) rows text i j
+  pub reached-element : ElementAt (r .left) rows text i j
   reached-element =
       element (all-begins (r .spells))
       (omega (

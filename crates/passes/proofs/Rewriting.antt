@@ -32,7 +32,7 @@ use Rattle.passes.proofs.Stepping.{same-mode, onward}
 -- ---- the next piece
 
 -- the first of the pieces is that of the first block
-record Next (m : LaTeXMode) (rs : List Rule) (c : Carry) (f : Forest) (ps : List Piece) : Type 0 where
+record NextPiece (m : LaTeXMode) (rs : List Rule) (c : Carry) (f : Forest) (ps : List Piece) : Type 0 where
   tree : Tree
   others : Forest
   is : f ≡ more tree others
@@ -44,7 +44,7 @@ record Next (m : LaTeXMode) (rs : List Rule) (c : Carry) (f : Forest) (ps : List
 
 next-piece :
     {m : LaTeXMode} {rs : List Rule} {c : Carry} (f : Forest) {ps : List Piece} → FirstPieces (blocksIn m rs) c (listed f) ps → 0 < length ps
-    → Next m rs c f ps
+    → NextPiece m rs c f ps
 next-piece none none-yet h = absurd (omega arith)
 next-piece (more t g) none-yet h = absurd (omega arith)
 next-piece (more t g) (one-more {c′ = c′} {t = w} {ps = ps} e gs) h =
@@ -75,7 +75,7 @@ rowOf a = record { end = a .at; carry = carryOf (a .converter) }
 module _ {rules index rows text : List ℕ} {s : Standing} {to : ℕ} {ledger : List ℕ} (w : Pieced rules index rows text s to ledger) where
   module _ (h : s .block < to) where
     abbrev next :
-        Next (s .walked .converter .mode) (w .given .rs) (carryOf (s .walked .converter)) (w .given .blocks) (w .ps)
+        NextPiece (s .walked .converter .mode) (w .given .rs) (carryOf (s .walked .converter)) (w .given .blocks) (w .ps)
     next = next-piece (w .given .blocks) (w .gives) (omega (arith, w .many))
 
     -- the rows have a block left
@@ -203,14 +203,14 @@ module _ {rules index rows text : List ℕ} {from : Standing} {to : ℕ} {ledger
     pub long : length out ≡ length out₀
     pub ledger-long : length ledger ≡ length ledger₀
 
-  pub left-start : BlocksLeft from out₀ ledger₀
-  left-start = record { here = w; finish = λ x. x; long = refl; ledger-long = refl }
+  pub blocks-left-start : BlocksLeft from out₀ ledger₀
+  blocks-left-start = record { here = w; finish = λ x. x; long = refl; ledger-long = refl }
 
   module _ {s : Standing} {out ledger : List ℕ} (l : BlocksLeft s out ledger) where
-    pub left-next :
+    pub blocks-left-next :
         {out′ ledger′ : List ℕ} {r : Standing} → s .block < to → Steps rules index rows text s out r out′
         → ledger′ ≡ sets ledger (rowSize * s .block) (encodeRow (rowOf (r .walked))) → BlocksLeft r out′ ledger′
-    left-next h p e =
+    blocks-left-next h p e =
         record {
           here = rest (l .here) h p e;
           finish = λ x. l .finish (wrote-more (l .here) h p e x);
@@ -218,5 +218,5 @@ module _ {rules index rows text : List ℕ} {from : Standing} {to : ℕ} {ledger
           ledger-long = rows-long (l .here) h p e ∙ l .ledger-long;
         }
 
-    pub left-end : to ≤ s .block → WrotePieces (w .ps) from out₀ ledger₀ out ledger
-    left-end h = l .finish (wrote-none (l .here) out h)
+    pub blocks-left-end : to ≤ s .block → WrotePieces (w .ps) from out₀ ledger₀ out ledger
+    blocks-left-end h = l .finish (wrote-none (l .here) out h)

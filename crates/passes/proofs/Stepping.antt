@@ -11,7 +11,7 @@ use Rattle.mitex_syntax.specs.Tree.{Tree, Forest}
 use Rattle.mitex_syntax.specs.Tree.Forest.{more}
 use Rattle.mitex_syntax.specs.Spells.{SpellsAll}
 use Rattle.mitex_syntax.specs.Rows.{extentOf, tokenSum, Spans}
-use Rattle.mitex_syntax.proofs.Trees.{Element, element, first-spelt, size-some, all-begins, spans, rows-e, text-n, part, part-spells, past-exact, Child, child}
+use Rattle.mitex_syntax.proofs.Trees.{ElementAt, element, first-spelt, size-some, all-begins, spans, rows-e, text-n, part, part-spells, past-exact, ChildPart, child-part}
 use Rattle.mitex_meaning.specs.Outcome.{Context}
 use Rattle.mitex_meaning.specs.State.{contextOf, carryOf}
 use Rattle.mitex_meaning.specs.Contract.{Place, placeOf, Agrees}
@@ -35,7 +35,7 @@ module _ {rules index rows text : List ℕ} {s : Standing} (w : BlocksGiven rule
   text-short = omega (arith, w .short)
 
   module _ (h : s .i < length rows) where
-    next-element : Element (w .blocks) rows text (s .i) (s .j)
+    next-element : ElementAt (w .blocks) rows text (s .i) (s .j)
     next-element = element (all-begins (w .spells)) h (w .begun) rows-few text-short
 
     pub next-spans : Spans rows (s .i)
@@ -43,8 +43,8 @@ module _ {rules index rows text : List ℕ} {s : Standing} (w : BlocksGiven rule
 
     module _ (e n : ℕ) (is-e : e ≡ extentOf (drop (s .i) rows))
         (is-n : n ≡ tokenSum (take (extentOf (drop (s .i) rows)) (drop (s .i) rows))) where
-      pub next-child : Child rows text (s .i) (s .j) e n
-      next-child = child next-element e n is-e is-n
+      pub next-child : ChildPart rows text (s .i) (s .j) e n
+      next-child = child-part next-element e n is-e is-n
 
       pub next-room :
           (out : List ℕ) → length out ≤ cap
@@ -65,7 +65,7 @@ module _ {rules index rows text : List ℕ} {s : Standing} (w : BlocksGiven rule
           }
 
   module _ (t : Tree) (g : Forest) (is : w .blocks ≡ more t g) where
-    abbrev named-element : Element (w .blocks) rows text (s .i) (s .j)
+    abbrev named-element : ElementAt (w .blocks) rows text (s .i) (s .j)
     named-element =
         let lr = length-drop (s .i) rows in
         let lt = length-drop (s .j) text in

@@ -49,7 +49,7 @@ pub fn stand_at(rows: &[u8], block: usize, at: usize, converter: Converter) -> S
 }
 
 // The next block, converted. The root is row 0, so the first block stands at row 1.
-pub fn step<'a>(
+pub fn next_block<'a>(
     out: &mut [u8],
     rows: &[u8],
     text: &'a [u8],
@@ -117,7 +117,7 @@ pub fn measure<'a>(
     let mut s = from;
     while s.block < blocks {
         let mut none = [0u8; 0];
-        let next = step(&mut none, rows, text, rules, index, s);
+        let next = next_block(&mut none, rows, text, rules, index, s);
         let walked = next.walked;
         if walked.refusal != 0 {
             return next;
@@ -162,7 +162,7 @@ pub fn draft_blocks<'a>(
     let mut s = from;
     while s.block < blocks {
         let k = s.block;
-        let next = step(out, rows, text, rules, index, s);
+        let next = next_block(out, rows, text, rules, index, s);
         let walked = next.walked;
         if walked.refusal != 0 {
             return next;
@@ -192,7 +192,7 @@ pub fn write_blocks<'a>(
     let mut s = from;
     while s.block < to {
         let k = s.block;
-        let next = step(out, rows, text, rules, index, s);
+        let next = next_block(out, rows, text, rules, index, s);
         let walked = next.walked;
         ledger::write_row(ledger, k, walked.at, walked.converter);
         s = next;

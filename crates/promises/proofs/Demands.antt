@@ -22,7 +22,7 @@ use Rattle.ledger.specs.Ledger.{rowSize, encodeRows, Piece, written, rowsFrom}
 use Rattle.edit_meaning.specs.Walk.{Walk, walk}
 use Rattle.edit_meaning.specs.Walk.CheckedFile.{bad}
 use Rattle.edit_meaning.specs.Walk.Walk.{stopped, pieces}
-use Rattle.edit_meaning.specs.Edit.{Answer, Result, textMost, room, put, settle, fromCheck, conversion, convertDocument, edit}
+use Rattle.edit_meaning.specs.Edit.{Answer, Result, textMost, room, atFront, settle, fromCheck, conversion, convertDocument, edit}
 use Rattle.edit_meaning.specs.Edit.Answer.{refused}
 use Rattle.edit_meaning.specs.Calls.{Gives, Converts, Untouched}
 use Rattle.edit_meaning.specs.Numbers.{Fifteen, ConvertNumber, OfConvert, OfEdit}
@@ -77,8 +77,8 @@ module _ (text ledger : List ℕ) (blocks : ℕ) where
       let n = rows (omega arith) in
       (rw r, rw r, rw r (kept-after (encodeRows (rowsFrom 0 ps)) ledger n))
     where
-      kept-after : {k : ℕ} (new l : List ℕ) → length new ≡ k → drop k (put new l) ≡ drop k l
-      kept-after {k} new l e = ap (λ n. drop n (put new l)) (sym e) ∙ drop-append-seam new (drop (length new) l) ∙ ap (λ n. drop n l) e
+      kept-after : {k : ℕ} (new l : List ℕ) → length new ≡ k → drop k (atFront new l) ≡ drop k l
+      kept-after {k} new l e = ap (λ n. drop n (atFront new l)) (sym e) ∙ drop-append-seam new (drop (length new) l) ∙ ap (λ n. drop n l) e
 
   settled :
       (w : Walk) → ((ps : List Piece) → w ≡ pieces ps → length ps ≡ blocks)

@@ -8,22 +8,22 @@ use Rattle.edit_meaning.specs.Walk.{CheckedFile}
 use Rattle.edit_meaning.specs.Walk.CheckedFile.{bad, good}
 use Rattle.edit_meaning.specs.Run.{Edit, OnlyAt, Allowed}
 use Rattle.manuscript.specs.Manuscript.{manuscript}
-use Rattle.promises.specs.Starred.{result, inText, rules, labelled, unlabelled}
+use Rattle.promises.specs.Starred.{result, textMode, ruleFile, labelledTree, unlabelledTree}
 
 abbrev theEdit : Edit
-theEdit = record { tree = unlabelled; block = 0 }
+theEdit = record { tree = unlabelledTree; block = 0 }
 
 abbrev blocksIfGood : CheckedFile Tree → List Tree
 blocksIfGood (bad n row) = []
 blocksIfGood (good bs) = bs
 
 abbrev blocksAt : List ℕ → List Tree
-blocksAt tree = blocksIfGood ((manuscript inText rules) .check tree)
+blocksAt tree = blocksIfGood ((manuscript textMode ruleFile) .check tree)
 
-only-first : OnlyAt 0 (blocksAt labelled) (blocksAt unlabelled)
+only-first : OnlyAt 0 (blocksAt labelledTree) (blocksAt unlabelledTree)
 unfolding result flatten
 only-first = record { count = refl; before = refl; after = refl }
 
-pub edit-allowed : (t l : List ℕ) → Allowed (manuscript inText rules) t l labelled (theEdit ∷ [])
+pub edit-allowed : (t l : List ℕ) → Allowed (manuscript textMode ruleFile) t l labelledTree (theEdit ∷ [])
 unfolding Allowed
 edit-allowed t l = (λ bs bs′ old new h. subst₂ (OnlyAt 0) (ap blocksIfGood old) (ap blocksIfGood new) only-first, tt)

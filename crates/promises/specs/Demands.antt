@@ -27,7 +27,7 @@ use Rattle.mitex_meaning.specs.declared.LaTeXMode.{LaTeXMode}
 use Rattle.ledger.specs.Ledger.{rowSize}
 use Rattle.edit_meaning.specs.Walk.{FirstSame}
 use Rattle.edit_meaning.specs.Walk.CheckedFile.{bad}
-use Rattle.edit_meaning.specs.Edit.{Answer, roomForText, put}
+use Rattle.edit_meaning.specs.Edit.{Answer, roomForText, atFront}
 use Rattle.edit_meaning.specs.Edit.Answer.{refused, converted, edited}
 use Rattle.edit_meaning.specs.Run.{Edit, Kept, lacks, carriesFrom, demanded, reference, Permitted, Allowed, Holds}
 use Rattle.edit_meaning.specs.Calls.{Converts, Edits, Runs, Untouched, Demanded}
@@ -65,7 +65,7 @@ hasRoom w blocks text ledger = roomForText (length w) (length text) && leb (rowS
 -- alone; else 15, and no byte changed
 abbrev pub Delivered : (room : Bool) (w : List ℕ) (blocks : ℕ) (text ledger : List ℕ) (a : Answer) (text′ ledger′ : List ℕ) → Type 0
 Delivered true w blocks text ledger a text′ ledger′ =
-    (a ≡ converted (length w) blocks) × (text′ ≡ put w text) × (drop (rowSize * blocks) ledger′ ≡ drop (rowSize * blocks) ledger)
+    (a ≡ converted (length w) blocks) × (text′ ≡ atFront w text) × (drop (rowSize * blocks) ledger′ ≡ drop (rowSize * blocks) ledger)
 Delivered false w blocks text ledger a text′ ledger′ = (a ≡ refused 15 0) × (text′ ≡ text) × (ledger′ ≡ ledger)
 
 -- An answer and the buffers beside the reference. Where that refuses (7 to 14): the same number and row, and no byte changed. Where it is

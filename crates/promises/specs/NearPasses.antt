@@ -8,11 +8,11 @@ use lib.IntN.{pos, negsuc}
 use lib.ListN.{take, drop, getD, replicate}
 use Rattle.text.specs.Ascii.{ascii}
 use Rattle.ledger.specs.Ledger.{rowSize}
-use Rattle.edit_meaning.specs.Edit.{Answer, Result, put}
+use Rattle.edit_meaning.specs.Edit.{Answer, Result, atFront}
 use Rattle.edit_meaning.specs.Edit.Answer.{refused, converted, edited}
 use Rattle.edit_meaning.specs.Calls.{Gives, Converts, Edits}
 use Rattle.manuscript.specs.Manuscript.{manuscript}
-use Rattle.promises.specs.Starred.{zeros, Call, Case, case, result, hand, starred, small, small-hold}
+use Rattle.promises.specs.Starred.{zeros, Call, Trial, trial, result, hand, starred, small, small-hold}
 use Rattle.promises.specs.Starred.Call.{converts, edits}
 
 -- ---- programs
@@ -64,65 +64,65 @@ afresh (converts mode rules tree text ledger) = converts mode rules tree text le
 afresh (edits mode rules tree block kept text ledger) = converts mode rules tree text ledger
 
 -- the same files in other buffers; an edit's block and kept length go with these
-abbrev within : ℕ → ℕ → List ℕ → List ℕ → Call → Call
-within block kept text ledger (converts mode rules tree t l) = converts mode rules tree text ledger
-within block kept text ledger (edits mode rules tree b k t l) = edits mode rules tree block kept text ledger
+abbrev inBuffers : ℕ → ℕ → List ℕ → List ℕ → Call → Call
+inBuffers block kept text ledger (converts mode rules tree t l) = converts mode rules tree text ledger
+inBuffers block kept text ledger (edits mode rules tree b k t l) = edits mode rules tree block kept text ledger
 
 abbrev noResult : Result
 noResult = record { answer = refused 0 0; text = []; ledger = [] }
 
-abbrev noCase : Case
-noCase = record { call = converts 0 [] [] [] []; gives = noResult }
+abbrev noTrial : Trial
+noTrial = record { call = converts 0 [] [] [] []; gives = noResult }
 
-abbrev callAt : ℕ → List Case → Call
-callAt k cases = (getD cases k noCase) .call
+abbrev callAt : ℕ → List Trial → Call
+callAt k trials = (getD trials k noTrial) .call
 
-abbrev givesAt : ℕ → List Case → Result
-givesAt k cases = (getD cases k noCase) .gives
+abbrev givesAt : ℕ → List Trial → Result
+givesAt k trials = (getD trials k noTrial) .gives
 
 -- Math `ab`; `$x$`; `\item` as row 1, in a text buffer of two bytes
-abbrev letters : Call
-letters = callAt 1 hand
+abbrev lettersCall : Call
+lettersCall = callAt 1 hand
 
-abbrev formula : Call
-formula = callAt 8 hand
+abbrev formulaCall : Call
+formulaCall = callAt 8 hand
 
-abbrev item : Call
-item = callAt 9 hand
+abbrev itemCall : Call
+itemCall = callAt 9 hand
 
 -- line feed, space, space, of which two bytes are written, in a text buffer of two
-abbrev tight : Call
-tight = within 0 0 (replicate 2 7) (replicate (3 * rowSize) 7) (callAt 2 hand)
+abbrev tightCall : Call
+tightCall = inBuffers 0 0 (replicate 2 7) (replicate (3 * rowSize) 7) (callAt 2 hand)
 
 -- the label's block 0 edited to `a`, and a table after it that wrote the label
-abbrev unlabelled : Call
-unlabelled = callAt 12 hand
+abbrev unlabelledCall : Call
+unlabelledCall = callAt 12 hand
 
 -- The same file where the table is the block named: the row before it holds a label that this document never had, and the text
 -- before it is another's.
-abbrev borrowed : Call
-borrowed = within 1 160 (textLent unlabelled) (ledgerLent unlabelled) unlabelled
+abbrev borrowedCall : Call
+borrowedCall = inBuffers 1 160 (textLent unlabelledCall) (ledgerLent unlabelledCall) unlabelledCall
 
 -- `two` edited to `x` between `one` and `six`; the same in a text from nowhere
-abbrev words : Call
-words = callAt 0 small
+abbrev wordsCall : Call
+wordsCall = callAt 0 small
 
-abbrev shouted : Call
-shouted = callAt 3 small
+abbrev shoutedCall : Call
+shoutedCall = callAt 3 small
 
 -- `a` edited to a line feed, after which the second block, a space, writes nothing any more
-abbrev folded : Call
-folded = within 0 2 (ascii "a ") ((1 ∷ zeros (rowSize - 1)) ++ (2 ∷ zeros (rowSize - 1))) (callAt 4 small)
+abbrev foldedCall : Call
+foldedCall = inBuffers 0 2 (ascii "a ") ((1 ∷ zeros (rowSize - 1)) ++ (2 ∷ zeros (rowSize - 1))) (callAt 4 small)
 
 -- what is right for those that the tables do not have
-abbrev further : List Case
+abbrev further : List Trial
 further =
-    case tight (converted 2 3) (ascii "\n ") (take (3 * rowSize) ((givesAt 2 hand) .ledger))
-    ∷ case borrowed (edited 160 (pos 0) 1) (textLent borrowed) (ledgerLent borrowed)
-    ∷ case (afresh borrowed)
-    (converted 125 2) (put (take 125 ((givesAt 12 hand) .text)) (textLent borrowed)) ((givesAt 12 hand) .ledger)
-    ∷ case (afresh shouted) (converted 7 3) (ascii "onexsixIX") ((givesAt 3 small) .ledger)
-    ∷ case folded (edited 1 (negsuc 0) 2) (ascii "\n" ++ zeros 1) ((givesAt 4 small) .ledger)
+    trial tightCall (converted 2 3) (ascii "\n ") (take (3 * rowSize) ((givesAt 2 hand) .ledger))
+    ∷ trial borrowedCall (edited 160 (pos 0) 1) (textLent borrowedCall) (ledgerLent borrowedCall)
+    ∷ trial (afresh borrowedCall)
+    (converted 125 2) (atFront (take 125 ((givesAt 12 hand) .text)) (textLent borrowedCall)) ((givesAt 12 hand) .ledger)
+    ∷ trial (afresh shoutedCall) (converted 7 3) (ascii "onexsixIX") ((givesAt 3 small) .ledger)
+    ∷ trial foldedCall (edited 1 (negsuc 0) 2) (ascii "\n" ++ zeros 1) ((givesAt 4 small) .ledger)
     ∷ []
 
 further-hold : map (λ c. result (c .call)) further ≡ map (λ c. c .gives) further
@@ -151,8 +151,8 @@ abbrev TextOfConvert : Result → Result → Type 0
 TextOfConvert r whole = take (lengthSaid (whole .answer)) (r .text) ≡ take (lengthSaid (whole .answer)) (whole .text)
 
 -- after the named block, whose text ended at `old` and ends at `new`, stands what was kept there
-abbrev Copied : ℕ → ℕ → ℕ → Call → Result → Type 0
-Copied kept old new c r = take (kept - old) (drop new (r .text)) ≡ take (kept - old) (drop old (textLent c))
+abbrev TailCopied : ℕ → ℕ → ℕ → Call → Result → Type 0
+TailCopied kept old new c r = take (kept - old) (drop new (r .text)) ≡ take (kept - old) (drop old (textLent c))
 
 abbrev byteAt : ℕ → List ℕ → ℕ
 byteAt i l = getD l i 0
@@ -161,27 +161,27 @@ byteAt i l = getD l i 0
 module _ (p : Program) (meets : Meets p) where
   -- at a call of a table it gives what the table says
   at-call :
-      (cases : List Case) → map (λ c. result (c .call)) cases ≡ map (λ c. c .gives) cases → (k : ℕ)
-      → getD (map (λ c. p (c .call)) cases) k noResult ≡ getD (map (λ c. c .gives) cases) k noResult
-  at-call cases h k =
-      let same : map (λ c. p (c .call)) cases ≡ map (λ c. result (c .call)) cases = λ i. map (λ c. meets-is p meets (c .call) i) cases in
+      (trials : List Trial) → map (λ c. result (c .call)) trials ≡ map (λ c. c .gives) trials → (k : ℕ)
+      → getD (map (λ c. p (c .call)) trials) k noResult ≡ getD (map (λ c. c .gives) trials) k noResult
+  at-call trials h k =
+      let same : map (λ c. p (c .call)) trials ≡ map (λ c. result (c .call)) trials = λ i. map (λ c. meets-is p meets (c .call) i) trials in
       ap (λ (l : List Result). getD l k noResult) (same ∙ h)
 
-  letters-is : p letters ≡ givesAt 1 hand
+  letters-is : p lettersCall ≡ givesAt 1 hand
   letters-is = at-call hand starred 1
 
-  formula-is : p formula ≡ givesAt 8 hand
+  formula-is : p formulaCall ≡ givesAt 8 hand
   formula-is = at-call hand starred 8
 
   -- one that writes nothing: the text buffer is as it was lent
-  pub nothing-written : ((p letters) .text ≡ textLent letters → ⊥) × ((p formula) .text ≡ textLent formula → ⊥)
+  pub nothing-written : ((p lettersCall) .text ≡ textLent lettersCall → ⊥) × ((p formulaCall) .text ≡ textLent formulaCall → ⊥)
   nothing-written = (
     λ h. let z : _≡_ {A = ℕ} 7 97 = ap (byteAt 0) (sym h ∙ ap (λ r. r .text) letters-is) in omega arith,
     λ h. let z : _≡_ {A = ℕ} 7 35 = ap (byteAt 0) (sym h ∙ ap (λ r. r .text) formula-is) in omega arith,
   )
 
   -- one fixed text: whatever it is, it is not the text of both
-  pub fixed-text : (s : List ℕ) → (p letters) .text ≡ put s (textLent letters) → (p formula) .text ≡ put s (textLent formula) → ⊥
+  pub fixed-text : (s : List ℕ) → (p lettersCall) .text ≡ atFront s (textLent lettersCall) → (p formulaCall) .text ≡ atFront s (textLent formulaCall) → ⊥
   fixed-text [] h k = nothing-written .0 h
   fixed-text (x ∷ s) h k =
       let a : x ≡ 97 = ap (byteAt 0) (sym h ∙ ap (λ r. r .text) letters-is) in
@@ -189,21 +189,21 @@ module _ (p : Program) (meets : Meets p) where
       omega arith
 
   -- one that refuses all, with whatever number
-  pub refuses-all : (n i : ℕ) → ((p letters) .answer ≡ refused n i → ⊥) × ((p formula) .answer ≡ refused n i → ⊥)
+  pub refuses-all : (n i : ℕ) → ((p lettersCall) .answer ≡ refused n i → ⊥) × ((p formulaCall) .answer ≡ refused n i → ⊥)
   refuses-all n i = (
     λ h. let z : _≡_ {A = ℕ} 0 4 = ap lengthSaid (sym h ∙ ap (λ r. r .answer) letters-is) in omega arith,
     λ h. let z : _≡_ {A = ℕ} 0 35 = ap lengthSaid (sym h ∙ ap (λ r. r .answer) formula-is) in omega arith,
   )
 
   -- 15 before measuring: the file has more text than the buffer has room for, but what is written fits; or 11 is met first
-  pub early-fifteen : ((p tight) .answer ≡ refused 15 0 → ⊥) × ((p item) .answer ≡ refused 15 0 → ⊥)
+  pub early-fifteen : ((p tightCall) .answer ≡ refused 15 0 → ⊥) × ((p itemCall) .answer ≡ refused 15 0 → ⊥)
   early-fifteen = (
     λ h. let z : _≡_ {A = ℕ} 15 0 = ap numberSaid (sym h ∙ ap (λ r. r .answer) (at-call further further-hold 0)) in omega arith,
     λ h. let z : _≡_ {A = ℕ} 15 11 = ap numberSaid (sym h ∙ ap (λ r. r .answer) (at-call hand starred 9)) in omega arith,
   )
 
   -- an edit that converts the whole document and works out the count afterwards
-  pub whole-again : (TextOfConvert (p borrowed) (p (afresh borrowed)) → ⊥) × (TextOfConvert (p shouted) (p (afresh shouted)) → ⊥)
+  pub whole-again : (TextOfConvert (p borrowedCall) (p (afresh borrowedCall)) → ⊥) × (TextOfConvert (p shoutedCall) (p (afresh shoutedCall)) → ⊥)
   whole-again = (
     λ h.
         let z : _≡_ {A = ℕ} 35 97
@@ -216,16 +216,16 @@ module _ (p : Program) (meets : Meets p) where
   )
 
   -- an edit that converts the named block and copies later ones
-  pub later-copied : (Copied 160 33 1 unlabelled (p unlabelled) → ⊥) × (Copied 2 1 1 folded (p folded) → ⊥)
+  pub later-copied : (TailCopied 160 33 1 unlabelledCall (p unlabelledCall) → ⊥) × (TailCopied 2 1 1 foldedCall (p foldedCall) → ⊥)
   later-copied = (
     λ h.
-        let z : _≡_ {A = ℕ} 0 60 = ap (byteAt 124) (subst (Copied 160 33 1 unlabelled) (at-call hand starred 12) h) in
+        let z : _≡_ {A = ℕ} 0 60 = ap (byteAt 124) (subst (TailCopied 160 33 1 unlabelledCall) (at-call hand starred 12) h) in
         omega arith,
-    λ h. let z : _≡_ {A = ℕ} 0 32 = ap (byteAt 0) (subst (Copied 2 1 1 folded) (at-call further further-hold 4) h) in omega arith,
+    λ h. let z : _≡_ {A = ℕ} 0 32 = ap (byteAt 0) (subst (TailCopied 2 1 1 foldedCall) (at-call further further-hold 4) h) in omega arith,
   )
 
   -- a count that is always the block total
-  pub always-total : (countSaid ((p words) .answer) ≡ 3 → ⊥) × (countSaid ((p shouted) .answer) ≡ 3 → ⊥)
+  pub always-total : (countSaid ((p wordsCall) .answer) ≡ 3 → ⊥) × (countSaid ((p shoutedCall) .answer) ≡ 3 → ⊥)
   always-total = (
     λ h. let z : _≡_ {A = ℕ} 3 1 = sym h ∙ ap (λ r. countSaid (r .answer)) (at-call small small-hold 0) in omega arith,
     λ h. let z : _≡_ {A = ℕ} 3 1 = sym h ∙ ap (λ r. countSaid (r .answer)) (at-call small small-hold 3) in omega arith,

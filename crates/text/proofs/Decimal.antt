@@ -19,8 +19,8 @@ pub record DigitsLeft (n : ℕ) (d : List ℕ) (i m : ℕ) : Type 0 where
   pub short : m < 10 ^ i
   pub are : decimal n ≡ digits i m ++ drop i d
 
-pub left-start : (n : ℕ) (d : List ℕ) → length d ≡ 20 → n < 18446744073709551616 → DigitsLeft n d 20 n
-left-start n d l h =
+pub digits-left-start : (n : ℕ) (d : List ℕ) → length d ≡ 20 → n < 18446744073709551616 → DigitsLeft n d 20 n
+digits-left-start n d l h =
     record {
       long = l;
       some = lit< tt;
@@ -80,11 +80,11 @@ last n d j m x s h e =
 at-one : {n : ℕ} {d : List ℕ} {i m : ℕ} → DigitsLeft n d i m → DigitsLeft n d (suc (i - 1)) m
 at-one {n} {d} {i} {m} s = let h = s .some in subst (λ k. DigitsLeft n d k m) (omega arith) s
 
-pub left-next :
+pub digits-left-next :
     {n : ℕ} {d : List ℕ} {i m : ℕ} (x : ℕ) → DigitsLeft n d i m → 10 ≤ m → x ≡ m % 10 % 256 → DigitsLeft n (set d (i - 1) (48 + x)) (i - 1) (m / 10)
-left-next {n} {d} {i} {m} x s h e = next n d (i - 1) m (48 + x) (at-one s) h (omega arith)
+digits-left-next {n} {d} {i} {m} x s h e = next n d (i - 1) m (48 + x) (at-one s) h (omega arith)
 
-pub left-end :
+pub digits-left-end :
     {n : ℕ} {d : List ℕ} {i m : ℕ} (x : ℕ) → DigitsLeft n d i m → m < 10 → x ≡ m % 256
     → take (20 - (i - 1)) (drop (i - 1) (set d (i - 1) (48 + x))) ≡ decimal n
-left-end {n} {d} {i} {m} x s h e = last n d (i - 1) m (48 + x) (at-one s) h (omega arith)
+digits-left-end {n} {d} {i} {m} x s h e = last n d (i - 1) m (48 + x) (at-one s) h (omega arith)

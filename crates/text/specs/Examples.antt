@@ -10,11 +10,11 @@ use Rattle.text.specs.Compare.{same, precedes, startsWith, endsWith, ind
 use Rattle.text.specs.Writing.{spaces, digits, decimal}
 
 -- the lowest byte comes first
-written : two 513 (four 67305985 []) ≡ 1 ∷ 2 ∷ 1 ∷ 2 ∷ 3 ∷ 4 ∷ []
-written = refl
+numbers-written : two 513 (four 67305985 []) ≡ 1 ∷ 2 ∷ 1 ∷ 2 ∷ 3 ∷ 4 ∷ []
+numbers-written = refl
 
-read : twoAt 1 (9 ∷ 1 ∷ 2 ∷ []) ∷ fourAt 0 (255 ∷ 255 ∷ 255 ∷ 255 ∷ []) ∷ [] ≡ 513 ∷ 4294967295 ∷ []
-read = refl
+numbers-read : twoAt 1 (9 ∷ 1 ∷ 2 ∷ []) ∷ fourAt 0 (255 ∷ 255 ∷ 255 ∷ 255 ∷ []) ∷ [] ≡ 513 ∷ 4294967295 ∷ []
+numbers-read = refl
 
 -- two texts
 pub record Pair : Type 0 where
@@ -35,25 +35,25 @@ pairs =
     ∷ pair (ascii "z") (195 ∷ 169 ∷ [])
     ∷ []
 
-abbrev each : (List ℕ → List ℕ → Bool) → List Bool
-each f = map (λ p. f (p .left) (p .right)) pairs
+abbrev onPairs : (List ℕ → List ℕ → Bool) → List Bool
+onPairs f = map (λ p. f (p .left) (p .right)) pairs
 
-are-same : each same ≡ true ∷ false ∷ false ∷ false ∷ false ∷ true ∷ false ∷ []
+are-same : onPairs same ≡ true ∷ false ∷ false ∷ false ∷ false ∷ true ∷ false ∷ []
 unfolding same
 are-same = refl
 
 -- what a text begins with comes before it, and bytes decide, not letters
-in-order : each precedes ≡ false ∷ true ∷ true ∷ false ∷ true ∷ false ∷ true ∷ []
+in-order : onPairs precedes ≡ false ∷ true ∷ true ∷ false ∷ true ∷ false ∷ true ∷ []
 unfolding precedes
 in-order = refl
 
-begin : each startsWith ≡ true ∷ false ∷ false ∷ true ∷ false ∷ true ∷ false ∷ []
+pairs-start : onPairs startsWith ≡ true ∷ false ∷ false ∷ true ∷ false ∷ true ∷ false ∷ []
 unfolding startsWith
-begin = refl
+pairs-start = refl
 
-end : each endsWith ≡ true ∷ false ∷ false ∷ false ∷ true ∷ true ∷ false ∷ []
+pairs-end : onPairs endsWith ≡ true ∷ false ∷ false ∷ false ∷ true ∷ true ∷ false ∷ []
 unfolding endsWith same
-end = refl
+pairs-end = refl
 
 -- where a comma stands; the length where there is none
 found : map (indexOf 44) ([] ∷ ascii ",a" ∷ ascii "a,b,c" ∷ ascii "abc" ∷ []) ≡ 0 ∷ 0 ∷ 1 ∷ 3 ∷ []
@@ -61,9 +61,9 @@ unfolding indexOf
 found = refl
 
 -- three bytes at each place of two, as far as they fall inside
-placed :
+bytes-placed :
     map (λ at. sets {A = ℕ} (0 ∷ 0 ∷ []) at (1 ∷ 2 ∷ 3 ∷ [])) (0 ∷ 1 ∷ 2 ∷ []) ≡ (1 ∷ 2 ∷ []) ∷ (0 ∷ 1 ∷ []) ∷ (0 ∷ 0 ∷ []) ∷ []
-placed = refl
+bytes-placed = refl
 
 decimals :
     map decimal (0 ∷ 9 ∷ 10 ∷ 4294967295 ∷ 18446744073709551615 ∷ [])

@@ -179,7 +179,7 @@ pub fn index_of(s: &[u8], b: u8) -> usize
 const CAP: usize = 4294967296;
 
 // How many of `n` bytes at `at` fall inside.
-fn inside(room: usize, at: usize, n: usize) -> usize
+fn bytes_inside(room: usize, at: usize, n: usize) -> usize
     ensures { λ r. ⌜ (r ≤ n) × (r ≤ room - at) × ((n ≤ r) ⊎ (room ≤ at + r)) ⌝ }
 {
     if room <= at {
@@ -207,7 +207,7 @@ pub fn put(out: &mut [u8], at: usize, s: &[u8]) -> usize
     requires { ⌜ (at ≤ cap) × (length (now out) ≤ cap) ⌝ }
     ensures { λ r. ⌜ Wrote at (now (out .entry)) (now (s .entry)) r (now (out .exit)) ⌝ }
 {
-    let n = inside(out.len(), at, s.len());
+    let n = bytes_inside(out.len(), at, s.len());
     let mut i = 0;
     while i < n {
         out[at + i] = s[i];
@@ -234,7 +234,7 @@ pub fn put_spaces(out: &mut [u8], at: usize, n: usize) -> usize
     requires { ⌜ (at ≤ cap) × (length (now out) ≤ cap) ⌝ }
     ensures { λ r. ⌜ Wrote at (now (out .entry)) (spaces n) r (now (out .exit)) ⌝ }
 {
-    let m = inside(out.len(), at, n);
+    let m = bytes_inside(out.len(), at, n);
     let mut i = 0;
     while i < m {
         out[at + i] = b' ';

@@ -27,7 +27,7 @@ fn agrees(answer: Checked, number: usize, row: usize) -> bool {
 }
 
 // One case more.
-fn count(t: Tally, good: bool) -> Tally
+fn tallied(t: Tally, good: bool) -> Tally
     requires { ⌜ (t .cases < 65536) × (t .failed < 65536) ⌝ }
     ensures { λ r. ⌜ (r .cases ≤ t .cases + 1) × (r .failed ≤ t .failed + 1) ⌝ }
 {
@@ -44,7 +44,7 @@ fn count(t: Tally, good: bool) -> Tally
 }
 
 // All cases in turn, at most a thousand.
-fn replay(cases: &[u8]) -> Tally {
+fn replay_all(cases: &[u8]) -> Tally {
     let mut t = Tally {
         cases: 0,
         failed: 0,
@@ -64,7 +64,7 @@ fn replay(cases: &[u8]) -> Tally {
             return t;
         }
         let to = from + n;
-        t = count(
+        t = tallied(
             t,
             agrees(tree_file::check_tree(&cases[from..to]), number, row),
         );
@@ -76,7 +76,7 @@ fn replay(cases: &[u8]) -> Tally {
 fn main() {
     let mut buffer = [0u8; 131072];
     let n = io::read_full(0, &mut buffer);
-    let t = replay(&buffer[..n]);
+    let t = replay_all(&buffer[..n]);
     io::print_decimal(1, t.cases as u64);
     io::write_all(1, b" cases, ");
     io::print_decimal(1, t.failed as u64);

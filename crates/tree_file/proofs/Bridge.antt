@@ -16,7 +16,7 @@ use Rattle.mitex_syntax.specs.Syntax.{ScopeRoot}
 use Rattle.mitex_syntax.specs.Tree.{Tree, size, textOf, count}
 use Rattle.mitex_syntax.specs.Tree.Tree.{token, node}
 use Rattle.mitex_syntax.specs.Spells.{Spells, SpellsAll}
-use Rattle.mitex_syntax.proofs.Trees.{size-node, under}
+use Rattle.mitex_syntax.proofs.Trees.{size-node, spells-under}
 use Rattle.text.specs.Trailer.{fileMost, startOf}
 use Rattle.tree_file.specs.Layout.{blocksMost, decode, Laid, Rooted}
 use Rattle.tree_file.specs.Depth.{depth, depthMost}
@@ -124,7 +124,7 @@ answered b start rows blocks e = go (checkTree b) refl e
 -- ---- the blocks
 
 -- the parts that a caller hands on: the text area, and the rows after the root's, which end where the trailer begins
-pub record Blocks (b : List ℕ) (t : Tree) (start end : ℕ) : Type 0 where
+pub record BlocksSpelt (b : List ℕ) (t : Tree) (start end : ℕ) : Type 0 where
   pub root-is : t ≡ node ScopeRoot (blocksOf t)
   pub few : count (blocksOf t) ≤ blocksMost
   pub spells : SpellsAll (blocksOf t) (take (end - (start + 8)) (drop (start + 8) b)) (take start b)
@@ -140,7 +140,7 @@ rooted-node (node k f) h = (ap (λ n. node n f) (h .0), h .1)
 past-root : (l : List ℕ) (m : ℕ) → 8 + m ≤ length l → drop 8 (take (8 + m) l) ≡ take m (drop 8 l)
 past-root l m h = ap (drop 8) (take-add 8 m l) ∙ drop-at (take 8 l) (take m (drop 8 l)) 8 (length-take-le 8 l (omega arith))
 
-pub accepted-blocks : (b : List ℕ) (t : Tree) → Accepted b t → (start end : ℕ) → start ≡ length (textOf t) → end ≡ start + 8 * size t → Blocks b t start end
+pub accepted-blocks : (b : List ℕ) (t : Tree) → Accepted b t → (start end : ℕ) → start ≡ length (textOf t) → end ≡ start + 8 * size t → BlocksSpelt b t start end
 accepted-blocks b t a start end s e =
     let w = rooted-node t (a .laid .rooted) in
     let f = blocksOf t in
@@ -149,7 +149,7 @@ accepted-blocks b t a start end s e =
     let sp : Spells t (take (8 * size t) (drop start b)) (take start b) =
     subst (λ k. Spells t (take (8 * size t) (drop k b)) (take k b)) (sym s) (a .spells) in
     let all : SpellsAll f (drop 8 (take (8 * size t) (drop start b))) (take start b) =
-    under (subst (λ u. Spells u (take (8 * size t) (drop start b)) (take start b)) (w .0) sp) in
+    spells-under (subst (λ u. Spells u (take (8 * size t) (drop start b)) (take start b)) (w .0) sp) in
     let m : 8 * size t ≡ 8 + (end - (start + 8)) = omega arith in
     let long : 8 + (end - (start + 8)) ≤ length (drop start b) = omega (arith, length-drop start b) in
     let rows : drop 8 (take (8 * size t) (drop start b)) ≡ take (end - (start + 8)) (drop (start + 8) b) =
@@ -167,7 +167,7 @@ accepted-blocks b t a start end s e =
 -- the same from the code's answer, with the end that the caller takes
 pub answer-blocks :
     (b : List ℕ) → Bytes b → (start rows blocks : ℕ) (w : Answered b start rows blocks) → (end : ℕ) → end + 8 ≡ length b
-    → Blocks b (w .tree) start end
+    → BlocksSpelt b (w .tree) start end
 answer-blocks b by start rows blocks w end e =
     let a = accepted-says b by (w .tree) (w .is) in
     let sum = a .whole in

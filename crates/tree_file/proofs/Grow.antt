@@ -15,7 +15,7 @@ use Rattle.mitex_syntax.specs.Tree.{Tree, Forest, size, sizes}
 use Rattle.mitex_syntax.specs.Tree.Tree.{token, node}
 use Rattle.mitex_syntax.specs.Tree.Forest.{none, more}
 use Rattle.mitex_syntax.proofs.Trees.{size-some}
-use Rattle.tree_file.specs.Layout.{Line, grow, split, over, closed, splits, cutWith, Cut}
+use Rattle.tree_file.specs.Layout.{Line, grow, split, treeAhead, closed, splits, cutWith, Cut}
 use Rattle.tree_file.specs.Layout.Line.{tok, nod}
 use Rattle.tree_file.specs.Layout.Cut.{cut}
 
@@ -66,9 +66,9 @@ mutual
   length-liness (more t f) = omega (arith, length-append (linesOf t) (linesOfs f), length-lines t, length-liness f)
 
 -- a forest before what comes
-abbrev pub before : Forest → Option Forest → Option Forest
-before f nothing = nothing
-before f (some g) = some (join f g)
+abbrev pub forestAhead : Forest → Option Forest → Option Forest
+forestAhead f nothing = nothing
+forestAhead f (some g) = some (join f g)
 
 pub split-join : (f g : Forest) → split (sizes f) (join f g) ≡ some (cut f g)
 unfolding split size join
@@ -124,12 +124,12 @@ split-sound none n g h e = split-none n g h (eqb n 0) refl e
 split-sound (more t f) n g h e = split-more t f n g h (eqb n 0) (leb (size t) n) refl refl (split-sound f (n - size t)) e
 
 -- what grows spells the rows
-pub over-some : (t : Tree) (o : Option Forest) (f : Forest) → over t o ≡ some f → (g : Forest) × ((o ≡ some g) × (f ≡ more t g))
-over-some t nothing f e = absurd (no-some e)
-over-some t (some g) f e = (g, (cc, cc))
+pub treeAhead-some : (t : Tree) (o : Option Forest) (f : Forest) → treeAhead t o ≡ some f → (g : Forest) × ((o ≡ some g) × (f ≡ more t g))
+treeAhead-some t nothing f e = absurd (no-some e)
+treeAhead-some t (some g) f e = (g, (cc, cc))
 
 -- a node closed over the first trees of those that come
-record Closed (k n : ℕ) (o : Option Forest) (f : Forest) : Type 0 where
+record ClosedNode (k n : ℕ) (o : Option Forest) (f : Forest) : Type 0 where
   whole : Forest
   under : Forest
   others : Forest
@@ -137,10 +137,10 @@ record Closed (k n : ℕ) (o : Option Forest) (f : Forest) : Type 0 where
   cuts : split n whole ≡ some (cut under others)
   is : f ≡ more (node k under) others
 
-closed-some : (k n : ℕ) (o : Option Forest) (f : Forest) → closed k (splits n o) ≡ some f → Closed k n o f
+closed-some : (k n : ℕ) (o : Option Forest) (f : Forest) → closed k (splits n o) ≡ some f → ClosedNode k n o f
 closed-some k n nothing f e = absurd (no-some e)
 closed-some k n (some u) f e =
-    let go : (c : Option Cut) → split n u ≡ c → closed k c ≡ some f → Closed k n (some u) f = λ c. elim c [
+    let go : (c : Option Cut) → split n u ≡ c → closed k c ≡ some f → ClosedNode k n (some u) f = λ c. elim c [
       | nothing ↦ λ p q. absurd (no-some q)
       | some x ↦ elim x [ cut g h ↦ λ p q. record { whole = u; under = g; others = h; grown = refl; cuts = p; is = cc } ]
     ] in
@@ -150,7 +150,7 @@ pub grow-sound : (ls : List Line) (f : Forest) → grow ls ≡ some f → ls ≡
 unfolding grow linesOf
 grow-sound [] f e = ap linesOfs (let p : none ≡ f = cc in p)
 grow-sound (tok k s ∷ ls) f e =
-    let w = over-some (token k s) (grow ls) f e in
+    let w = treeAhead-some (token k s) (grow ls) f e in
     ap (λ l. tok k s ∷ l) (grow-sound ls (w .0) (w .1 .0)) ∙ ap linesOfs (sym (w .1 .1))
 grow-sound (nod k n ∷ ls) f e =
     let w = closed-some k n (grow ls) f e in
@@ -161,62 +161,62 @@ grow-sound (nod k n ∷ ls) f e =
     ∙ ap (λ m. nod k m ∷ linesOfs g ++ linesOfs h) (sym (s .so-many))
     ∙ ap linesOfs (sym (w .is))
 
-before-over : (t : Tree) (f : Forest) (o : Option Forest) → over t (before f o) ≡ before (more t f) o
+forestAhead-treeAhead : (t : Tree) (f : Forest) (o : Option Forest) → treeAhead t (forestAhead f o) ≡ forestAhead (more t f) o
 unfolding join
-before-over t f nothing = refl
-before-over t f (some h) = refl
+forestAhead-treeAhead t f nothing = refl
+forestAhead-treeAhead t f (some h) = refl
 
-closed-before : (k : ℕ) (f : Forest) (o : Option Forest) → closed k (splits (sizes f) (before f o)) ≡ over (node k f) o
-closed-before k f nothing = refl
-closed-before k f (some g) = ap (closed k) (split-join f g)
+closed-forestAhead : (k : ℕ) (f : Forest) (o : Option Forest) → closed k (splits (sizes f) (forestAhead f o)) ≡ treeAhead (node k f) o
+closed-forestAhead k f nothing = refl
+closed-forestAhead k f (some g) = ap (closed k) (split-join f g)
 
-pub none-before : (o : Option Forest) → o ≡ before none o
+pub none-forestAhead : (o : Option Forest) → o ≡ forestAhead none o
 unfolding join
-none-before nothing = refl
-none-before (some f) = refl
+none-forestAhead nothing = refl
+none-forestAhead (some f) = refl
 
 mutual
   unfolding grow linesOf join
 
-  pub grow-tree : (t : Tree) (ls : List Line) → grow (linesOf t ++ ls) ≡ over t (grow ls)
+  pub grow-tree : (t : Tree) (ls : List Line) → grow (linesOf t ++ ls) ≡ treeAhead t (grow ls)
   grow-tree (token k s) ls = refl
-  grow-tree (node k f) ls = ap (λ o. closed k (splits (sizes f) o)) (grow-forest f ls) ∙ closed-before k f (grow ls)
+  grow-tree (node k f) ls = ap (λ o. closed k (splits (sizes f) o)) (grow-forest f ls) ∙ closed-forestAhead k f (grow ls)
 
-  pub grow-forest : (f : Forest) (ls : List Line) → grow (linesOfs f ++ ls) ≡ before f (grow ls)
-  grow-forest none ls = none-before (grow ls)
+  pub grow-forest : (f : Forest) (ls : List Line) → grow (linesOfs f ++ ls) ≡ forestAhead f (grow ls)
+  grow-forest none ls = none-forestAhead (grow ls)
   grow-forest (more t f) ls =
       ap grow (append-assoc (linesOf t) (linesOfs f) ls)
       ∙ grow-tree t (linesOfs f ++ ls)
-      ∙ ap (over t) (grow-forest f ls)
-      ∙ before-over t f (grow ls)
+      ∙ ap (treeAhead t) (grow-forest f ls)
+      ∙ forestAhead-treeAhead t f (grow ls)
 
 pub grow-complete : (f : Forest) → grow (linesOfs f) ≡ some f
 unfolding grow
 grow-complete f = ap grow (sym (append-nil (linesOfs f))) ∙ grow-forest f [] ∙ ap some (join-none f)
 
-abbrev pub pair : Option Forest → Option Forest → Option Cut
-pair nothing o = nothing
-pair (some f) nothing = nothing
-pair (some f) (some g) = some (cut f g)
+abbrev pub cutOf : Option Forest → Option Forest → Option Cut
+cutOf nothing o = nothing
+cutOf (some f) nothing = nothing
+cutOf (some f) (some g) = some (cut f g)
 
 cut-cases : (c : Option Cut) (x y : Option Forest)
     → ((f g : Forest) → x ≡ some f → y ≡ some g → c ≡ some (cut f g))
     → ((g h : Forest) → c ≡ some (cut g h) → (x ≡ some g) × (y ≡ some h))
-    → c ≡ pair x y
+    → c ≡ cutOf x y
 cut-cases nothing nothing y j p = refl
 cut-cases nothing (some f) nothing j p = refl
 cut-cases nothing (some f) (some g) j p = j f g refl refl
-cut-cases (some (cut g h)) x y j p = let w = p g h refl in sym (ap (λ x. pair x y) (w .0) ∙ ap (pair (some g)) (w .1))
+cut-cases (some (cut g h)) x y j p = let w = p g h refl in sym (ap (λ x. cutOf x y) (w .0) ∙ ap (cutOf (some g)) (w .1))
 
 -- a list of rows is cut where its forest is
-pub grow-cut : (ls : List Line) (n : ℕ) → n ≤ length ls → splits n (grow ls) ≡ pair (grow (take n ls)) (grow (drop n ls))
+pub grow-cut : (ls : List Line) (n : ℕ) → n ≤ length ls → splits n (grow ls) ≡ cutOf (grow (take n ls)) (grow (drop n ls))
 grow-cut ls n le =
     let a = take n ls in let b = drop n ls in
     let ab : a ++ b ≡ ls = take-append-drop n ls in
     let la : length a ≡ n = length-take n ls ∙ omega arith in
     let join-up : (f g : Forest) → grow a ≡ some f → grow b ≡ some g → splits n (grow ls) ≡ some (cut f g) = λ f g p q.
     let pa = grow-sound a f p in
-    let e : grow ls ≡ some (join f g) = ap grow (sym ab ∙ ap (λ l. l ++ b) pa) ∙ grow-forest f b ∙ ap (before f) q in
+    let e : grow ls ≡ some (join f g) = ap grow (sym ab ∙ ap (λ l. l ++ b) pa) ∙ grow-forest f b ∙ ap (forestAhead f) q in
     let m : n ≡ sizes f = sym la ∙ ap length pa ∙ length-liness f in
     ap (splits n) e ∙ ap (λ m. split m (join f g)) m ∙ split-join f g in
     let part : (u g h : Forest) → grow ls ≡ some u → split n u ≡ some (cut g h) → (grow a ≡ some g) × (grow b ≡ some h) = λ u g h p q.

@@ -20,8 +20,8 @@ use Rattle.text.proofs.Trailer.{ahead-some}
 use Rattle.tree_file.specs.Layout.{Line, lines, treeRowAt, rowAhead, rowTaken}
 use Rattle.tree_file.specs.Layout.Line.{tok, nod}
 use Rattle.tree_file.specs.Parts.{bytesOf, textsIn, LinesFit}
-use Rattle.tree_file.specs.declared.Row.{Row}
-use Rattle.tree_file.specs.declared.Row.the-variants.{Bad, Token, Node}
+use Rattle.tree_file.specs.declared.TreeRow.{TreeRow}
+use Rattle.tree_file.specs.declared.TreeRow.the-variants.{Bad, Token, Node}
 use Rattle.tree_file.proofs.Grow.{no-some}
 
 pub four-low : (a b c d : ℕ) → a < 256 → b < 256 → c < 256 → d < 256 → a + 256 * b + 65536 * c + 16777216 * d < cap
@@ -50,7 +50,7 @@ pub T-is : (a : Bool) → T a → a ≡ true
 T-is true h = refl
 T-is false h = absurd h
 
-abbrev pub RowSays : List ℕ → List ℕ → Row → Type 0
+abbrev pub RowSays : List ℕ → List ℕ → TreeRow → Type 0
 RowSays rows text Bad = Unit {0}
 RowSays rows text (Token m) = IsToken rows text m
 RowSays rows text (Node m) = IsNode rows m
@@ -72,9 +72,9 @@ row-tests rows text true false f true ez em ef eg =
     let z = and-eq-true-iff _ _ .0 ez in let h = and-eq-true-iff _ _ .0 eg in
     record { mark = eqb-true _ _ (h .0); zero2 = eqb-true _ _ (z .0); zero3 = eqb-true _ _ (z .1); number = refl; kind = is-T _ (h .1) }
 
-pub row-says : (rows text : List ℕ) (r : Row) → treeRowAt rows text ≡ r → RowSays rows text r
+pub tree-row-says : (rows text : List ℕ) (r : TreeRow) → treeRowAt rows text ≡ r → RowSays rows text r
 unfolding treeRowAt
-row-says rows text r e = subst (RowSays rows text) e (row-tests rows text _ _ _ _ refl refl refl refl)
+tree-row-says rows text r e = subst (RowSays rows text) e (row-tests rows text _ _ _ _ refl refl refl refl)
 
 -- what a list of lines was read from
 pub record Read (rows text : List ℕ) (ls : List Line) : Type 0 where
@@ -133,7 +133,7 @@ nil-rows (r ∷ rows) text ls h e = absurd (omega arith)
 
 rows-by : (n : ℕ) (rows text : List ℕ) (ls : List Line) → Bytes rows → 8 ≤ length rows
     → ((text : List ℕ) (ls : List Line) → lines n (drop 8 rows) text ≡ some ls → Read (drop 8 rows) text ls)
-    → (r : Row) → RowSays rows text r → rowAhead r rows text (lines n (drop 8 rows) (drop (rowTaken r) text)) ≡ some ls → Read rows text ls
+    → (r : TreeRow) → RowSays rows text r → rowAhead r rows text (lines n (drop 8 rows) (drop (rowTaken r) text)) ≡ some ls → Read rows text ls
 rows-by n rows text ls by h i Bad says e = absurd (no-some e)
 rows-by n rows text ls by h i (Token m) says e =
     let w = ahead-some _ _ _ e in
@@ -148,7 +148,7 @@ lines-sound zero rows text ls by h e = nil-rows rows text ls (omega arith) e
 lines-sound (suc n) rows text ls by h e =
     rows-by n rows text ls by (omega arith)
     (λ text ls. lines-sound n (drop 8 rows) text ls (bytes-drop 8 rows by) (length-drop 8 rows ∙ omega arith))
-    (treeRowAt rows text) (row-says rows text (treeRowAt rows text) refl) e
+    (treeRowAt rows text) (tree-row-says rows text (treeRowAt rows text) refl) e
 
 -- the other way
 pub fits-drop : (l : Line) (ls : List Line) → LinesFit (l ∷ ls) → LinesFit ls

@@ -11,22 +11,22 @@ use Rattle.mitex_syntax.specs.Tree.{Tree, Forest}
 use Rattle.mitex_syntax.specs.Views.{firstBy, isOf, childrenOf, childrenIn, firstTokens, kindIn, cmdName, goodEnds}
 use Rattle.mitex_syntax.specs.Places.{Placed, partAt}
 use Rattle.mitex_syntax.specs.Places.Placed.{missing, there}
-use Rattle.mitex_syntax.specs.declared.Place.{Place}
+use Rattle.mitex_syntax.specs.declared.Spot.{Spot}
 use Rattle.tree_file.specs.Shape.{isSome, slashed, endsIn, argumentsFit, cmdFits, envFits}
 use Rattle.tree_file.specs.Parts.{isThere}
 
 module _ {p : Tree → Bool} {f : Forest} {rows text : List ℕ} {i : ℕ} where
   -- a place is there where something is
-  pub place-there : {r : Place} → Placed p f rows text i r → isThere r ≡ isSome (firstBy p f)
+  pub place-there : {r : Spot} → Placed p f rows text i r → isThere r ≡ isSome (firstBy p f)
   place-there (missing h) = ap isSome (sym h)
   place-there (there s) = ap isSome (sym (s .is))
 
   -- what is found has good ends where its text has
-  pub place-ends : {r : Place} → Placed p f rows text i r → isThere r ≡ true → goodEnds (partAt r text) ≡ endsIn (firstBy p f)
+  pub place-ends : {r : Spot} → Placed p f rows text i r → isThere r ≡ true → goodEnds (partAt r text) ≡ endsIn (firstBy p f)
   place-ends (missing h) e = absurd (let z : _≡_ {A = ℕ} 0 1 = cc in omega arith)
   place-ends (there s) e = ap goodEnds (s .spells .text-is) ∙ ap endsIn (sym (s .is))
 
-  pub place-free : {r : Place} → Placed p f rows text i r → isThere r ≡ false → true ≡ endsIn (firstBy p f)
+  pub place-free : {r : Spot} → Placed p f rows text i r → isThere r ≡ false → true ≡ endsIn (firstBy p f)
   place-free (missing h) e = ap endsIn (sym h)
   place-free (there s) e = absurd (let z : _≡_ {A = ℕ} 0 1 = cc in omega arith)
 

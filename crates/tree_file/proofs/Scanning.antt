@@ -1,5 +1,5 @@
 -- The scan for shape goes row by row. After the row of a node come the rows under it and then those of the elements after it,
--- which are elements side by side (`opened`); and what is above a row counts only where it is an ItemBegin or ItemEnd.
+-- which are elements side by side (`rowOpened`); and what is above a row counts only where it is an ItemBegin or ItemEnd.
 use mathlib.Core.Path.{_≡_, refl, sym, ap, subst, _∙_}
 use mathlib.Core.Bool.{Bool, true, false, _&&_, _||_, cond, true≢false}
 use mathlib.Core.Option.{Option}
@@ -84,12 +84,12 @@ not-frames up row h (more (node k g) f) = ap (orElse (lowest 0 row (node k g))) 
 -- ---- the row that stands first
 
 -- the elements after its row
-abbrev opened : Tree → Forest → Forest
-opened (token k s) f = f
-opened (node k g) f = join g f
+abbrev rowOpened : Tree → Forest → Forest
+rowOpened (token k s) f = f
+rowOpened (node k g) f = join g f
 
 opened-spells : (t : Tree) (f : Forest) {rows text : List ℕ} → SpellsAll (more t f) rows text → length text < cap
-    → SpellsAll (opened t f) (drop 8 rows) (drop (tokenAt rows) text)
+    → SpellsAll (rowOpened t f) (drop 8 rows) (drop (tokenAt rows) text)
 unfolding rowsOf textOf Sound
 opened-spells (token k s) f {rows} {text} sp h =
     let e : tokenAt rows ≡ length s = ap tokenAt (sp .rows-are) ∙ four-says (length s) (omega (arith, ap length (sp .text-is), length-append s (textsOf f))) in
@@ -107,7 +107,7 @@ opened-spells (node k g) f {rows} {text} sp h =
     }
 
 opened-same : (t : Tree) (f : Forest) (row : ℕ) → isFrame (kindOf t) ≡ false → firstFits t ≡ true
-    → lowests 0 row (more t f) ≡ lowests 0 (row + 1) (opened t f)
+    → lowests 0 row (more t f) ≡ lowests 0 (row + 1) (rowOpened t f)
 unfolding lowest size
 opened-same (token k s) f row h e = ap (λ b. orElse (unless b row) (lowests 0 (row + 1) f)) e
 opened-same (node k g) f row h e =
@@ -195,7 +195,7 @@ module _ (t : Tree) (f : Forest) {rows text : List ℕ} (sp : SpellsAll (more t 
 
 -- ---- the element that stands first
 
-pub record Head (g : Forest) (rows text : List ℕ) : Type 0 where
+pub record ScanHead (g : Forest) (rows text : List ℕ) : Type 0 where
   pub tree : Tree
   pub others : Forest
   pub is : g ≡ more tree others
@@ -203,8 +203,8 @@ pub record Head (g : Forest) (rows text : List ℕ) : Type 0 where
   pub first : First tree others rows text
   pub some : 1 ≤ size tree
 
-pub head : (g : Forest) {rows text : List ℕ} → SpellsAll g rows text → 8 ≤ length rows → length rows ≤ fileMost → length text ≤ fileMost → Head g rows text
-head g {rows} {text} sp h few short =
+pub scan-head : (g : Forest) {rows text : List ℕ} → SpellsAll g rows text → 8 ≤ length rows → length rows ≤ fileMost → length text ≤ fileMost → ScanHead g rows text
+scan-head g {rows} {text} sp h few short =
     let x = left g (sp .rows-are) (omega arith) in
     let e = x .1 .1 in
     let q = subst (λ y. SpellsAll y rows text) e sp in
@@ -218,12 +218,12 @@ head g {rows} {text} sp h few short =
     }
 
 -- that of the elements that are given
-pub given-head : {rows text : List ℕ} (s : Scannable rows text) → Head (s .forest) rows text
-given-head s = head (s .forest) (s .spells) (s .some) (s .few) (s .short)
+pub given-scan-head : {rows text : List ℕ} (s : Scannable rows text) → ScanHead (s .forest) rows text
+given-scan-head s = scan-head (s .forest) (s .spells) (s .some) (s .few) (s .short)
 
 -- what reading its size asks
-pub head-spans : {g : Forest} {rows text : List ℕ} → Head g rows text → length rows < cap → length text < cap → Spans rows 0
-head-spans {g} {rows} {text} x few short =
+pub scan-head-spans : {g : Forest} {rows text : List ℕ} → ScanHead g rows text → length rows < cap → length text < cap → Spans rows 0
+scan-head-spans {g} {rows} {text} x few short =
     let e = x .first .extent in
     let i = x .first .inside in
     let b = x .some in
@@ -236,23 +236,23 @@ head-spans {g} {rows} {text} x few short =
     }
 
 -- where its own row breaks a rule
-pub head-breaks : {g : Forest} {rows text : List ℕ} (x : Head g rows text) (row : ℕ) (b : Bool) → b ≡ firstFits (x .tree) → b ≡ false → lowests 0 row g ≡ some row
-head-breaks x row b e h = ap (lowests 0 row) (x .is) ∙ opened-breaks (x .tree) (x .others) row (sym e ∙ h)
+pub scan-head-breaks : {g : Forest} {rows text : List ℕ} (x : ScanHead g rows text) (row : ℕ) (b : Bool) → b ≡ firstFits (x .tree) → b ≡ false → lowests 0 row g ≡ some row
+scan-head-breaks x row b e h = ap (lowests 0 row) (x .is) ∙ opened-breaks (x .tree) (x .others) row (sym e ∙ h)
 
 -- where it does not what is left decides
-pub head-opened : {g : Forest} {rows text : List ℕ} (x : Head g rows text) → length text < cap → (row : ℕ) → isFrame (getD rows 0 0) ≡ false
+pub scan-head-opened : {g : Forest} {rows text : List ℕ} (x : ScanHead g rows text) → length text < cap → (row : ℕ) → isFrame (getD rows 0 0) ≡ false
     → (b : Bool) → b ≡ firstFits (x .tree) → b ≡ true → (n : ℕ) → n ≡ tokenAt rows → LowestFrom g row (row + 8 / 8) (drop 8 rows) (drop n text)
-head-opened {g} {rows} {text} x short row h b e t n is =
+scan-head-opened {g} {rows} {text} x short row h b e t n is =
     record {
-      forest = opened (x .tree) (x .others);
-      spells = subst (λ m. SpellsAll (opened (x .tree) (x .others)) (drop 8 rows) (drop m text)) (sym is) (opened-spells (x .tree) (x .others) (x .exact) short);
+      forest = rowOpened (x .tree) (x .others);
+      spells = subst (λ m. SpellsAll (rowOpened (x .tree) (x .others)) (drop 8 rows) (drop m text)) (sym is) (opened-spells (x .tree) (x .others) (x .exact) short);
       same = ap (lowests 0 row) (x .is) ∙ opened-same (x .tree) (x .others) row (ap isFrame (sym (kind-first (x .tree) (x .others) (x .exact))) ∙ h) (sym e ∙ t);
     }
 
 -- its text is there
-pub head-room : {g : Forest} {rows text : List ℕ} (x : Head g rows text) → length text < cap → tokenAt rows ≤ length text
+pub scan-head-room : {g : Forest} {rows text : List ℕ} (x : ScanHead g rows text) → length text < cap → tokenAt rows ≤ length text
 unfolding rowsOf textOf
-head-room {g} {rows} {text} x short = go (x .tree) (x .exact)
+scan-head-room {g} {rows} {text} x short = go (x .tree) (x .exact)
   where
     go : (t : Tree) → SpellsAll (more t (x .others)) rows text → tokenAt rows ≤ length text
     go (token k s) sp =
@@ -265,57 +265,57 @@ pub record Spanned (rows : List ℕ) (e n : ℕ) : Type 0 where
   pub is-e : e ≡ extentOf rows
   pub is-n : n ≡ tokenSum (take (extentOf rows) rows)
 
-module _ {g : Forest} {rows text : List ℕ} {e n : ℕ} (w : Spanned rows e n) (x : Head g rows text) where
-  pub whole-rows : e ≡ 8 * size (x .tree)
-  whole-rows = w .is-e ∙ x .first .extent
+module _ {g : Forest} {rows text : List ℕ} {e n : ℕ} (w : Spanned rows e n) (x : ScanHead g rows text) where
+  pub pass-whole-rows : e ≡ 8 * size (x .tree)
+  pass-whole-rows = w .is-e ∙ x .first .extent
 
-  pub whole-text : n ≡ length (textOf (x .tree))
-  whole-text = w .is-n ∙ ap (λ m. tokenSum (take m rows)) (x .first .extent) ∙ x .first .sum
+  pub pass-whole-text : n ≡ length (textOf (x .tree))
+  pass-whole-text = w .is-n ∙ ap (λ m. tokenSum (take m rows)) (x .first .extent) ∙ x .first .sum
 
-  pub whole-spells : Spells (x .tree) (take e rows) (take n text)
-  whole-spells =
-      subst (λ m. Spells (x .tree) (take m rows) (take n text)) (sym whole-rows)
-      (subst (λ m. Spells (x .tree) (take (8 * size (x .tree)) rows) (take m text)) (sym whole-text) (x .first .first))
+  pub pass-whole-spells : Spells (x .tree) (take e rows) (take n text)
+  pass-whole-spells =
+      subst (λ m. Spells (x .tree) (take m rows) (take n text)) (sym pass-whole-rows)
+      (subst (λ m. Spells (x .tree) (take (8 * size (x .tree)) rows) (take m text)) (sym pass-whole-text) (x .first .first))
 
   -- what the answer for it says of all
   module _ (row : ℕ) (a : Shape) (says : (u : Tree) → Spells u (take e rows) (take n text) → a ≡ shapeOf (lowest 0 row u)) where
-    whole-lowest : lowests 0 row g ≡ orElse (lowest 0 row (x .tree)) (lowests 0 (row + size (x .tree)) (x .others))
+    pass-whole-lowest : lowests 0 row g ≡ orElse (lowest 0 row (x .tree)) (lowests 0 (row + size (x .tree)) (x .others))
     unfolding lowest
-    whole-lowest = ap (lowests 0 row) (x .is)
+    pass-whole-lowest = ap (lowests 0 row) (x .is)
 
-    pub whole-breaks : (r : ℕ) → a ≡ Breaks r → lowests 0 row g ≡ some r
-    whole-breaks r b =
-        let y = shape-breaks (lowest 0 row (x .tree)) r (sym (says (x .tree) whole-spells) ∙ b) in
-        whole-lowest ∙ ap (λ o. orElse o (lowests 0 (row + size (x .tree)) (x .others))) y
+    pub pass-whole-breaks : (r : ℕ) → a ≡ Breaks r → lowests 0 row g ≡ some r
+    pass-whole-breaks r b =
+        let y = shape-breaks (lowest 0 row (x .tree)) r (sym (says (x .tree) pass-whole-spells) ∙ b) in
+        pass-whole-lowest ∙ ap (λ o. orElse o (lowests 0 (row + size (x .tree)) (x .others))) y
 
-    pub whole-past : a ≡ Right → LowestFrom g row (row + e / 8) (drop e rows) (drop n text)
-    whole-past b =
-        let y = shape-right (lowest 0 row (x .tree)) (sym (says (x .tree) whole-spells) ∙ b) in
-        let size-is : size (x .tree) ≡ e / 8 = sym (ap (λ m. m / 8) whole-rows ∙ omega arith) in
+    pub pass-whole-past : a ≡ Right → LowestFrom g row (row + e / 8) (drop e rows) (drop n text)
+    pass-whole-past b =
+        let y = shape-right (lowest 0 row (x .tree)) (sym (says (x .tree) pass-whole-spells) ∙ b) in
+        let size-is : size (x .tree) ≡ e / 8 = sym (ap (λ m. m / 8) pass-whole-rows ∙ omega arith) in
         let q : SpellsAll (x .others) (drop (8 * size (x .tree)) rows) (drop (length (textOf (x .tree))) text) = others-exact (x .exact) in
         record {
           forest = x .others;
-          spells = subst (λ m. SpellsAll (x .others) (drop m rows) (drop n text)) (sym whole-rows)
-              (subst (λ m. SpellsAll (x .others) (drop (8 * size (x .tree)) rows) (drop m text)) (sym whole-text) q);
-          same = whole-lowest ∙ ap (λ o. orElse o (lowests 0 (row + size (x .tree)) (x .others))) y ∙ ap (λ m. lowests 0 (row + m) (x .others)) size-is;
+          spells = subst (λ m. SpellsAll (x .others) (drop m rows) (drop n text)) (sym pass-whole-rows)
+              (subst (λ m. SpellsAll (x .others) (drop (8 * size (x .tree)) rows) (drop m text)) (sym pass-whole-text) q);
+          same = pass-whole-lowest ∙ ap (λ o. orElse o (lowests 0 (row + size (x .tree)) (x .others))) y ∙ ap (λ m. lowests 0 (row + m) (x .others)) size-is;
         }
 
 -- ---- the scan
 
 -- what is left decides, of any tree that is spelt
-pub record Scans (rows text l t : List ℕ) (at : ℕ) : Type 0 where
+pub record ShapeScan (rows text l t : List ℕ) (at : ℕ) : Type 0 where
   pub asked : Checkable rows text 0
   pub few : at + length l ≤ length rows
   pub short : length t ≤ length text
   pub reach : (u : Tree) → Spells u rows text → LowestFrom (more u none) 0 at l t
 
 -- e bytes of rows and n of text on stands the next row
-pub record Moves (rows text l t : List ℕ) (at e n : ℕ) : Type 0 where
+pub record ShapeScanMoves (rows text l t : List ℕ) (at e n : ℕ) : Type 0 where
   pub some : 8 ≤ e
   pub rows-in : e ≤ length l
   pub text-in : n ≤ length t
   pub low : at + e ≤ fileMost
-  pub next : Scans rows text (take (length l - e) (drop e l)) (take (length t - n) (drop n t)) (at + e / 8)
+  pub next : ShapeScan rows text (take (length l - e) (drop e l)) (take (length t - n) (drop n t)) (at + e / 8)
 
 alone : (u : Tree) → lowests 0 0 (more u none) ≡ lowest 0 0 u
 unfolding lowest
@@ -325,37 +325,37 @@ alone u = go (lowest 0 0 u)
     go nothing = refl
     go (some r) = refl
 
-pub scan-start : {rows text : List ℕ} → Checkable rows text 0 → Scans rows text rows text 0
-scan-start a = record { asked = a; few = omega arith; short = omega arith; reach = λ u sp. record { forest = more u none; spells = spells-alone sp; same = refl } }
+pub shape-scan-start : {rows text : List ℕ} → Checkable rows text 0 → ShapeScan rows text rows text 0
+shape-scan-start a = record { asked = a; few = omega arith; short = omega arith; reach = λ u sp. record { forest = more u none; spells = spells-alone sp; same = refl } }
 
-module _ {rows text l t : List ℕ} {at : ℕ} (s : Scans rows text l t at) where
+module _ {rows text l t : List ℕ} {at : ℕ} (s : ShapeScan rows text l t at) where
   reached : LowestFrom (more (s .asked .given .tree) none) 0 at l t
   reached = s .reach (s .asked .given .tree) (s .asked .given .spells)
 
-  pub scan-asks : 8 ≤ length l → Scannable l t
-  scan-asks h =
+  pub shape-scan-asks : 8 ≤ length l → Scannable l t
+  shape-scan-asks h =
       let a = s .asked .few in
       let b = s .asked .short in
       let c = s .few in
       let d = s .short in
       record { forest = reached .forest; spells = reached .spells; some = h; few = omega arith; short = omega arith }
 
-  pub scan-breaks : (p : Pass) (r : ℕ) → PassSays l t at p → p ≡ Broke r → (u : Tree) → Spells u rows text → Breaks r ≡ shapeOf (lowest 0 0 u)
-  scan-breaks p r w e u sp =
+  pub shape-scan-breaks : (p : Pass) (r : ℕ) → PassSays l t at p → p ≡ Broke r → (u : Tree) → Spells u rows text → Breaks r ≡ shapeOf (lowest 0 0 u)
+  shape-scan-breaks p r w e u sp =
       let z : PassSays l t at (Broke r) = subst (PassSays l t at) e w in
       let x = s .reach u sp in
       sym (ap shapeOf (sym (alone u) ∙ x .same ∙ z (x .forest) (x .spells)))
 
-  pub scan-end : length l < 8 → (u : Tree) → Spells u rows text → Right ≡ shapeOf (lowest 0 0 u)
+  pub shape-scan-end : length l < 8 → (u : Tree) → Spells u rows text → Right ≡ shapeOf (lowest 0 0 u)
   unfolding lowest
-  scan-end h u sp =
+  shape-scan-end h u sp =
       let x = s .reach u sp in
       let e = no-left (x .forest) (x .spells .rows-are) (omega (arith, ap length (x .spells .rows-are), length-rowss (x .forest))) in
       sym (ap shapeOf (sym (alone u) ∙ x .same ∙ ap (lowests 0 at) e))
 
   -- the next place
-  pub scan-moves : (p : Pass) (e n : ℕ) → PassSays l t at p → p ≡ Past e n → Moves rows text l t at e n
-  scan-moves p e n w is =
+  pub shape-scan-moves : (p : Pass) (e n : ℕ) → PassSays l t at p → p ≡ Past e n → ShapeScanMoves rows text l t at e n
+  shape-scan-moves p e n w is =
       let q : PassSays l t at (Past e n) = subst (PassSays l t at) is w in
       let b = q .1 in
       let d = s .few in

@@ -18,8 +18,8 @@ use Rattle.mitex_syntax.specs.Tree.Forest.{none, more}
 use Rattle.mitex_syntax.specs.Rows.{extentOf, tokenSum, Spans}
 use Rattle.mitex_syntax.specs.Views.{childrenOf}
 use Rattle.mitex_syntax.specs.Spells.{tokenFits, Sound, Spells, SpellsAll, Begins, SomeForest}
-use Rattle.mitex_syntax.proofs.Trees.{length-rows, size-some, Element, element, all-begins, no-left, rows-e, past-exact, spans}
-use Rattle.mitex_syntax.proofs.Trees.{part, part-spells, Child, child, kind-spelt, token-spelt, node-spelt, under}
+use Rattle.mitex_syntax.proofs.Trees.{length-rows, size-some, ElementAt, element, all-begins, no-left, rows-e, past-exact, spans}
+use Rattle.mitex_syntax.proofs.Trees.{part, part-spells, ChildPart, child-part, kind-spelt, token-spelt, node-spelt, spells-under}
 use Rattle.mitex_syntax.proofs.Places.{some-children}
 use Rattle.tree_file.specs.Shape.{slashed, backslash, symFits, lrFits, nodeFits, unless, orElse, lowest, lowests}
 use Rattle.tree_file.specs.Parts.{shapeOf, Checkable}
@@ -91,7 +91,7 @@ module _ {t : Tree} {rows text : List ℕ} (sp : Spells t rows text) (mark : get
 
   -- the children of a node
   pub node-under : SpellsAll (childrenOf t) (drop 8 rows) text
-  node-under = under (subst (λ u. Spells u rows text) as-node sp)
+  node-under = spells-under (subst (λ u. Spells u rows text) as-node sp)
 
   node-lowest : (up row : ℕ) → lowest up row t ≡ orElse (unless (nodeFits (getD rows 0 0) (childrenOf t)) row) (lowests (getD rows 0 0) (row + 1) (childrenOf t))
   unfolding lowest
@@ -102,8 +102,8 @@ module _ {t : Tree} {rows text : List ℕ} (sp : Spells t rows text) (mark : get
       let x : nodeFits (getD rows 0 0) (childrenOf t) ≡ false = sym e ∙ h in
       sym (ap shapeOf (node-lowest up row ∙ ap (λ y. orElse (unless y row) (lowests (getD rows 0 0) (row + 1) (childrenOf t))) x))
 
-  pub walk-start : (up row : ℕ) (b : Bool) → b ≡ nodeFits (getD rows 0 0) (childrenOf t) → b ≡ true → ShapeWalk t up row (getD rows 0 0) rows text 8 0 (row + 1)
-  walk-start up row b e h =
+  pub shape-walk-start : (up row : ℕ) (b : Bool) → b ≡ nodeFits (getD rows 0 0) (childrenOf t) → b ≡ true → ShapeWalk t up row (getD rows 0 0) rows text 8 0 (row + 1)
+  shape-walk-start up row b e h =
       let x : nodeFits (getD rows 0 0) (childrenOf t) ≡ true = sym e ∙ h in
       record {
         g = childrenOf t;
@@ -113,34 +113,34 @@ module _ {t : Tree} {rows text : List ℕ} (sp : Spells t rows text) (mark : get
 
 module _ {t : Tree} {up row k : ℕ} {rows text : List ℕ} {i j at : ℕ} (w : ShapeWalk t up row k rows text i j at) where
   -- the child at which the walk stands
-  pub walk-at : i < length rows → j ≤ length text → length rows < cap → length text < cap → Element (w .g) rows text i j
-  walk-at h hj few short = element (all-begins (w .spells)) h hj few short
+  pub shape-walk-at : i < length rows → j ≤ length text → length rows < cap → length text < cap → ElementAt (w .g) rows text i j
+  shape-walk-at h hj few short = element (all-begins (w .spells)) h hj few short
 
-  pub walk-end : length rows ≤ i → Right ≡ shapeOf (lowest up row t)
+  pub shape-walk-end : length rows ≤ i → Right ≡ shapeOf (lowest up row t)
   unfolding lowest
-  walk-end h =
+  shape-walk-end h =
       let e = no-left (w .g) (w .spells .rows-are) (length-drop i rows ∙ omega arith) in
       sym (ap shapeOf (w .same ∙ ap (lowests k at) e))
 
-  module _ (x : Element (w .g) rows text i j) where
-    walk-lowest : lowest up row t ≡ orElse (lowest k at (x .tree)) (lowests k (at + size (x .tree)) (x .others))
+  module _ (x : ElementAt (w .g) rows text i j) where
+    shape-walk-lowest : lowest up row t ≡ orElse (lowest k at (x .tree)) (lowests k (at + size (x .tree)) (x .others))
     unfolding lowest
-    walk-lowest = w .same ∙ ap (lowests k at) (x .is)
+    shape-walk-lowest = w .same ∙ ap (lowests k at) (x .is)
 
-    pub walk-breaks : (s : Shape) (r : ℕ) → s ≡ shapeOf (lowest k at (x .tree)) → s ≡ Breaks r → Breaks r ≡ shapeOf (lowest up row t)
-    walk-breaks s r e h =
+    pub shape-walk-breaks : (s : Shape) (r : ℕ) → s ≡ shapeOf (lowest k at (x .tree)) → s ≡ Breaks r → Breaks r ≡ shapeOf (lowest up row t)
+    shape-walk-breaks s r e h =
         let y = shape-breaks (lowest k at (x .tree)) r (sym e ∙ h) in
-        sym (ap shapeOf (walk-lowest ∙ ap (λ o. orElse o (lowests k (at + size (x .tree)) (x .others))) y))
+        sym (ap shapeOf (shape-walk-lowest ∙ ap (λ o. orElse o (lowests k (at + size (x .tree)) (x .others))) y))
 
-    pub walk-next : (e n : ℕ) → e ≡ extentOf (drop i rows) → n ≡ tokenSum (take (extentOf (drop i rows)) (drop i rows))
+    pub shape-walk-next : (e n : ℕ) → e ≡ extentOf (drop i rows) → n ≡ tokenSum (take (extentOf (drop i rows)) (drop i rows))
         → (s : Shape) → s ≡ shapeOf (lowest k at (x .tree)) → s ≡ Right → ShapeWalk t up row k rows text (i + e) (j + n) (at + e / 8)
-    walk-next e n is-e is-n s p h =
+    shape-walk-next e n is-e is-n s p h =
         let y = shape-right (lowest k at (x .tree)) (sym p ∙ h) in
         let size-is : size (x .tree) ≡ e / 8 = let z = rows-e x e n is-e is-n in sym (ap (λ m. m / 8) z ∙ omega arith) in
         record {
           g = x .others;
           spells = past-exact x e n is-e is-n (w .spells);
-          same = walk-lowest ∙ ap (λ o. orElse o (lowests k (at + size (x .tree)) (x .others))) y ∙ ap (λ m. lowests k (at + m) (x .others)) size-is;
+          same = shape-walk-lowest ∙ ap (λ o. orElse o (lowests k (at + size (x .tree)) (x .others))) y ∙ ap (λ m. lowests k (at + m) (x .others)) size-is;
         }
 
 -- ---- the same with the bounds, as the code's loop has it
@@ -160,7 +160,7 @@ ShapeSays a rows text up row = (t : Tree) → Spells t rows text → a ≡ shape
 -- the child at which the loop stands has e bytes of rows and n of text: a call for it may be made, and its answer is that for the whole,
 -- or the loop goes on past the child
 pub record ChildStands (rows text : List ℕ) (up row k i j at e n : ℕ) : Type 0 where
-  pub child : Child rows text i j e n
+  pub child : ChildPart rows text i j e n
   pub asks : Checkable (part rows i e) (part text j n) at
   pub breaks : (a : Shape) → ShapeSays a (part rows i e) (part text j n) k at → (r : ℕ) → a ≡ Breaks r → ShapeSays (Breaks r) rows text up row
   pub next : (a : Shape) → ShapeSays a (part rows i e) (part text j n) k at → a ≡ Right → ShapeLoop rows text up row k (i + e) (j + n) (at + e / 8)
@@ -174,13 +174,13 @@ asked-forest a =
 
 module _ {rows text : List ℕ} {up row k i j at : ℕ} (s : ShapeLoop rows text up row k i j at) (h : i < length rows) where
   -- the child at which the loop stands, of any tree that is spelt, and of the one that is given
-  pub stands-at : (t : Tree) (sp : Spells t rows text) → Element (s .walk t sp .g) rows text i j
+  pub stands-at : (t : Tree) (sp : Spells t rows text) → ElementAt (s .walk t sp .g) rows text i j
   stands-at t sp =
       let few = s .asked .few in
       let short = s .asked .short in
-      walk-at (s .walk t sp) h (s .begun) (omega arith) (omega arith)
+      shape-walk-at (s .walk t sp) h (s .begun) (omega arith) (omega arith)
 
-  here : Element (s .walk (s .asked .given .tree) (s .asked .given .spells) .g) rows text i j
+  here : ElementAt (s .walk (s .asked .given .tree) (s .asked .given .spells) .g) rows text i j
   here = stands-at (s .asked .given .tree) (s .asked .given .spells)
 
   pub stands-spans : Spans rows i
@@ -190,8 +190,8 @@ module _ {rows text : List ℕ} {up row k i j at : ℕ} (s : ShapeLoop rows text
       spans here (omega arith) (omega arith)
 
   module _ (e n : ℕ) (is-e : e ≡ extentOf (drop i rows)) (is-n : n ≡ tokenSum (take (extentOf (drop i rows)) (drop i rows))) where
-    child-here : Child rows text i j e n
-    child-here = child here e n is-e is-n
+    child-here : ChildPart rows text i j e n
+    child-here = child-part here e n is-e is-n
 
     asks-here : Checkable (part rows i e) (part text j n) at
     asks-here =
@@ -211,7 +211,7 @@ module _ {rows text : List ℕ} {up row k i j at : ℕ} (s : ShapeLoop rows text
       says-here t sp = says (stands-at t sp .tree) (part-spells (stands-at t sp) e n is-e is-n)
 
       breaks-here : (r : ℕ) → a ≡ Breaks r → ShapeSays (Breaks r) rows text up row
-      breaks-here r b t sp = walk-breaks (s .walk t sp) (stands-at t sp) a r (says-here t sp) b
+      breaks-here r b t sp = shape-walk-breaks (s .walk t sp) (stands-at t sp) a r (says-here t sp) b
 
       next-here : a ≡ Right → ShapeLoop rows text up row k (i + e) (j + n) (at + e / 8)
       next-here b =
@@ -223,7 +223,7 @@ module _ {rows text : List ℕ} {up row k i j at : ℕ} (s : ShapeLoop rows text
             low = child-here .end;
             begun = child-here .stop;
             place = omega arith;
-            walk = λ t sp. walk-next (s .walk t sp) (stands-at t sp) e n is-e is-n a (says-here t sp) b;
+            walk = λ t sp. shape-walk-next (s .walk t sp) (stands-at t sp) e n is-e is-n a (says-here t sp) b;
           }
 
     pub child-stands : ChildStands rows text up row k i j at e n

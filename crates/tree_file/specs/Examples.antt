@@ -26,25 +26,25 @@ use Rattle.tree_file.specs.declared.Checked.the-variants.{Whole, Refused
 abbrev one : Tree → Forest
 one t = more t none
 
-abbrev word : List ℕ → Tree
-word s = token TokenWord s
+abbrev wordOf : List ℕ → Tree
+wordOf s = token TokenWord s
 
-abbrev sym : List ℕ → Tree
-sym s = token TokenCommandSym s
+abbrev symbolOf : List ℕ → Tree
+symbolOf s = token TokenCommandSym s
 
-abbrev cmd : List ℕ → Forest → Tree
-cmd name f = node ItemCmd (more (token ClauseCommandName name) f)
+abbrev commandOver : List ℕ → Forest → Tree
+commandOver name f = node ItemCmd (more (token ClauseCommandName name) f)
 
-abbrev arg : Forest → Tree
-arg f = node ClauseArgument f
+abbrev argumentOver : Forest → Tree
+argumentOver f = node ClauseArgument f
 
 -- an argument that is a group with this text
 abbrev group : ℕ → List ℕ → Tree
-group k s = arg (one (node k (one (word s))))
+group k s = argumentOver (one (node k (one (wordOf s))))
 
 -- a word, and the element after it as row 2
 abbrev doc : Tree → Tree
-doc t = node ScopeRoot (more (word (ascii "ab")) (one t))
+doc t = node ScopeRoot (more (wordOf (ascii "ab")) (one t))
 
 abbrev nest : ℕ → Tree → Tree
 nest zero t = t
@@ -53,29 +53,29 @@ nest (suc n) t = nest n (node ItemCurly (one t))
 abbrev checked : Tree → Checked
 checked t = checkedAnswer (checkTree (fileOf t))
 
-decoded : checkTree (fileOf (doc (word (ascii "c")))) ≡ accepted (doc (word (ascii "c")))
+doc-decoded : checkTree (fileOf (doc (wordOf (ascii "c")))) ≡ accepted (doc (wordOf (ascii "c")))
 unfolding checkTree decode fileOf rowsOf textOf size lines treeRowAt grow split valid charSteps count depth lowest
-decoded = refl
+doc-decoded = refl
 
 -- a ClauseLR, symbols, commands and environments
 shapes :
     map checked (
-    doc (node ClauseLR (one (word (ascii "\\left"))))
-    ∷ doc (node ClauseLR (one (word (ascii "ab"))))
+    doc (node ClauseLR (one (wordOf (ascii "\\left"))))
+    ∷ doc (node ClauseLR (one (wordOf (ascii "ab"))))
     ∷ doc (node ClauseLR (one (node ItemCurly none)))
     ∷ doc (node ClauseLR none)
-    ∷ doc (sym (ascii "\\alpha"))
-    ∷ doc (sym (ascii "alpha"))
-    ∷ doc (node ItemBegin (one (sym (ascii "alpha"))))
-    ∷ doc (node ItemEnd (one (sym (ascii "alpha"))))
-    ∷ doc (node ItemBegin (one (arg (one (sym (ascii "alpha"))))))
-    ∷ doc (node ItemCmd (one (word (ascii "ab"))))
-    ∷ doc (cmd (ascii "x") none)
-    ∷ doc (cmd (ascii "\\x") (one (token ClauseCommandName (ascii "y"))))
-    ∷ doc (node ItemEnv (one (node ItemBegin (one (sym (ascii "a"))))))
-    ∷ doc (node ItemEnv (one (node ItemBegin (one (node ItemCurly (one (sym (ascii "\\a"))))))))
-    ∷ doc (node ItemEnv (one (node ItemBegin (more (node ItemCurly none) (one (sym (ascii "a")))))))
-    ∷ doc (node ItemEnv (one (word (ascii "ab"))))
+    ∷ doc (symbolOf (ascii "\\alpha"))
+    ∷ doc (symbolOf (ascii "alpha"))
+    ∷ doc (node ItemBegin (one (symbolOf (ascii "alpha"))))
+    ∷ doc (node ItemEnd (one (symbolOf (ascii "alpha"))))
+    ∷ doc (node ItemBegin (one (argumentOver (one (symbolOf (ascii "alpha"))))))
+    ∷ doc (node ItemCmd (one (wordOf (ascii "ab"))))
+    ∷ doc (commandOver (ascii "x") none)
+    ∷ doc (commandOver (ascii "\\x") (one (token ClauseCommandName (ascii "y"))))
+    ∷ doc (node ItemEnv (one (node ItemBegin (one (symbolOf (ascii "a"))))))
+    ∷ doc (node ItemEnv (one (node ItemBegin (one (node ItemCurly (one (symbolOf (ascii "\\a"))))))))
+    ∷ doc (node ItemEnv (one (node ItemBegin (more (node ItemCurly none) (one (symbolOf (ascii "a")))))))
+    ∷ doc (node ItemEnv (one (wordOf (ascii "ab"))))
     ∷ []
     )
     ≡ (
@@ -103,20 +103,20 @@ shapes = refl
 -- the arguments of `\label`, `\includegraphics` and `\color`
 arguments-fit :
     map (λ t. checked (doc t)) (
-    cmd (ascii "\\label") none
-    ∷ cmd (ascii "\\label") (one (arg (one (word (ascii "a")))))
-    ∷ cmd (ascii "\\label") (one (arg (one (word (ascii "{e}")))))
-    ∷ cmd (ascii "\\label") (one (arg (one (word (123 ∷ 101 ∷ 195 ∷ 169 ∷ [])))))
-    ∷ node ItemBlockComment (one (cmd (ascii "\\label") none))
-    ∷ cmd (ascii "\\includegraphics") (one (group ItemCurly (ascii "{f}")))
-    ∷ cmd (ascii "\\includegraphics") (more (group ItemBracket (ascii "[]")) (one (group ItemCurly (ascii "{f}"))))
-    ∷ cmd (ascii "\\includegraphics") (more (group ItemBracket (ascii "[")) (one (group ItemCurly (ascii "{f}"))))
-    ∷ cmd (ascii "\\includegraphics") (more (group ItemCurly (ascii "{f}")) (one (group ItemCurly (ascii "{"))))
-    ∷ cmd (ascii "\\includegraphics") (more (group ItemCurly (ascii "{f}")) (one (arg (one (word (ascii "ab"))))))
-    ∷ cmd (ascii "\\includegraphics") (one (group ItemBracket (ascii "[w]")))
-    ∷ cmd (ascii "\\color") none
-    ∷ cmd (ascii "\\color") (one (arg none))
-    ∷ cmd (ascii "\\textcolor") none
+    commandOver (ascii "\\label") none
+    ∷ commandOver (ascii "\\label") (one (argumentOver (one (wordOf (ascii "a")))))
+    ∷ commandOver (ascii "\\label") (one (argumentOver (one (wordOf (ascii "{e}")))))
+    ∷ commandOver (ascii "\\label") (one (argumentOver (one (wordOf (123 ∷ 101 ∷ 195 ∷ 169 ∷ [])))))
+    ∷ node ItemBlockComment (one (commandOver (ascii "\\label") none))
+    ∷ commandOver (ascii "\\includegraphics") (one (group ItemCurly (ascii "{f}")))
+    ∷ commandOver (ascii "\\includegraphics") (more (group ItemBracket (ascii "[]")) (one (group ItemCurly (ascii "{f}"))))
+    ∷ commandOver (ascii "\\includegraphics") (more (group ItemBracket (ascii "[")) (one (group ItemCurly (ascii "{f}"))))
+    ∷ commandOver (ascii "\\includegraphics") (more (group ItemCurly (ascii "{f}")) (one (group ItemCurly (ascii "{"))))
+    ∷ commandOver (ascii "\\includegraphics") (more (group ItemCurly (ascii "{f}")) (one (argumentOver (one (wordOf (ascii "ab"))))))
+    ∷ commandOver (ascii "\\includegraphics") (one (group ItemBracket (ascii "[w]")))
+    ∷ commandOver (ascii "\\color") none
+    ∷ commandOver (ascii "\\color") (one (argumentOver none))
+    ∷ commandOver (ascii "\\textcolor") none
     ∷ []
     )
     ≡ (
@@ -141,21 +141,21 @@ arguments-fit = refl
 
 -- ---- bytes
 
-abbrev row : ℕ → ℕ → ℕ → List ℕ
-row k mark n = k ∷ mark ∷ 0 ∷ 0 ∷ four n []
+abbrev treeRow : ℕ → ℕ → ℕ → List ℕ
+treeRow k mark n = k ∷ mark ∷ 0 ∷ 0 ∷ four n []
 
-abbrev file : List ℕ → List ℕ → ℕ → ℕ → List ℕ
-file text rows start count = text ++ (rows ++ four start (four count []))
+abbrev treeFile : List ℕ → List ℕ → ℕ → ℕ → List ℕ
+treeFile text rows start count = text ++ (rows ++ four start (four count []))
 
 -- the root over n rows, then a row and what follows it; `a` is the text
-abbrev over : ℕ → List ℕ → ℕ → List ℕ
-over n rows count = file (ascii "a") (row ScopeRoot 0 n ++ rows) 1 count
+abbrev rootOver : ℕ → List ℕ → ℕ → List ℕ
+rootOver n rows count = treeFile (ascii "a") (treeRow ScopeRoot 0 n ++ rows) 1 count
 
 files-fit :
     map (λ b. checkedAnswer (checkTree b)) (
-    over 1 (row TokenWord 1 1) 2
-    ∷ file [] (row ScopeRoot 0 0) 0 1
-    ∷ over 3 (row ItemCurly 0 2 ++ (row ItemCurly 0 0 ++ row TokenWord 1 1)) 4
+    rootOver 1 (treeRow TokenWord 1 1) 2
+    ∷ treeFile [] (treeRow ScopeRoot 0 0) 0 1
+    ∷ rootOver 3 (treeRow ItemCurly 0 2 ++ (treeRow ItemCurly 0 0 ++ treeRow TokenWord 1 1)) 4
     ∷ []
     )
     ≡ (Whole 1 2 1 ∷ Whole 0 1 0 ∷ Whole 1 4 1 ∷ [])
@@ -167,24 +167,24 @@ files-fit = refl
 files-break :
     map (λ b. checkedAnswer (checkTree b)) (
     []
-    ∷ file [] [] 0 0
-    ∷ file [] (row ItemCurly 0 0) 0 1
-    ∷ file [] (row ScopeRoot 0 0 ++ row ItemCurly 0 0) 0 2
-    ∷ file (ascii "a") (row ScopeRoot 0 0) 1 1
-    ∷ over 1 (row TokenWord 1 1) 3
-    ∷ over 0 (row TokenWord 1 1) 2
-    ∷ over 2 (row TokenWord 1 1) 2
-    ∷ over 1 (row TokenWord 1 2) 2
-    ∷ over 1 (row TokenWord 0 0) 2
-    ∷ over 1 (row TokenWord 2 1) 2
-    ∷ over 1 (row ItemCurly 1 1) 2
-    ∷ over 1 (row 0 1 1) 2
-    ∷ over 1 (row 46 1 1) 2
-    ∷ over 1 (15 ∷ 1 ∷ 1 ∷ 0 ∷ four 1 []) 2
-    ∷ over 1 (15 ∷ 1 ∷ 0 ∷ 1 ∷ four 1 []) 2
-    ∷ over 2 (row TokenWord 1 1 ++ row TokenWord 1 0) 3
-    ∷ over 3 (row ItemCurly 0 1 ++ (row ItemCurly 0 1 ++ row TokenWord 1 1)) 4
-    ∷ file (130 ∷ []) (row ScopeRoot 0 1 ++ row TokenWord 1 1) 1 2
+    ∷ treeFile [] [] 0 0
+    ∷ treeFile [] (treeRow ItemCurly 0 0) 0 1
+    ∷ treeFile [] (treeRow ScopeRoot 0 0 ++ treeRow ItemCurly 0 0) 0 2
+    ∷ treeFile (ascii "a") (treeRow ScopeRoot 0 0) 1 1
+    ∷ rootOver 1 (treeRow TokenWord 1 1) 3
+    ∷ rootOver 0 (treeRow TokenWord 1 1) 2
+    ∷ rootOver 2 (treeRow TokenWord 1 1) 2
+    ∷ rootOver 1 (treeRow TokenWord 1 2) 2
+    ∷ rootOver 1 (treeRow TokenWord 0 0) 2
+    ∷ rootOver 1 (treeRow TokenWord 2 1) 2
+    ∷ rootOver 1 (treeRow ItemCurly 1 1) 2
+    ∷ rootOver 1 (treeRow 0 1 1) 2
+    ∷ rootOver 1 (treeRow 46 1 1) 2
+    ∷ rootOver 1 (15 ∷ 1 ∷ 1 ∷ 0 ∷ four 1 []) 2
+    ∷ rootOver 1 (15 ∷ 1 ∷ 0 ∷ 1 ∷ four 1 []) 2
+    ∷ rootOver 2 (treeRow TokenWord 1 1 ++ treeRow TokenWord 1 0) 3
+    ∷ rootOver 3 (treeRow ItemCurly 0 1 ++ (treeRow ItemCurly 0 1 ++ treeRow TokenWord 1 1)) 4
+    ∷ treeFile (130 ∷ []) (treeRow ScopeRoot 0 1 ++ treeRow TokenWord 1 1) 1 2
     ∷ []
     )
     ≡ replicate 19 (Refused 3 0)
@@ -195,11 +195,11 @@ files-break = refl
 
 abbrev flat : ℕ → Forest
 flat zero = none
-flat (suc n) = more (word (ascii "a")) (flat n)
+flat (suc n) = more (wordOf (ascii "a")) (flat n)
 
 limits :
     map checked (
-    doc (nest 62 (word (ascii "a"))) ∷ doc (nest 63 (word (ascii "a"))) ∷ node ScopeRoot (flat 512) ∷ node ScopeRoot (flat 513) ∷ []
+    doc (nest 62 (wordOf (ascii "a"))) ∷ doc (nest 63 (wordOf (ascii "a"))) ∷ node ScopeRoot (flat 512) ∷ node ScopeRoot (flat 513) ∷ []
     )
     ≡ (Whole 3 65 2 ∷ Refused 4 0 ∷ Whole 512 513 512 ∷ Refused 3 0 ∷ [])
 unfolding checkTree decode fileOf rowsOf textOf size lines treeRowAt grow split valid charSteps count depth lowest

@@ -16,8 +16,8 @@ use Rattle.mitex_syntax.specs.Tree.{Tree, Forest, size, count, fileOf}
 use Rattle.mitex_syntax.specs.Tree.Tree.{token, node}
 use Rattle.mitex_syntax.specs.Tree.Forest.{none, more}
 use Rattle.mitex_syntax.specs.Spells.{tokenFits, Sound}
-use Rattle.tree_file.specs.declared.Row.{Row}
-use Rattle.tree_file.specs.declared.Row.the-variants.{Bad, Token, Node}
+use Rattle.tree_file.specs.declared.TreeRow.{TreeRow}
+use Rattle.tree_file.specs.declared.TreeRow.the-variants.{Bad, Token, Node}
 
 -- the blocks are at most 512
 abbrev pub blocksMost : ℕ
@@ -26,16 +26,16 @@ blocksMost = 512
 -- ---- the rows
 
 -- the row that stands first, where `text` is left: a token with its text length
-abbrev pub tokenRow : List ℕ → List ℕ → Row
+abbrev pub tokenRow : List ℕ → List ℕ → TreeRow
 tokenRow rows text =
     cond (leb (fourAt 4 rows) (length text) && tokenFits (getD rows 0 0) (take (fourAt 4 rows) text)) (Token (fourAt 4 rows)) Bad
 
 -- or a node with how many rows lie under it
-abbrev pub nodeRow : List ℕ → Row
+abbrev pub nodeRow : List ℕ → TreeRow
 nodeRow rows = cond (eqb (getD rows 1 0) 0 && isNode (getD rows 0 0)) (Node (fourAt 4 rows)) Bad
 
 -- kind, 0 node or 1 token, two zero bytes, then the number
-unfoldable pub treeRowAt : List ℕ → List ℕ → Row
+unfoldable pub treeRowAt : List ℕ → List ℕ → TreeRow
 treeRowAt rows text =
     cond (eqb (getD rows 2 0) 0 && eqb (getD rows 3 0) 0) (cond (eqb (getD rows 1 0) 1) (tokenRow rows text) (nodeRow rows)) Bad
 
@@ -45,13 +45,13 @@ pub data Line : Type 0 where
   nod : ℕ → ℕ → Line
 
 -- the bytes of text that a row takes
-abbrev pub rowTaken : Row → ℕ
+abbrev pub rowTaken : TreeRow → ℕ
 rowTaken Bad = 0
 rowTaken (Token m) = m
 rowTaken (Node m) = 0
 
 -- a row before those that come after it
-abbrev pub rowAhead : Row → List ℕ → List ℕ → Option (List Line) → Option (List Line)
+abbrev pub rowAhead : TreeRow → List ℕ → List ℕ → Option (List Line) → Option (List Line)
 rowAhead Bad rows text o = nothing
 rowAhead (Token m) rows text o = ahead (tok (getD rows 0 0) (take m text)) o
 rowAhead (Node m) rows text o = ahead (nod (getD rows 0 0) m) o
@@ -77,9 +77,9 @@ split n none = cond (eqb n 0) (some (cut none none)) nothing
 split n (more t f) =
     cond (eqb n 0) (some (cut none (more t f))) (cond (leb (size t) n) (cutWith t (split (n - size t) f)) nothing)
 
-abbrev pub over : Tree → Option Forest → Option Forest
-over t nothing = nothing
-over t (some f) = some (more t f)
+abbrev pub treeAhead : Tree → Option Forest → Option Forest
+treeAhead t nothing = nothing
+treeAhead t (some f) = some (more t f)
 
 abbrev pub closed : ℕ → Option Cut → Option Forest
 closed k nothing = nothing
@@ -92,7 +92,7 @@ splits n (some f) = split n f
 -- the trees of rows: those under a node are whole trees
 unfoldable pub grow : List Line → Option Forest
 grow [] = some none
-grow (tok k s ∷ ls) = over (token k s) (grow ls)
+grow (tok k s ∷ ls) = treeAhead (token k s) (grow ls)
 grow (nod k n ∷ ls) = closed k (splits n (grow ls))
 
 abbrev pub grows : Option (List Line) → Option Forest

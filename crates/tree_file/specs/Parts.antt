@@ -15,15 +15,15 @@ use Rattle.mitex_syntax.specs.Tree.{Tree, Forest, rowsOfs, count}
 use Rattle.mitex_syntax.specs.Tree.Tree.{token, node}
 use Rattle.mitex_syntax.specs.Tree.Forest.{none, more}
 use Rattle.mitex_syntax.specs.Spells.{tokenFits, SpellsAll, SomeTree}
-use Rattle.mitex_syntax.specs.declared.Place.{Place}
-use Rattle.mitex_syntax.specs.declared.Place.the-variants.{Nowhere, At}
+use Rattle.mitex_syntax.specs.declared.Spot.{Spot}
+use Rattle.mitex_syntax.specs.declared.Spot.the-variants.{Nowhere, At}
 use Rattle.tree_file.specs.Layout.{blocksMost, Line, root}
 use Rattle.tree_file.specs.Layout.Line.{tok, nod}
 use Rattle.tree_file.specs.Depth.{depths, depthMost}
 use Rattle.tree_file.specs.Shape.{symFits, nodeFits, lowests}
 use Rattle.tree_file.specs.Check.{byDepth, checkedAnswer}
-use Rattle.tree_file.specs.declared.Row.{Row}
-use Rattle.tree_file.specs.declared.Row.the-variants.{Bad, Token, Node}
+use Rattle.tree_file.specs.declared.TreeRow.{TreeRow}
+use Rattle.tree_file.specs.declared.TreeRow.the-variants.{Bad, Token, Node}
 use Rattle.tree_file.specs.declared.Nest.{Nest}
 use Rattle.tree_file.specs.declared.Nest.the-variants.{Broken, Deep, Fine}
 use Rattle.tree_file.specs.declared.Blocks.{Blocks}
@@ -53,7 +53,7 @@ LinesFit [] = Unit {0}
 LinesFit (tok k s ∷ ls) = T (tokenFits k s) × (length s < cap) × LinesFit ls
 LinesFit (nod k n ∷ ls) = T (isNode k) × (n < cap) × LinesFit ls
 
-abbrev pub isBad : Row → Bool
+abbrev pub isBad : TreeRow → Bool
 isBad Bad = true
 isBad (Token m) = false
 isBad (Node m) = false
@@ -78,7 +78,7 @@ rootBlocks (more (token k s) none) = Amiss
 rootBlocks (more (node k f) none) = cond (eqb k ScopeRoot && leb (count f) blocksMost) (Are (count f)) Amiss
 
 -- something was found
-abbrev pub isThere : Place → Bool
+abbrev pub isThere : Spot → Bool
 isThere Nowhere = false
 isThere (At a b c d) = true
 

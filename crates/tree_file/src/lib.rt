@@ -29,8 +29,8 @@ use mitex_syntax::ITEM_CMD;
 use mitex_syntax::ITEM_CURLY;
 use mitex_syntax::ITEM_END;
 use mitex_syntax::ITEM_ENV;
-use mitex_syntax::Place;
 use mitex_syntax::SCOPE_ROOT;
+use mitex_syntax::Spot;
 use mitex_syntax::TOKEN_COMMAND_SYM;
 
 // The refusals of a tree file, in checking order.
@@ -53,7 +53,7 @@ const ONE_BYTE: u8 = 127;
 const NO_KIND: u8 = 0;
 
 // A row that was read: a token with its text length, or a node with how many rows lie under it.
-pub enum Row {
+pub enum TreeRow {
     Bad,
     Token(usize),
     Node(usize),
@@ -118,42 +118,42 @@ fn token_fits(k: u8, s: &[u8], plain: bool) -> bool
 }
 
 // The row that stands first, a token, where `text` is left.
-fn token_row(rows: &[u8], text: &[u8], plain: bool) -> Row
+fn token_row(rows: &[u8], text: &[u8], plain: bool) -> TreeRow
     requires { ⌜ (8 ≤ length (now rows)) × (plain ≡ true → oneByteEach (now text) ≡ true) ⌝ }
     ensures { λ r. ⌜ r ≡ tokenRow (now (rows .entry)) (now (text .entry)) ⌝ }
 {
     let n = text::read_u32(rows, 4);
     if n <= text.len() {
         if token_fits(rows[0], &text[..n], plain) {
-            return Row::Token(n);
+            return TreeRow::Token(n);
         }
     }
-    Row::Bad
+    TreeRow::Bad
 }
 
 // The row that stands first, a node.
-fn node_row(rows: &[u8]) -> Row
+fn node_row(rows: &[u8]) -> TreeRow
     requires { ⌜ 8 ≤ length (now rows) ⌝ }
     ensures { λ r. ⌜ r ≡ nodeRow (now (rows .entry)) ⌝ }
 {
     if rows[1] == 0 {
         if mitex_syntax::is_node(rows[0]) {
-            return Row::Node(text::read_u32(rows, 4));
+            return TreeRow::Node(text::read_u32(rows, 4));
         }
     }
-    Row::Bad
+    TreeRow::Bad
 }
 
 // The row that stands first, where `text` is left.
-fn row_at(rows: &[u8], text: &[u8], plain: bool) -> Row
+fn row_at(rows: &[u8], text: &[u8], plain: bool) -> TreeRow
     requires { ⌜ (8 ≤ length (now rows)) × (plain ≡ true → oneByteEach (now text) ≡ true) ⌝ }
     ensures { λ r. ⌜ r ≡ treeRowAt (now (rows .entry)) (now (text .entry)) ⌝ }
 {
     if rows[2] != 0 {
-        return Row::Bad;
+        return TreeRow::Bad;
     }
     if rows[3] != 0 {
-        return Row::Bad;
+        return TreeRow::Bad;
     }
     if rows[1] == 1 {
         return token_row(rows, text, plain);
@@ -161,24 +161,24 @@ fn row_at(rows: &[u8], text: &[u8], plain: bool) -> Row
     node_row(rows)
 }
 
-fn is_bad(r: Row) -> bool
+fn is_bad(r: TreeRow) -> bool
     ensures { λ b. ⌜ b ≡ isBad r ⌝ }
 {
     match r {
-        Row::Bad => true,
-        Row::Token(_) => false,
-        Row::Node(_) => false,
+        TreeRow::Bad => true,
+        TreeRow::Token(_) => false,
+        TreeRow::Node(_) => false,
     }
 }
 
 // The bytes of text that a row takes.
-fn row_taken(r: Row) -> usize
+fn row_taken(r: TreeRow) -> usize
     ensures { λ n. ⌜ n ≡ rowTaken r ⌝ }
 {
     match r {
-        Row::Bad => 0,
-        Row::Token(n) => n,
-        Row::Node(_) => 0,
+        TreeRow::Bad => 0,
+        TreeRow::Token(n) => n,
+        TreeRow::Node(_) => 0,
     }
 }
 
@@ -263,7 +263,7 @@ fn lands(rows: &[u8], n: usize) -> bool
 }
 
 // Whether the rows nest, however deep: each node's rows are whole trees.
-fn whole(rows: &[u8]) -> bool
+fn rows_nest(rows: &[u8]) -> bool
     ensures { λ r. ⌜ ((ls : List Line) → now (rows .entry) ≡ bytesOf ls → LinesFit ls → r ≡ isSome (grow ls)) ⌝ }
 {
     let mut rest = rows;
@@ -374,12 +374,12 @@ fn lr_fits(rows: &[u8], text: &[u8]) -> bool
 }
 
 // Whether something was found.
-fn is_there(place: Place) -> bool
+fn is_there(place: Spot) -> bool
     ensures { λ r. ⌜ r ≡ isThere place ⌝ }
 {
     match place {
-        Place::Nowhere => false,
-        Place::At {
+        Spot::Nowhere => false,
+        Spot::At {
             row: _,
             end: _,
             from: _,
@@ -473,8 +473,8 @@ fn env_fits(rows: &[u8], text: &[u8]) -> bool
     ensures { λ r. ⌜ ((f : Forest) → Begins f (now (rows .entry)) (now (text .entry)) → r ≡ envFits f) ⌝ }
 {
     match mitex_syntax::find_kind(rows, text, ITEM_BEGIN) {
-        Place::Nowhere => false,
-        Place::At { row, end, from, to } => mitex_syntax::first_token(
+        Spot::Nowhere => false,
+        Spot::At { row, end, from, to } => mitex_syntax::first_token(
             &rows[row + 8..end],
             &text[from..to],
         ).kind
@@ -637,7 +637,7 @@ fn check_deep(rows: &[u8]) -> Checked
     requires { ⌜ SomeLines (now rows) ⌝ }
     ensures { λ r. ⌜ ((ls : List Line) → now (rows .entry) ≡ bytesOf ls → LinesFit ls → Nested (grow ls) depthMost Deep → r ≡ answerTo (grow ls)) ⌝ }
 {
-    if !whole(rows) {
+    if !rows_nest(rows) {
         return Checked::Refused {
             number: BAD_LAYOUT,
             row: 0,

@@ -90,31 +90,31 @@ charLen-first (b ∷ s) h =
 abbrev pub CharPassed : List ℕ → ℕ → Type 0
 CharPassed s n = charLen s ≡ n + tails (drop n s)
 
-pub passed-none : (s : List ℕ) → length s ≡ 0 → 0 ≡ charLen s
+pub char-passed-none : (s : List ℕ) → length s ≡ 0 → 0 ≡ charLen s
 unfolding chars
-passed-none [] h = refl
-passed-none (b ∷ s) h = absurd (omega arith)
+char-passed-none [] h = refl
+char-passed-none (b ∷ s) h = absurd (omega arith)
 
-pub passed-one : (s : List ℕ) → (length s ≡ 0 → ⊥) → CharPassed s 1
-passed-one [] h = absurd (h refl)
-passed-one (b ∷ s) h = charLen-tails b s ∙ omega arith
+pub char-passed-one : (s : List ℕ) → (length s ≡ 0 → ⊥) → CharPassed s 1
+char-passed-one [] h = absurd (h refl)
+char-passed-one (b ∷ s) h = charLen-tails b s ∙ omega arith
 
 module _ (s : List ℕ) (n : ℕ) (p : CharPassed s n) where
-  pub passed-on : n < length s → continues (getD s n 0) ≡ true → CharPassed s (n + 1)
+  pub char-passed-on : n < length s → continues (getD s n 0) ≡ true → CharPassed s (n + 1)
   unfolding tails
-  passed-on h e =
+  char-passed-on h e =
       let here : tails (drop n s) ≡ suc (tails (drop (n + 1) s)) = rw (drop-cons s n 0, e, add-one) in
       omega arith
 
-  pub passed-stop : n < length s → continues (getD s n 0) ≡ false → n ≡ charLen s
+  pub char-passed-stop : n < length s → continues (getD s n 0) ≡ false → n ≡ charLen s
   unfolding tails
-  passed-stop h e =
+  char-passed-stop h e =
       let here : tails (drop n s) ≡ 0 = rw (drop-cons s n 0, e) in
       omega arith
 
-  pub passed-all : length s ≤ n → n ≡ charLen s
+  pub char-passed-all : length s ≤ n → n ≡ charLen s
   unfolding tails
-  passed-all h =
+  char-passed-all h =
       let here : tails (drop n s) ≡ 0 = rw (drop-of-length-le s h) in
       omega arith
 

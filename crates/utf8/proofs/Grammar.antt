@@ -140,33 +140,33 @@ module _ {lo hi : ℕ} (a : ℕ) where
   ends-4 made (b ∷ c ∷ d ∷ s) e = then (made b c d (e .0) (e .1 .0) (e .1 .1 .0)) (e .1 .1 .1)
 
 -- the line of the grammar that a first byte begins
-data Line : ℕ → Type 0 where
-  line-1 : {a : ℕ} → Between 0x00 0x7F a → Line a
-  line-2 : {a : ℕ} → Between 0xC2 0xDF a → Line a
-  line-e0 : Line 0xE0
-  line-e1 : {a : ℕ} → Between 0xE1 0xEC a → Line a
-  line-ed : Line 0xED
-  line-ee : {a : ℕ} → Between 0xEE 0xEF a → Line a
-  line-f0 : Line 0xF0
-  line-f1 : {a : ℕ} → Between 0xF1 0xF3 a → Line a
-  line-f4 : Line 0xF4
-  line-none : {a : ℕ} → lengthBy a ≡ 0 → Line a
+data GrammarLine : ℕ → Type 0 where
+  line-1 : {a : ℕ} → Between 0x00 0x7F a → GrammarLine a
+  line-2 : {a : ℕ} → Between 0xC2 0xDF a → GrammarLine a
+  line-e0 : GrammarLine 0xE0
+  line-e1 : {a : ℕ} → Between 0xE1 0xEC a → GrammarLine a
+  line-ed : GrammarLine 0xED
+  line-ee : {a : ℕ} → Between 0xEE 0xEF a → GrammarLine a
+  line-f0 : GrammarLine 0xF0
+  line-f1 : {a : ℕ} → Between 0xF1 0xF3 a → GrammarLine a
+  line-f4 : GrammarLine 0xF4
+  line-none : {a : ℕ} → lengthBy a ≡ 0 → GrammarLine a
 
 abbrev from-to : {lo hi a : ℕ} → lo ≤ a → a ≤ hi → Between lo hi a
 from-to l h = record { low = l; high = h }
 
-line-of : (a : ℕ) → Line a
+line-of : (a : ℕ) → GrammarLine a
 line-of a =
     dite (decLe a 0x7F) (λ h. line-1 (from-to (omega arith) h)) (λ n1.
     dite (decLe a 0xC1) (λ h. line-none (rw (lt-leb a 0x7F (omega arith), le-leb a 0xC1))) (λ n2.
     dite (decLe a 0xDF) (λ h. line-2 (from-to (omega arith) h)) (λ n3.
-    dite (decLe a 0xE0) (λ h. let e : 0xE0 ≡ a = omega arith in subst Line e line-e0) (λ n4.
+    dite (decLe a 0xE0) (λ h. let e : 0xE0 ≡ a = omega arith in subst GrammarLine e line-e0) (λ n4.
     dite (decLe a 0xEC) (λ h. line-e1 (from-to (omega arith) h)) (λ n5.
-    dite (decLe a 0xED) (λ h. let e : 0xED ≡ a = omega arith in subst Line e line-ed) (λ n6.
+    dite (decLe a 0xED) (λ h. let e : 0xED ≡ a = omega arith in subst GrammarLine e line-ed) (λ n6.
     dite (decLe a 0xEF) (λ h. line-ee (from-to (omega arith) h)) (λ n7.
-    dite (decLe a 0xF0) (λ h. let e : 0xF0 ≡ a = omega arith in subst Line e line-f0) (λ n8.
+    dite (decLe a 0xF0) (λ h. let e : 0xF0 ≡ a = omega arith in subst GrammarLine e line-f0) (λ n8.
     dite (decLe a 0xF3) (λ h. line-f1 (from-to (omega arith) h)) (λ n9.
-    dite (decLe a 0xF4) (λ h. let e : 0xF4 ≡ a = omega arith in subst Line e line-f4) (λ n10.
+    dite (decLe a 0xF4) (λ h. let e : 0xF4 ≡ a = omega arith in subst GrammarLine e line-f4) (λ n10.
     line-none
     (rw (lt-leb a 0x7F (omega arith), lt-leb a 0xC1 (omega arith), lt-leb a 0xDF (omega arith), lt-leb a 0xEF (omega arith), lt-leb a 0xF4 (omega arith)))))))))))))
 
@@ -174,7 +174,7 @@ line-of a =
 asked : {a n lo hi : ℕ} (s : List ℕ) → Leads a n lo hi → Completes (lengthBy a - 1) (secondLow a) (secondHigh a) s → Completes n lo hi s
 asked {a} {n} s l e = rw (l .by, l .from, l .to, less-one n) at e
 
-completes-text : {a : ℕ} (s : List ℕ) → Line a → (lengthBy a ≡ 0 → ⊥) → Completes (lengthBy a - 1) (secondLow a) (secondHigh a) s → Text (a ∷ s)
+completes-text : {a : ℕ} (s : List ℕ) → GrammarLine a → (lengthBy a ≡ 0 → ⊥) → Completes (lengthBy a - 1) (secondLow a) (secondHigh a) s → Text (a ∷ s)
 completes-text {a} s (line-1 w) z e = then (one w) (asked s (leads-1 w) e)
 completes-text {a} s (line-2 w) z e = ends-2 a (λ b t. two w t) s (asked s (leads-2 w) e)
 completes-text s line-e0 z e = ends-3 0xE0 (λ b c w t. three-e0 w t) s e

@@ -93,14 +93,14 @@ are-invalid = refl
 -- ---- characters
 
 -- any bytes have characters: each goes on as long as bytes continue it
-split :
+any-chars :
     map chars ([] ∷ (0x80 ∷ 0x81 ∷ 0x41 ∷ []) ∷ (0x41 ∷ 0xBF ∷ 0xC2 ∷ 0xE2 ∷ 0x89 ∷ 0xA2 ∷ 0xA2 ∷ []) ∷ [])
     ≡ []
     ∷ ((0x80 ∷ 0x81 ∷ []) ∷ (0x41 ∷ []) ∷ [])
     ∷ ((0x41 ∷ 0xBF ∷ []) ∷ (0xC2 ∷ []) ∷ (0xE2 ∷ 0x89 ∷ 0xA2 ∷ 0xA2 ∷ []) ∷ [])
     ∷ []
 unfolding chars
-split = refl
+any-chars = refl
 
 first-lengths : map charLen ([] ∷ ascii "ab" ∷ encode 0xE9 ∷ encode 0x2262 ∷ encode 0x233B4 ∷ (0x80 ∷ 0x80 ∷ []) ∷ []) ≡ 0 ∷ 1 ∷ 2 ∷ 3 ∷ 4 ∷ 2 ∷ []
 unfolding chars

@@ -5,7 +5,7 @@ use native.Mathlib.Omega.{arith}
 use lib.ListN.{length, replicate}
 use lib.Seq.{sets}
 use Rattle.text.proofs.Writing.{sets-long}
-use Rattle.calls.proofs.Splicing.{zeros-none, zeros-next, zeros-all}
+use Rattle.calls.proofs.Splicing.{cleared-none, cleared-next, cleared-all}
 use Rattle.calls.proofs.clear_between.Statement.{statement}
 use Rattle.calls.proofs.clear_between.Tie as tie
 
@@ -23,7 +23,7 @@ long c =
     sets-long (a .out .now) (l .out) (a .from) (replicate (l .i - a .from) 0) (l .inv .2)
 
 loop-holds : tie.Need-loop-holds Inv-loop μ-loop
-loop-holds c = (omega arith, omega arith, zeros-none _ (c .args .from))
+loop-holds c = (omega arith, omega arith, cleared-none _ (c .args .from))
 
 slice-write-out : tie.Need-slice-write-out Inv-loop μ-loop
 slice-write-out c = omega (arith, long (c .before), c .before .before .pre)
@@ -33,7 +33,7 @@ loop-again c =
     let a = c .before .before .args in
     let l = c .before .loop in
     let h = l .inv .0 in
-    (omega arith, omega (arith, c .loop-test .taken), zeros-next (a .out .now) (a .from) (l .i) h (l .inv .2))
+    (omega arith, omega (arith, c .loop-test .taken), cleared-next (a .out .now) (a .from) (l .i) h (l .inv .2))
 
 same-length : tie.Need-same-length Inv-loop μ-loop
 same-length c = long (c .before)
@@ -42,7 +42,7 @@ returns : tie.Need-returns Inv-loop μ-loop
 returns c =
     let a = c .before .before .args in
     let l = c .before .loop in
-    l .inv .2 ∙ zeros-all (a .out .now) (a .from) (l .i) (a .to) (l .inv .1) (c .loop-test .left)
+    l .inv .2 ∙ cleared-all (a .out .now) (a .from) (l .i) (a .to) (l .inv .1) (c .loop-test .left)
 
 pub clear-between-spec : {M : Type 1} → statement M
 clear-between-spec =

@@ -1,4 +1,4 @@
--- `convert`: a refusal of the checks is handed on (`converts-shut`); else the call is that over the document's blocks (`converts`).
+-- `convert`: a refusal of the checks is handed on (`converts-shut`); else the call is that over the document's blocks (`opened-converts`).
 use mathlib.Core.Path.{sym, subst}
 use native.Mathlib.Omega.{arith}
 use borrow.Author.Needs.{needs}
@@ -6,7 +6,7 @@ use lib.Seq.{length-take-le}
 use Rattle.calls.specs.Calls.{CallBegins}
 use Rattle.calls.specs.declared.Opened.{Opened}
 use Rattle.calls.specs.declared.Opened.the-variants.{Open}
-use Rattle.calls.proofs.Files.{long, document, converts, converts-shut}
+use Rattle.calls.proofs.Files.{long, document, opened-converts, converts-shut}
 use Rattle.calls.proofs.convert.Statement.{statement}
 use Rattle.calls.proofs.convert.Tie as tie
 
@@ -44,7 +44,7 @@ returns-2 : tie.Need-returns-2
 returns-2 c =
     let b = c .before .before .before .before in
     let r = given (b .before) in
-    converts (here (r .before .before)) (r .block-rows .ensures) (b .convert-blocks .result) (b .convert-blocks .ensures)
+    opened-converts (here (r .before .before)) (r .block-rows .ensures) (b .convert-blocks .result) (b .convert-blocks .ensures)
 
 pub convert-spec : {M : Type 1} → statement M
 convert-spec =

@@ -11,8 +11,8 @@ use Rattle.mitex_meaning.proofs.Holding.{opening-says}
 use Rattle.edit_meaning.specs.Edit.{textMost}
 use Rattle.passes.specs.Passes.{Stood}
 use Rattle.calls.specs.Calls.{Document}
-use Rattle.calls.proofs.Starting.{some-blocks, begin}
-use Rattle.calls.proofs.Settling.{DraftPassed, passed, settled-refused, settled-no-room, settled-within, settled-draft, settled-done}
+use Rattle.calls.proofs.Starting.{some-blocks, blocks-begin}
+use Rattle.calls.proofs.Settling.{DraftPassed, draft-passed, settled-refused, settled-no-room, settled-within, settled-draft, settled-done}
 use Rattle.calls.proofs.convert_by_draft.Statement.{statement}
 use Rattle.calls.proofs.convert_by_draft.Tie as tie
 
@@ -37,7 +37,7 @@ from c = c .before .before .before
 here :
     (c : tie.After-draft-blocks) (w : Given (start (from c)))
     → DraftPassed w (start (from c) .args .mode) (from c .stand-at .result) (c .draft-blocks .result)
-here c w = passed w (stood (from c) w) (opening-says (from c .before .opening .ensures)) (c .draft-blocks .ensures .0)
+here c w = draft-passed w (stood (from c) w) (opening-says (from c .before .opening .ensures)) (c .draft-blocks .ensures .0)
 
 -- after the draft, where the room is known
 abbrev measured : tie.After-has-room → tie.After-draft-blocks
@@ -69,7 +69,7 @@ draft-blocks-requires : tie.Need-draft-blocks-requires
 draft-blocks-requires c κs =
     let d = c .before .before in
     let w = start d .pre .0 in
-    (begin w (stood d w) (opening-says (d .before .opening .ensures)) (omega arith) (omega arith), start d .pre .1)
+    (blocks-begin w (stood d w) (opening-says (d .before .opening .ensures)) (omega arith) (omega arith), start d .pre .1)
 
 returns : tie.Need-returns
 returns c = let d = measured (c .before) in λ w. settled-refused w (here d w) _ _ (c .if1 .taken)

@@ -1,4 +1,4 @@
--- `edit`: a refusal of the checks is handed on (`edits-shut`); else the call is that over the document's blocks (`edits`).
+-- `edit`: a refusal of the checks is handed on (`edits-shut`); else the call is that over the document's blocks (`opened-edits`).
 use mathlib.Core.Path.{sym, subst}
 use native.Mathlib.Omega.{arith}
 use borrow.Author.Needs.{needs}
@@ -6,7 +6,7 @@ use lib.Seq.{length-take-le}
 use Rattle.calls.specs.Calls.{CallBegins}
 use Rattle.calls.specs.declared.Opened.{Opened}
 use Rattle.calls.specs.declared.Opened.the-variants.{Open}
-use Rattle.calls.proofs.Files.{long, document, edits, edits-shut}
+use Rattle.calls.proofs.Files.{long, document, opened-edits, edits-shut}
 use Rattle.calls.proofs.edit.Statement.{statement}
 use Rattle.calls.proofs.edit.Tie as tie
 
@@ -44,7 +44,7 @@ returns-2 : tie.Need-returns-2
 returns-2 c =
     let b = c .before .before .before .before in
     let r = given (b .before) in
-    edits (here (r .before .before)) (r .block-rows .ensures) (b .edit-blocks .result) (b .edit-blocks .ensures)
+    opened-edits (here (r .before .before)) (r .block-rows .ensures) (b .edit-blocks .result) (b .edit-blocks .ensures)
 
 pub edit-spec : {M : Type 1} → statement M
 edit-spec =

@@ -4,8 +4,8 @@ use borrow.Author.Needs.{needs}
 use borrow.Author.Tests.{not-true, not-false}
 use Rattle.passes.specs.Passes.{Stood}
 use Rattle.calls.specs.Calls.{Document}
-use Rattle.calls.proofs.Starting.{some-blocks, begin}
-use Rattle.calls.proofs.Again.{Fitting, fitting, MeasuredAgain, row-fits, row-before, edited-unfit, edited-refused, spliced, edited-as}
+use Rattle.calls.proofs.Starting.{some-blocks, blocks-begin}
+use Rattle.calls.proofs.Again.{Fitting, fitting, MeasuredAgain, fitting-row, row-before, edited-unfit, edited-refused, edit-measured, edited-as}
 use Rattle.calls.proofs.edit_blocks.Statement.{statement}
 use Rattle.calls.proofs.edit_blocks.Tie as tie
 
@@ -86,9 +86,9 @@ measure-requires c κs =
     let n = entry s .args .blocks in
     let w = entry s .pre in
     let f = fits (six s) in (
-      begin w (stood s w) (d .carry-before .ensures n (omega (arith, f .block))) (omega (arith, d .before .before .end-before .ensures .1))
+      blocks-begin w (stood s w) (d .carry-before .ensures n (omega (arith, f .block))) (omega (arith, d .before .before .end-before .ensures .1))
           (omega (arith, f .block)),
-      row-fits f,
+      fitting-row f,
     )
 
 returns-2 : tie.Need-returns-2
@@ -102,7 +102,7 @@ splice-requires c κs =
     let m = c .before .before .before .before .before in
     let e = entry (m .before .before) in
     let a = e .args in
-    spliced (e .pre) (a .mode) (a .block) (a .kept) (a .out .now) (a .ledger .now) (here m (e .pre)) (c .before .before .if2 .left)
+    edit-measured (e .pre) (a .mode) (a .block) (a .kept) (a .out .now) (a .ledger .now) (here m (e .pre)) (c .before .before .if2 .left)
 
 returns-3 : tie.Need-returns-3
 returns-3 c =
@@ -112,7 +112,7 @@ returns-3 c =
     let a = entry (m .before .before) .args in
     λ w.
     edited-as w (a .mode) (a .block) (a .kept) (a .out .now) (a .ledger .now) (here m w) (i .if2 .left)
-    (p .splice .ensures (spliced w (a .mode) (a .block) (a .kept) (a .out .now) (a .ledger .now) (here m w) (i .if2 .left)))
+    (p .splice .ensures (edit-measured w (a .mode) (a .block) (a .kept) (a .out .now) (a .ledger .now) (here m w) (i .if2 .left)))
 
 pub edit-blocks-spec : {M : Type 1} → statement M
 edit-blocks-spec =

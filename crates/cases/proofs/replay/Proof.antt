@@ -3,12 +3,12 @@ use borrow.Author.Needs.{needs}
 use native.Mathlib.Omega.{arith}
 use Prim.Native.Nat.{_-_, _≤_}
 use lib.ListN.{length}
-use Rattle.cases.specs.Held.{Held}
+use Rattle.cases.specs.Held.{CaseHeld}
 use Rattle.cases.proofs.replay.Statement.{statement}
 use Rattle.cases.proofs.replay.Tie as tie
 
 abbrev Inv-loop : tie.InvT-loop
-Inv-loop input text₀ ledger₀ text-due₀ ledger-due₀ c₀ i₀ text ledger text-due ledger-due c i = (i ≤ length input) × Held (length input) c
+Inv-loop input text₀ ledger₀ text-due₀ ledger-due₀ c₀ i₀ text ledger text-due ledger-due c i = (i ≤ length input) × CaseHeld (length input) c
 
 abbrev μ-loop : tie.MeasureT-loop
 μ-loop input text₀ ledger₀ text-due₀ ledger-due₀ c₀ i₀ text ledger text-due ledger-due c i = length input - i
@@ -19,13 +19,13 @@ fails-requires c κs = c .before .before .loop .inv .1
 fails-requires-2 : tie.Need-fails-requires-2 Inv-loop μ-loop
 fails-requires-2 c κs = c .before .before .before .before .loop .inv .1
 
-turn-requires : tie.Need-turn-requires Inv-loop μ-loop
-turn-requires c κs =
+take-part-requires : tie.Need-take-part-requires Inv-loop μ-loop
+take-part-requires c κs =
     let size = c .before .before .before .before .before in
     (omega arith, size .before .before .before .before .loop .inv .1)
 
 loop-again : tie.Need-loop-again Inv-loop μ-loop
-loop-again c = (omega arith, c .turn .ensures)
+loop-again c = (omega arith, c .take-part .ensures)
 
 pub replay-spec : {M : Type 1} → statement M
 replay-spec =
@@ -49,7 +49,7 @@ replay-spec =
     (λ c. search needs)
     (λ c. omega arith)
     (λ c. omega arith)
-    turn-requires
+    take-part-requires
     (λ c. omega arith)
     loop-again
     (λ c. search needs))

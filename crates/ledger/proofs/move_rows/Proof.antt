@@ -1,7 +1,7 @@
 -- The invariant `RowsMoved`: the rows passed are moved, the others are as they were. The measure is the rows left.
 use native.Mathlib.Omega.{arith}
 use Prim.Native.Nat.{_-_, _≤_}
-use Rattle.ledger.proofs.Moving.{RowsMoved, moved-none, moved-same, moved-movable, moved-more, moved-all}
+use Rattle.ledger.proofs.Moving.{RowsMoved, rows-moved-none, rows-moved-same, rows-moved-movable, rows-moved-more, rows-moved-all}
 use Rattle.ledger.proofs.move_rows.Statement.{statement}
 use Rattle.ledger.proofs.move_rows.Tie as tie
 
@@ -12,14 +12,14 @@ abbrev μ-loop : tie.MeasureT-loop
 μ-loop ledger₀ from to old new i₀ ledger i = to - i
 
 loop-holds : tie.Need-loop-holds Inv-loop μ-loop
-loop-holds c = (c .before .pre .0, moved-none _ _ _ _ (omega arith))
+loop-holds c = (c .before .pre .0, rows-moved-none _ _ _ _ (omega arith))
 
 move-row-requires : tie.Need-move-row-requires Inv-loop μ-loop
 move-row-requires c κs =
     let loop = c .before .before .loop in
     let pre = c .before .before .before .before .pre in (
-      omega (arith, moved-same (loop .inv .1), pre .1),
-      moved-movable (loop .inv .1) (pre .2 (loop .i) (loop .inv .1 .above) (c .before .loop-test .taken)),
+      omega (arith, rows-moved-same (loop .inv .1), pre .1),
+      rows-moved-movable (loop .inv .1) (pre .2 (loop .i) (loop .inv .1 .above) (c .before .loop-test .taken)),
     )
 
 loop-again : tie.Need-loop-again Inv-loop μ-loop
@@ -27,13 +27,13 @@ loop-again c =
     let c₁ = c .before .before in
     let c₂ = c₁ .before .before .before in
     let c₃ = c₂ .before .before in
-    (omega arith, moved-more (c₂ .loop .inv .1) (omega (arith, c₃ .pre .1)) (c₁ .move-row .ensures))
+    (omega arith, rows-moved-more (c₂ .loop .inv .1) (omega (arith, c₃ .pre .1)) (c₁ .move-row .ensures))
 
 same-length : tie.Need-same-length Inv-loop μ-loop
-same-length c = moved-same (c .before .loop .inv .1)
+same-length c = rows-moved-same (c .before .loop .inv .1)
 
 returns : tie.Need-returns Inv-loop μ-loop
-returns c = moved-all (c .before .loop .inv .1) _ (c .loop-test .left) (c .before .loop .inv .0)
+returns c = rows-moved-all (c .before .loop .inv .1) _ (c .loop-test .left) (c .before .loop .inv .0)
 
 pub move-rows-spec : {M : Type 1} → statement M
 move-rows-spec =

@@ -8,7 +8,7 @@ use Rattle.mitex_syntax.specs.Views.{isOf}
 use Rattle.mitex_meaning.specs.Colors.{rest, seek, pastFirst, isModel}
 use Rattle.mitex_colors.specs.Scanning.{FirstPassed}
 use Rattle.mitex_colors.proofs.Scans.{some-left, exact-left, left-some, left-none}
-use Rattle.mitex_colors.proofs.Models.{arguments, bare-by, bare-end, bare-found, model-wide, argument-found}
+use Rattle.mitex_colors.proofs.Models.{argument-models, bare-by, bare-end, bare-found, model-wide, argument-found}
 use Rattle.mitex_colors.proofs.argument_model.Statement.{statement}
 use Rattle.mitex_colors.proofs.argument_model.Tie as tie
 
@@ -17,7 +17,7 @@ returns c =
     let first = c .before .before in
     λ f sp.
     let a = first .seek .ensures [] (rest 1 f) (exact-left (omega arith) (omega arith) sp) in
-    bare-found a (bare-end arguments (seek (isOf ClauseArgument) (rest 1 f)) (left-none (a .moved .there) (c .before .if1 .taken))) (omega arith)
+    bare-found a (bare-end argument-models (seek (isOf ClauseArgument) (rest 1 f)) (left-none (a .moved .there) (c .before .if1 .taken))) (omega arith)
     (c .model-part .ensures)
 
 past-first-requires : tie.Need-past-first-requires
@@ -90,7 +90,7 @@ returns-3 c =
     let a = first .seek .ensures [] (rest 1 f) (exact-left (omega arith) (omega arith) sp) in
     let b = past .past-first .ensures [] (seek (isOf ClauseArgument) (rest 1 f)) (a .moved .there) in
     bare-found a
-    (bare-by arguments (seek (isOf ClauseArgument) (rest 1 f)) (λ t g q. ap isModel (b .over t g q) ∙ sym (told .is-model .ensures) ∙ c .before .if2 .left)) (omega arith)
+    (bare-by argument-models (seek (isOf ClauseArgument) (rest 1 f)) (λ t g q. ap isModel (b .over t g q) ∙ sym (told .is-model .ensures) ∙ c .before .if2 .left)) (omega arith)
     (c .model-part3 .ensures)
 
 pub argument-model-spec : {M : Type 1} → statement M

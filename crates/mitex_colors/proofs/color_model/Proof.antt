@@ -9,7 +9,7 @@ use Rattle.mitex_syntax.specs.Places.{FirstAt}
 use Rattle.mitex_syntax.proofs.Trees.{all-begins}
 use Rattle.mitex_syntax.proofs.Places.{stands, nowhere}
 use Rattle.mitex_colors.proofs.Standing.{node-there, children-left, children-ask}
-use Rattle.mitex_colors.proofs.Models.{argument-rest, color-missing, color-there}
+use Rattle.mitex_colors.proofs.Models.{argumentRest, color-missing, color-there}
 use Rattle.mitex_colors.proofs.color_model.Statement.{statement}
 use Rattle.mitex_colors.proofs.color_model.Tie as tie
 
@@ -47,7 +47,7 @@ returns-2 c =
     let found = c .before .before .before .before in
     λ f sp.
     let s = stands (found .before .before .find-kind .ensures f (all-begins sp)) (found .found .given .1) in
-    color-there s (c .greedy-model .ensures (argument-rest s) (children-left s (node-there s refl .1)) (let r = s .row in omega arith))
+    color-there s (c .greedy-model .ensures (argumentRest s) (children-left s (node-there s refl .1)) (let r = s .row in omega arith))
 
 pub color-model-spec : {M : Type 1} → statement M
 color-model-spec =

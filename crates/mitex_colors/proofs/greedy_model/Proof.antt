@@ -7,7 +7,7 @@ use Rattle.mitex_syntax.specs.Syntax.{TokenRBracket}
 use Rattle.mitex_syntax.specs.Views.{isOf, isSolid}
 use Rattle.mitex_meaning.specs.Colors.{Rest, rest, seek, pastFirst}
 use Rattle.mitex_colors.proofs.Scans.{some-left, left-some, left-none, left-kind}
-use Rattle.mitex_colors.proofs.Models.{brackets, bare-by, bare-end, bare-found, held-found}
+use Rattle.mitex_colors.proofs.Models.{bracket-models, bare-by, bare-end, bare-found, held-found}
 use Rattle.mitex_colors.proofs.greedy_model.Statement.{statement}
 use Rattle.mitex_colors.proofs.greedy_model.Tie as tie
 
@@ -16,7 +16,7 @@ returns c =
     let first = c .before .before in
     λ s l o.
     let a = first .seek .ensures [] s l in
-    bare-found a (bare-end brackets (seek isSolid s) (left-none (a .moved .there) (c .before .if1 .taken))) o (c .model-part .ensures)
+    bare-found a (bare-end bracket-models (seek isSolid s) (left-none (a .moved .there) (c .before .if1 .taken))) o (c .model-part .ensures)
 
 returns-2 : tie.Need-returns-2
 returns-2 c =
@@ -24,7 +24,7 @@ returns-2 c =
     λ s l o.
     let a = first .seek .ensures [] s l in
     bare-found a
-    (bare-by brackets (seek isSolid s) (λ t f q. ne-eqb _ _ (λ e. c .before .if2 .taken (left-kind (a .moved .there) t f q ∙ e)))) o (c .model-part2 .ensures)
+    (bare-by bracket-models (seek isSolid s) (λ t f q. ne-eqb _ _ (λ e. c .before .if2 .taken (left-kind (a .moved .there) t f q ∙ e)))) o (c .model-part2 .ensures)
 
 -- from the closing bracket of a model on
 abbrev bracketEnd : Rest → Rest

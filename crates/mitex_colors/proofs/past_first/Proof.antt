@@ -1,9 +1,9 @@
--- `past_first`: the element at the cursor, if there is one, has the rows and the text that its rows say (`passed`).
+-- `past_first`: the element at the cursor, if there is one, has the rows and the text that its rows say (`first-passed`).
 use Prim.Native.Nat.{_+_}
 use native.Mathlib.Omega.{arith}
 use Rattle.mitex_meaning.specs.Colors.{rest}
 use Rattle.mitex_colors.specs.Scanning.{FirstPassed}
-use Rattle.mitex_colors.proofs.Scans.{some-left, passed-none, passed-spans, passed}
+use Rattle.mitex_colors.proofs.Scans.{some-left, first-passed-none, first-passed-spans, first-passed}
 use Rattle.mitex_colors.proofs.past_first.Statement.{statement}
 use Rattle.mitex_colors.proofs.past_first.Tie as tie
 
@@ -21,16 +21,16 @@ abbrev step :
     })
 step c =
     let pre = start (c .before) .pre in
-    passed (rest 0 (pre .forest)) (some-left pre) (c .before .if1 .left) (pre .few) (pre .short) _ _ (c .span-at .ensures .0)
+    first-passed (rest 0 (pre .forest)) (some-left pre) (c .before .if1 .left) (pre .few) (pre .short) _ _ (c .span-at .ensures .0)
     (c .span-at .ensures .1)
 
 returns : tie.Need-returns
-returns c = λ tail s l. passed-none s l (c .if1 .taken)
+returns c = λ tail s l. first-passed-none s l (c .if1 .taken)
 
 span-at-requires : tie.Need-span-at-requires
 span-at-requires c κs =
     let pre = start c .pre in
-    passed-spans (rest 0 (pre .forest)) (some-left pre) (c .if1 .left) (pre .few) (pre .short)
+    first-passed-spans (rest 0 (pre .forest)) (some-left pre) (c .if1 .left) (pre .few) (pre .short)
 
 add-t6 : tie.Need-add-t6
 add-t6 c = let low = step (c .before) .moved .there .low in omega arith
@@ -42,7 +42,7 @@ returns-2 : tie.Need-returns-2
 returns-2 c =
     let span = c .before .before .before in
     let pre = start (span .before) .pre in
-    λ tail s l. passed s l (span .before .if1 .left) (pre .few) (pre .short) _ _ (span .span-at .ensures .0) (span .span-at .ensures .1)
+    λ tail s l. first-passed s l (span .before .if1 .left) (pre .few) (pre .short) _ _ (span .span-at .ensures .0) (span .span-at .ensures .1)
 
 pub past-first-spec : {M : Type 1} → statement M
 past-first-spec = tie.close (tie.spec returns span-at-requires add-t6 add-t8 returns-2)

@@ -6,7 +6,7 @@ use lib.ListN.{length}
 use borrow.Author.Needs.{needs}
 use Rattle.mitex_meaning.specs.Colors.{Rest, rest}
 use Rattle.mitex_colors.specs.Scanning.{ElementsLeft, picks}
-use Rattle.mitex_colors.proofs.Scans.{Scans, some-left, left-some, passed-far, scan-start, scan-end, scan-found, scan-again}
+use Rattle.mitex_colors.proofs.Scans.{Scans, some-left, left-some, first-passed-far, scan-start, scan-end, scan-found, scan-again}
 use Rattle.mitex_colors.proofs.seek.Statement.{statement}
 use Rattle.mitex_colors.proofs.seek.Tie as tie
 
@@ -44,7 +44,7 @@ loop-less c =
     let turn = c .before .before .before .before in
     let l = here turn .moved .there in
     let pre = start turn .pre in
-    let far = passed-far (here turn .now) l (turn .loop-test .taken) (pre .few) (pre .short) _ (c .past-first .ensures _ (here turn .now) l) in
+    let far = first-passed-far (here turn .now) l (turn .loop-test .taken) (pre .few) (pre .short) _ (c .past-first .ensures _ (here turn .now) l) in
     omega arith
 
 loop-again : tie.Need-loop-again Inv-loop μ-loop

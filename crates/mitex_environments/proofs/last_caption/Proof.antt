@@ -1,19 +1,19 @@
--- The loop's invariant (`Rest`): the caption so far, joined with that of the children that are left, is that of all; the measure is
+-- The loop's invariant (`CaptionRest`): the caption so far, joined with that of the children that are left, is that of all; the measure is
 -- the rows left.
 use Prim.Native.Nat.{_+_, _-_, _≤_}
 use native.Mathlib.Omega.{arith}
 use lib.ListN.{length}
 use Rattle.mitex_syntax.specs.Tree.{Forest}
 use Rattle.mitex_syntax.specs.Spells.{Begins}
-use Rattle.mitex_syntax.proofs.Trees.{Element, all-begins, spans}
+use Rattle.mitex_syntax.proofs.Trees.{ElementAt, all-begins, spans}
 use Rattle.mitex_environments.specs.Captions.{ChildAt}
-use Rattle.mitex_environments.proofs.Captioning.{Rest, rest-start, rest-element, rest-child, rest-next, rest-end}
+use Rattle.mitex_environments.proofs.Captioning.{CaptionRest, caption-rest-start, caption-rest-element, caption-rest-child, caption-rest-next, caption-rest-end}
 use borrow.Author.Needs.{needs}
 use Rattle.mitex_environments.proofs.last_caption.Statement.{statement}
 use Rattle.mitex_environments.proofs.last_caption.Tie as tie
 
 abbrev Inv-loop : tie.InvT-loop
-Inv-loop rows text found₀ i₀ j₀ found i j = (i ≤ length rows) × (j ≤ length text) × ((f : Forest) → Begins f rows text → Rest f rows text found i j)
+Inv-loop rows text found₀ i₀ j₀ found i j = (i ≤ length rows) × (j ≤ length text) × ((f : Forest) → Begins f rows text → CaptionRest f rows text found i j)
 
 abbrev μ-loop : tie.MeasureT-loop
 μ-loop rows text found₀ i₀ j₀ found i j = length rows - i
@@ -24,12 +24,12 @@ start c = c .before .before .before .before
 -- in a turn of the loop there is an element
 abbrev here :
     (c : tie.In-loop Inv-loop μ-loop)
-    → Element (c .before .loop .inv .2 (start c .pre .forest) (start c .pre .begins) .forest) (start c .args .rows .now) (start c .args .text .now)
+    → ElementAt (c .before .loop .inv .2 (start c .pre .forest) (start c .pre .begins) .forest) (start c .args .rows .now) (start c .args .text .now)
     (c .before .loop .i) (c .before .loop .j)
 here c =
     let pre = start c .pre in
     let inv = c .before .loop .inv in
-    rest-element (inv .2 (pre .forest) (pre .begins)) (c .loop-test .taken) (inv .1) (pre .few) (pre .short)
+    caption-rest-element (inv .2 (pre .forest) (pre .begins)) (c .loop-test .taken) (inv .1) (pre .few) (pre .short)
 
 -- and its bytes are a child's
 abbrev kid :
@@ -40,11 +40,11 @@ abbrev kid :
 kid c =
     let pre = start (c .before) .pre in
     let inv = c .before .before .loop .inv in
-    rest-child (inv .2 (pre .forest) (pre .begins)) (c .before .loop-test .taken) (inv .1) (pre .few) (pre .short) _ _
+    caption-rest-child (inv .2 (pre .forest) (pre .begins)) (c .before .loop-test .taken) (inv .1) (pre .few) (pre .short) _ _
     (c .span-at .ensures .0) (c .span-at .ensures .1)
 
 loop-holds : tie.Need-loop-holds Inv-loop μ-loop
-loop-holds c = (omega arith, omega arith, λ f sp. rest-start sp)
+loop-holds c = (omega arith, omega arith, λ f sp. caption-rest-start sp)
 
 span-at-requires : tie.Need-span-at-requires Inv-loop μ-loop
 span-at-requires c κs = spans (here c) (start c .pre .few) (start c .pre .short)
@@ -73,12 +73,12 @@ loop-again c =
     let pre = c₅ .pre in (
       k .end,
       k .stop,
-      λ f sp. rest-next (inv .2 f sp) (c₃ .loop-test .taken) (inv .1) (pre .few) (pre .short) _ _ (c₂ .span-at .ensures .0) (c₂ .span-at .ensures .1)
+      λ f sp. caption-rest-next (inv .2 f sp) (c₃ .loop-test .taken) (inv .1) (pre .few) (pre .short) _ _ (c₂ .span-at .ensures .0) (c₂ .span-at .ensures .1)
           (c₁ .caption-at .ensures) (c .or-later .ensures),
     )
 
 returns : tie.Need-returns Inv-loop μ-loop
-returns c = λ f sp. rest-end (c .before .loop .inv .2 f (all-begins sp)) (c .loop-test .left)
+returns c = λ f sp. caption-rest-end (c .before .loop .inv .2 f (all-begins sp)) (c .loop-test .left)
 
 pub last-caption-spec : {M : Type 1} → statement M
 last-caption-spec =

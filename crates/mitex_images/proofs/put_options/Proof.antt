@@ -38,8 +38,8 @@ put-option-requires c κs =
     let l = c .before .before .before .before in
     let inv = l .loop .inv in (inv .0, omega (arith, inv .1, l .before .before .before .pre .1))
 
-past-requires : tie.Need-past-requires Inv-loop μ-loop
-past-requires c κs =
+past-byte-requires : tie.Need-past-byte-requires Inv-loop μ-loop
+past-byte-requires c κs =
     let put = c .before .before in
     within (put .before .before .before)
 
@@ -57,7 +57,7 @@ loop-again c =
     let loop = l .loop in
     let w = put .put-option .ensures in
     let low = l .before .before .before .pre .1 in
-    let e = options-next (loop .rest .now) _ _ (found .index-of .ensures) (c .before .past .ensures) in
+    let e = options-next (loop .rest .now) _ _ (found .index-of .ensures) (c .before .past-byte .ensures) in
     (wrote-low w, wrote-long w ∙ loop .inv .1, λ r o k. loop .inv .2 r o (wrote-as e (wrote-then (omega (arith, loop .inv .1)) w k)))
 
 same-length : tie.Need-same-length Inv-loop μ-loop
@@ -78,7 +78,7 @@ put-options-spec =
     (λ c κs. search needs)
     slice-aggregate-put-option
     put-option-requires
-    past-requires
+    past-byte-requires
     (λ c. search needs)
     (λ c. search needs)
     (λ c. search needs)

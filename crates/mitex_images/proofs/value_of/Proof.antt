@@ -11,15 +11,15 @@ use Rattle.mitex_images.proofs.value_of.Statement.{statement}
 use Rattle.mitex_images.proofs.value_of.Tie as tie
 
 behind :
-    (c : tie.After-past)
+    (c : tie.After-past-byte)
     → let s = c .before .before .before .args .s .now in
-    take (length s - c .past .result) (drop (c .past .result) s) ≡ drop (indexOf equalsByte s + 1) s
+    take (length s - c .past-byte .result) (drop (c .past-byte .result) s) ≡ drop (indexOf equalsByte s + 1) s
 behind c =
     let s = c .before .before .before .args .s .now in
-    part-past s _ _ (c .past .ensures) ∙ ap (λ n. drop (n + 1) s) (c .before .index-of .ensures)
+    part-past s _ _ (c .past-byte .ensures) ∙ ap (λ n. drop (n + 1) s) (c .before .index-of .ensures)
 
-past-requires : tie.Need-past-requires
-past-requires c κs = omega (arith, c .index-of .ensures, index-most equalsByte (c .before .before .args .s .now))
+past-byte-requires : tie.Need-past-byte-requires
+past-byte-requires c κs = omega (arith, c .index-of .ensures, index-most equalsByte (c .before .before .args .s .now))
 
 returns : tie.Need-returns
 returns c =
@@ -38,7 +38,7 @@ value-of-spec =
     tie.close
     (tie.spec
     (λ c κs. search needs)
-    past-requires
+    past-byte-requires
     (λ c. search needs)
     (λ c. search needs)
     (λ c. search needs)

@@ -36,7 +36,7 @@ use Rattle.mitex_meaning.specs.Outcome.{stepOf}
 use Rattle.mitex_meaning.specs.State.{enteredEnv, exitedEnv}
 use Rattle.mitex_meaning.specs.declared.Converter.{Converter}
 use Rattle.mitex_meaning.specs.declared.LaTeXEnv.{LaTeXEnv}
-use Rattle.mitex_meaning.proofs.LentForms.{Known, env, mach, Held, indent-fits, Lends, entered-env-move, enter-env-form, exit-env-form}
+use Rattle.mitex_meaning.proofs.LentForms.{Known, envDatum, mach, Held, indent-fits, Lends, entered-env-move, enter-env-form, exit-env-form}
 use Rattle.mitex_meaning.proofs.LentWalks.{typed, env-typed, had, converter-had}
 use Rattle.mitex_meaning.proofs.LentCalls.{calls-lend}
 use Rattle.mitex_meaning.proofs.Converter as T
@@ -69,9 +69,9 @@ abbrev stayed : Stays (indent-in.ended .signature .params) (indent-in.ended .kep
 stayed = (stay-none (λ _. T.the-row) yes, (stay-none (λ _. E.the-row) yes, tt))
 
 module _ {M : Type 1} (𝓤 : URA M) (H : Heap 𝓤) (A : Atoms 𝓤) (W : Given 𝓤 H A) (at-mem : Memory → SProp 𝓤) (run : Routine → Fun 𝓤)
-    (h : Converter) (e : LaTeXEnv) (was : Held h) (is : Known env e) where
+    (h : Converter) (e : LaTeXEnv) (was : Held h) (is : Known envDatum e) where
   abbrev entry : walkOf 𝓤 H A indent-in.ended stayed (indent-in.clauses 𝓤 H A at-mem run) .Ghost
-  entry = ((tt, tt, tt, (h, (e, tt)), (mach h ∷ [], (env .word e ∷ [], tt))), tt)
+  entry = ((tt, tt, tt, (h, (e, tt)), (mach h ∷ [], (envDatum .word e ∷ [], tt))), tt)
 
   abbrev Ends : Val → SProp 𝓤
   Ends = walkOf 𝓤 H A indent-in.ended stayed (indent-in.clauses 𝓤 H A at-mem run) .post entry
@@ -81,17 +81,17 @@ module _ {M : Type 1} (𝓤 : URA M) (H : Heap 𝓤) (A : Atoms 𝓤) (W : Given
       let meaning = indent-in.clauses 𝓤 H A at-mem run in
       qed W [] ∵
       suffices ! _ (ends-at 𝓤 H A indent-in.ended stayed meaning W entry (vint w64 n) n (tt, (tt, tt)) (tt, (tt, tt))) $
-      says ! is-step $ nothing ! $ frame ! $ nothing ! $ had ! env e is $ fjoin ! $ converter-had ! h was $ fjoin ! $ frame ! $
+      says ! is-step $ nothing ! $ frame ! $ nothing ! $ had ! envDatum e is $ fjoin ! $ converter-had ! h was $ fjoin ! $ frame ! $
       owned ! usize (Is usize) (uint-makes 𝓤 H A W w64) n _ (refl, fits) $ done !
 
   module _ (𝓣 : Tables 𝓤 H) (enter-env : Triple 𝓤 (𝓣 .C #enter-env) (Lends enter-env-form 𝓤 H A))
       (exit-env : Triple 𝓤 (𝓣 .C #exit-env) (Lends exit-env-form 𝓤 H A)) where
     walk : entered-env-move .Asks h e
-        → ent 𝓤 (onEntry 𝓤 H A indent-in.signature tt tt (h, (e, tt)) (mach h ∷ [], (env .word e ∷ [], tt)))
-        (WpFn 𝓤 H (𝓣 .C) (𝓣 .Λ) code.function (mach h ∷ env .word e ∷ []) Ends)
+        → ent 𝓤 (onEntry 𝓤 H A indent-in.signature tt tt (h, (e, tt)) (mach h ∷ [], (envDatum .word e ∷ [], tt)))
+        (WpFn 𝓤 H (𝓣 .C) (𝓣 .Λ) code.function (mach h ∷ envDatum .word e ∷ []) Ends)
     walk fits =
         let fm = fmOf 𝓤 H (W .laws) 𝓣 in
-        qed W (‵ ftrue ∷ ‵ (owns (T.the-row ∷ E.the-row ∷ []) (h, (e, tt)) (mach h ∷ [], (env .word e ∷ [], tt))) ∷ []) ∵ keep ! [] $
+        qed W (‵ ftrue ∷ ‵ (owns (T.the-row ∷ E.the-row ∷ []) (h, (e, tt)) (mach h ∷ [], (envDatum .word e ∷ [], tt))) ∷ []) ∵ keep ! [] $
         enter ! (𝓣 .C) (𝓣 .Λ) code.function _ _ $
         alloc1 ! (λ l₀. alloc1 ! (λ l₁. alloc1 ! (λ l₂. alloc1 ! (λ l₃. alloc1 ! (λ l₄. alloc1 ! (λ l₅. alloc1 ! (λ l₆. alloc1 ! (λ l₇.
         alloc1 ! (λ l₈. alloc1 ! (λ l₉. alloc0 ! $
@@ -146,5 +146,5 @@ indent-in-spec 𝓤 H 𝓜 𝓖 𝓡 =
     (goes-none 𝓤 H A W 0 (λ _. T.the-row) yes (λ κs x f. refl), (goes-none 𝓤 H A W 0 (λ _. E.the-row) yes (λ κs x f. refl), tt))
     meaning (WpFn 𝓤 H (𝓣 .C) (𝓣 .Λ) code.function) (WpFn-mono 𝓤 H (W .laws) 𝓣 code.function)
     (walked 𝓤 H A indent-in.ended stayed meaning (WpFn 𝓤 H (𝓣 .C) (𝓣 .Λ) code.function)
-    (λ κs. (LL.vals T.the-type T′.the-laws, ((λ x. env .word x ∷ []), tt))) (λ κs. (LL.tells T.the-type T′.the-laws, (env .tells, tt)))
+    (λ κs. (LL.vals T.the-type T′.the-laws, ((λ x. envDatum .word x ∷ []), tt))) (λ κs. (LL.tells T.the-type T′.the-laws, (envDatum .tells, tt)))
     (λ κs qs bounds a _ are. needs 𝓤 _ _ (walk 𝓤 H A W (𝓜 .mem) (𝓡 .run) (a .0) (a .1 .0) (are .0) (are .1 .0) 𝓣 enter-env exit-env))))

@@ -19,11 +19,11 @@ use Rattle.mitex_spec.proofs.LookUp.{rank-low, rank-high}
 use Rattle.mitex_spec.proofs.rank.Statement.{statement}
 use Rattle.mitex_spec.proofs.rank.Tie as tie
 
-abbrev Between : List ℕ → List ℕ → ℕ → ℕ → Type 0
-Between file name low high = (rs : List Rule) → rulesOf file ≡ some rs → (low ≤ rankOf rs name) × (rankOf rs name ≤ high) × (high ≤ length rs)
+abbrev RankBetween : List ℕ → List ℕ → ℕ → ℕ → Type 0
+RankBetween file name low high = (rs : List Rule) → rulesOf file ≡ some rs → (low ≤ rankOf rs name) × (rankOf rs name ≤ high) × (high ≤ length rs)
 
 abbrev Inv-loop : tie.InvT-loop
-Inv-loop file index name b low₀ high₀ low high = (low ≤ high) × (high < 4294967296) × Between file name low high
+Inv-loop file index name b low₀ high₀ low high = (low ≤ high) × (high < 4294967296) × RankBetween file name low high
 
 abbrev μ-loop : tie.MeasureT-loop
 μ-loop file index name b low₀ high₀ low high = high - low
@@ -64,7 +64,7 @@ loop-holds c =
     let byte = found .first-byte in
     let s = entry found .pre in
     let name = entry found .args .name .now in
-    let between : Between (entry found .args .file .now) name (low .result) (high .result)
+    let between : RankBetween (entry found .args .file .now) name (low .result) (high .result)
     = λ rs e.
     rank-between (ready-for s rs e) name (byte .result) (low .result) (high .result) (byte .ensures .0) (byte .ensures .1) (low .ensures .0)
     (high .ensures .0) in

@@ -6,7 +6,7 @@ use Rattle.utf8.specs.Utf8.{oneByteEach}
 use Rattle.utf8.proofs.Texts.{one-drop}
 use Rattle.mitex_spec.specs.RuleFile.{ruleRowFits}
 use mathlib.Core.Bool.{true}
-use Rattle.mitex_spec.proofs.RuleFile.{row-says}
+use Rattle.mitex_spec.proofs.RuleFile.{rule-row-says}
 use native.Mathlib.Omega.{arith}
 use borrow.Author.Needs.{needs}
 use mathlib.Core.List.{List}
@@ -14,7 +14,7 @@ use mathlib.Core.Path.{_≡_, sym, ap, _∙_}
 use borrow.Author.Tests.{not-true, not-false}
 use lib.ListN.{length}
 use lib.Seq.{length-take-le}
-use Rattle.mitex_spec.proofs.Checking.{RulesLeft, left-start, left-unfit, left-falls, left-next, left-end}
+use Rattle.mitex_spec.proofs.Checking.{RulesLeft, rules-left-start, rules-left-unfit, rules-left-falls, rules-left-next, rules-left-end}
 use Rattle.mitex_spec.proofs.rules_fit.Statement.{statement}
 use Rattle.mitex_spec.proofs.rules_fit.Tie as tie
 
@@ -46,13 +46,13 @@ fit-true : (c : tie.Else1 Inv-loop μ-loop) → ruleRowFits (rowsAt c) (textAt c
 fit-true c = sym (c .before .rule-row-fits .ensures) ∙ not-false _ (c .if1 .left)
 
 name-room : (c : tie.After-read-u16 Inv-loop μ-loop) → c .read-u16 .result ≤ length (textAt (row c))
-name-room c = let f = row-says _ _ (fit-true (row c)) .room in let n = c .read-u16 .ensures .0 in omega arith
+name-room c = let f = rule-row-says _ _ (fit-true (row c)) .room in let n = c .read-u16 .ensures .0 in omega arith
 
 room : (c : tie.After-rule-taken Inv-loop μ-loop) → c .rule-taken .result ≤ length (textAt (row (name c)))
-room c = let f = row-says _ _ (fit-true (row (name c))) .room in let n = c .rule-taken .ensures .0 in omega arith
+room c = let f = rule-row-says _ _ (fit-true (row (name c))) .room in let n = c .rule-taken .ensures .0 in omega arith
 
 loop-holds : tie.Need-loop-holds Inv-loop μ-loop
-loop-holds c = (λ e. sym (c .before .one-byte-each .ensures) ∙ e, λ n e. left-start n _ _ _ e)
+loop-holds c = (λ e. sym (c .before .one-byte-each .ensures) ∙ e, λ n e. rules-left-start n _ _ _ e)
 
 rule-row-fits-requires : tie.Need-rule-row-fits-requires Inv-loop μ-loop
 rule-row-fits-requires c κs = (c .loop-test .taken, c .before .loop .inv .0)
@@ -61,18 +61,18 @@ returns : tie.Need-returns Inv-loop μ-loop
 returns c =
     let at-row = c .before in
     let in-loop = at-row .before in
-    λ n e. left-unfit (in-loop .before .loop .inv .1 n e) (in-loop .loop-test .taken) (sym (at-row .rule-row-fits .ensures) ∙ not-true _ (c .if1 .taken))
+    λ n e. rules-left-unfit (in-loop .before .loop .inv .1 n e) (in-loop .loop-test .taken) (sym (at-row .rule-row-fits .ensures) ∙ not-true _ (c .if1 .taken))
 
-slice-aggregate-follows : tie.Need-slice-aggregate-follows Inv-loop μ-loop
-slice-aggregate-follows c = sym (length-take-le _ _ (name-room (c .before)))
+slice-aggregate-may-follow : tie.Need-slice-aggregate-may-follow Inv-loop μ-loop
+slice-aggregate-may-follow c = sym (length-take-le _ _ (name-room (c .before)))
 
 returns-2 : tie.Need-returns-2 Inv-loop μ-loop
 returns-2 c =
-    let at-follows = c .before in
-    let at-name = at-follows .before .before in
+    let at-may-follow = c .before in
+    let at-name = at-may-follow .before .before in
     let in-loop = turn (row at-name) in
-    λ n e. left-falls (in-loop .before .loop .inv .1 n e) (at-follows .follows .result) (at-name .read-u16 .result) (in-loop .loop-test .taken)
-    (fit-true (row at-name)) (at-name .read-u16 .ensures .0) (at-follows .follows .ensures) (not-true _ (c .if2 .taken))
+    λ n e. rules-left-falls (in-loop .before .loop .inv .1 n e) (at-may-follow .may-follow .result) (at-name .read-u16 .result) (in-loop .loop-test .taken)
+    (fit-true (row at-name)) (at-name .read-u16 .ensures .0) (at-may-follow .may-follow .ensures) (not-true _ (c .if2 .taken))
 
 rule-taken-requires : tie.Need-rule-taken-requires Inv-loop μ-loop
 rule-taken-requires c κs = turn (row (c .before .before .before)) .loop-test .taken
@@ -96,20 +96,20 @@ loop-again : tie.Need-loop-again Inv-loop μ-loop
 loop-again c =
     let at-taken = c .before .before .before in
     let past-if2 = at-taken .before in
-    let at-follows = past-if2 .before in
+    let at-may-follow = past-if2 .before in
     let at-name = name at-taken in
     let in-loop = turn (row at-name) in
     let loop = in-loop .before .loop in
     let m = at-taken .rule-taken .result in (
       λ e. ap oneByteEach (part-rest (loop .t .now) m) ∙ one-drop m (loop .t .now) (loop .inv .0 e),
       λ n e.
-          left-next (loop .inv .1 n e) (at-follows .follows .result) (at-name .read-u16 .result) m (in-loop .loop-test .taken)
-          (fit-true (row at-name)) (at-name .read-u16 .ensures .0) (at-follows .follows .ensures) (not-false _ (past-if2 .if2 .left))
+          rules-left-next (loop .inv .1 n e) (at-may-follow .may-follow .result) (at-name .read-u16 .result) m (in-loop .loop-test .taken)
+          (fit-true (row at-name)) (at-name .read-u16 .ensures .0) (at-may-follow .may-follow .ensures) (not-false _ (past-if2 .if2 .left))
           (at-taken .rule-taken .ensures .0),
     )
 
 returns-3 : tie.Need-returns-3 Inv-loop μ-loop
-returns-3 c = λ n e. left-end (c .before .loop .inv .1 n e) (c .loop-test .left)
+returns-3 c = λ n e. rules-left-end (c .before .loop .inv .1 n e) (c .loop-test .left)
 
 pub rules-fit-spec : {M : Type 1} → statement M
 rules-fit-spec =
@@ -123,7 +123,7 @@ rules-fit-spec =
     rule-row-fits-requires
     returns
     (λ c κs. omega arith)
-    slice-aggregate-follows
+    slice-aggregate-may-follow
     (λ c κs. search needs)
     returns-2
     rule-taken-requires

@@ -8,7 +8,7 @@ use Rattle.mitex_syntax.specs.Tree.{Forest}
 use Rattle.mitex_syntax.specs.Spells.{Begins}
 use Rattle.mitex_syntax.specs.Places.{isWanted}
 use Rattle.mitex_syntax.specs.Places.Placed.{missing, there}
-use Rattle.mitex_syntax.proofs.Trees.{Element, Child, child, spans}
+use Rattle.mitex_syntax.proofs.Trees.{ElementAt, ChildPart, child-part, spans}
 use Rattle.mitex_syntax.proofs.Seeking.{Seeks, seek-start, seek-element, seek-found, seek-next, seek-none}
 use Rattle.mitex_syntax.proofs.find.Statement.{statement}
 use Rattle.mitex_syntax.proofs.find.Tie as tie
@@ -27,7 +27,7 @@ start c = c .before .before .before .before
 -- in a turn of the loop there is an element
 abbrev here :
     (c : tie.In-loop Inv-loop μ-loop)
-    → Element (c .before .loop .inv .2 (start c .pre .forest) (start c .pre .begins) .forest) (start c .args .rows .now) (start c .args .text .now)
+    → ElementAt (c .before .loop .inv .2 (start c .pre .forest) (start c .pre .begins) .forest) (start c .args .rows .now) (start c .args .text .now)
     (c .before .loop .i) (c .before .loop .j)
 here c =
     let pre = start c .pre in
@@ -36,9 +36,9 @@ here c =
 
 abbrev kid :
     (c : tie.After-span-at Inv-loop μ-loop)
-    → Child (start (c .before) .args .rows .now) (start (c .before) .args .text .now) (c .before .before .loop .i) (c .before .before .loop .j)
+    → ChildPart (start (c .before) .args .rows .now) (start (c .before) .args .text .now) (c .before .before .loop .i) (c .before .before .loop .j)
     (c .span-at .result .rows) (c .span-at .result .text)
-kid c = child (here (c .before)) _ _ (c .span-at .ensures .0) (c .span-at .ensures .1)
+kid c = child-part (here (c .before)) _ _ (c .span-at .ensures .0) (c .span-at .ensures .1)
 
 loop-holds : tie.Need-loop-holds Inv-loop μ-loop
 loop-holds c = (c .before .before .pre .low, c .before .before .pre .begun, λ f sp. seek-start _ f _ _ _ _ sp)

@@ -1,16 +1,16 @@
--- `first_node_kind`: among the elements that are left the first node is the first of all (`Nodes`); the measure is the rows left.
+-- `first_node_kind`: among the elements that are left the first node is the first of all (`NodesLeft`); the measure is the rows left.
 -- in a turn of the loop a whole row is left
 use Prim.Native.Nat.{_≤_, _-_, _+_}
 use lib.ListN.{length}
 use mathlib.Core.Path.{_≡_}
 use native.Mathlib.Omega.{arith}
 use Rattle.mitex_syntax.specs.Tree.{Forest, rowsOfs}
-use Rattle.mitex_syntax.proofs.Seeking.{Nodes, nodes-start, nodes-inside, nodes-end, nodes-found, nodes-next}
+use Rattle.mitex_syntax.proofs.Seeking.{NodesLeft, nodes-start, nodes-inside, nodes-end, nodes-found, nodes-next}
 use Rattle.mitex_syntax.proofs.first_node_kind.Statement.{statement}
 use Rattle.mitex_syntax.proofs.first_node_kind.Tie as tie
 
 abbrev Inv-loop : tie.InvT-loop
-Inv-loop rows i₀ i = (i ≤ length rows) × ((f : Forest) → rows ≡ rowsOfs f → Nodes f rows i)
+Inv-loop rows i₀ i = (i ≤ length rows) × ((f : Forest) → rows ≡ rowsOfs f → NodesLeft f rows i)
 
 abbrev μ-loop : tie.MeasureT-loop
 μ-loop rows i₀ i = length rows - i

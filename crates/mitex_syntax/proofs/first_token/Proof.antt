@@ -7,7 +7,7 @@ use native.Mathlib.Omega.{arith}
 use Rattle.text.specs.Writing.{cap}
 use Rattle.mitex_syntax.specs.Tree.{Forest}
 use Rattle.mitex_syntax.specs.Spells.{Begins}
-use Rattle.mitex_syntax.proofs.Tokens.{Firsts, first-start, first-found, first-into, first-none, no-token}
+use Rattle.mitex_syntax.proofs.Tokens.{Firsts, first-start, first-found, first-into, first-none, token-none}
 use Rattle.mitex_syntax.proofs.first_token.Statement.{statement}
 use Rattle.mitex_syntax.proofs.first_token.Tie as tie
 
@@ -62,7 +62,7 @@ loop-again c =
     )
 
 returns-2 : tie.Need-returns-2 Inv-loop μ-loop
-returns-2 c = λ f sp. no-token (first-none (c .before .loop .inv .1 f sp) (c .loop-test .left)) refl refl refl
+returns-2 c = λ f sp. token-none (first-none (c .before .loop .inv .1 f sp) (c .loop-test .left)) refl refl refl
 
 pub first-token-spec : {M : Type 1} → statement M
 first-token-spec =

@@ -3,13 +3,13 @@ use Prim.Native.Nat.{_≤_}
 use lib.ListN.{length}
 use native.Mathlib.Omega.{arith}
 use Rattle.mitex_syntax.specs.Views.{childrenOf}
-use Rattle.mitex_syntax.proofs.Seeking.{children-rows, wanted-argument, wanted-other, rows-eight}
+use Rattle.mitex_syntax.proofs.Seeking.{children-rows, wanted-argument, wanted-other, element-eight}
 use borrow.Author.Needs.{needs}
 use Rattle.mitex_syntax.proofs.is_argument_with.Statement.{statement}
 use Rattle.mitex_syntax.proofs.is_argument_with.Tie as tie
 
 eight : (c : tie.Start) → 8 ≤ length (c .args .rows .now)
-eight c = rows-eight (c .pre .tree) _ (c .pre .rows-are)
+eight c = element-eight (c .pre .tree) _ (c .pre .rows-are)
 
 shared-slice-read-if1 : tie.Need-shared-slice-read-if1
 shared-slice-read-if1 c = omega (arith, eight (c .before .before))

@@ -5,13 +5,13 @@ use mathlib.Core.Path.{sym, ap, _∙_}
 use native.Mathlib.Omega.{arith}
 use Rattle.mitex_syntax.specs.Places.{isWanted}
 use Rattle.mitex_syntax.specs.declared.Wanted.{Wanted}
-use Rattle.mitex_syntax.proofs.Seeking.{rows-eight, wanted-kind, wanted-any-other}
+use Rattle.mitex_syntax.proofs.Seeking.{element-eight, wanted-kind, wanted-any-other}
 use borrow.Author.Needs.{needs}
 use Rattle.mitex_syntax.proofs.is_wanted.Statement.{statement}
 use Rattle.mitex_syntax.proofs.is_wanted.Tie as tie
 
 eight : (c : tie.Start) → 8 ≤ length (c .args .rows .now)
-eight c = rows-eight (c .pre .tree) _ (c .pre .rows-are)
+eight c = element-eight (c .pre .tree) _ (c .pre .rows-are)
 
 shared-slice-read-result : tie.Need-shared-slice-read-result
 shared-slice-read-result c = omega (arith, eight (c .before .before .before .before .before))

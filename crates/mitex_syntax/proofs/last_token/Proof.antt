@@ -8,7 +8,7 @@ use native.Mathlib.Omega.{arith}
 use Rattle.mitex_syntax.specs.Tree.{Forest}
 use Rattle.mitex_syntax.specs.Spells.{Begins}
 use Rattle.mitex_syntax.proofs.Trees.{spans}
-use Rattle.mitex_syntax.proofs.Tokens.{Lasts, LastSteps, last-start, last-element, last-found, last-bare, last-next, last-none, no-token}
+use Rattle.mitex_syntax.proofs.Tokens.{Lasts, LastSteps, last-start, last-element, last-found, last-bare, last-next, last-none, token-none}
 use Rattle.mitex_syntax.proofs.last_token.Statement.{statement}
 use Rattle.mitex_syntax.proofs.last_token.Tie as tie
 
@@ -90,7 +90,7 @@ returns-2 c =
     let l = c .before .before .before in
     let pre = start l .pre in
     let inv = l .before .loop .inv in
-    λ f sp. no-token (last-bare (inv .2 f sp) (l .loop-test .taken) (inv .1) (pre .few) (pre .short) (c .before .before .if1 .taken) (c .if2 .left)) refl refl refl
+    λ f sp. token-none (last-bare (inv .2 f sp) (l .loop-test .taken) (inv .1) (pre .few) (pre .short) (c .before .before .if1 .taken) (c .if2 .left)) refl refl refl
 
 hop-requires : tie.Need-hop-requires Inv-loop μ-loop
 hop-requires c κs =
@@ -112,7 +112,7 @@ loop-again : tie.Need-loop-again Inv-loop μ-loop
 loop-again c = let s = step (c .before .before) in (s .end, s .stop, λ f sp. steps (c .before .before) f sp .lasts)
 
 returns-3 : tie.Need-returns-3 Inv-loop μ-loop
-returns-3 c = λ f sp. no-token (last-none (c .before .loop .inv .2 f sp) (c .loop-test .left)) refl refl refl
+returns-3 c = λ f sp. token-none (last-none (c .before .loop .inv .2 f sp) (c .loop-test .left)) refl refl refl
 
 pub last-token-spec : {M : Type 1} → statement M
 last-token-spec =

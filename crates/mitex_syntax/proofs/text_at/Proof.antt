@@ -2,7 +2,7 @@
 use mathlib.Core.Path.{sym, ap}
 use native.Mathlib.Omega.{arith}
 use Rattle.mitex_syntax.specs.Places.{partAt}
-use Rattle.mitex_syntax.specs.declared.Place.{Place}
+use Rattle.mitex_syntax.specs.declared.Spot.{Spot}
 use Rattle.mitex_syntax.proofs.Places.{at-inside}
 use borrow.Author.Needs.{needs}
 use Rattle.mitex_syntax.proofs.text_at.Statement.{statement}
@@ -18,7 +18,7 @@ part-result-end-2 : tie.Need-part-result-end-2
 part-result-end-2 c = omega (arith, at-inside (c .before .before .before .args .text .now) (c .before .before .before .pre) (c .before .place .given .1))
 
 returns-2 : tie.Need-returns-2
-returns-2 c = ap (λ (p : Place). partAt p (c .before .before .before .before .args .text .now)) (sym (c .before .before .place .given .1))
+returns-2 c = ap (λ (p : Spot). partAt p (c .before .before .before .before .args .text .now)) (sym (c .before .before .place .given .1))
 
 pub text-at-spec : {M : Type 1} → statement M
 text-at-spec =

@@ -25,11 +25,11 @@ abbrev whole :
 whole c = c .loop .inv .passed (start c .pre .0) .whole
 
 -- the turn in which a block was converted
-abbrev turn : tie.After-step Inv-loop μ-loop → tie.At-loop Inv-loop μ-loop
+abbrev turn : tie.After-next-block Inv-loop μ-loop → tie.At-loop Inv-loop μ-loop
 turn c = c .before .before .before .before
 
 -- after the block, its answer, and the writing of its row
-abbrev answered : tie.After-struct-known2 Inv-loop μ-loop → tie.After-step Inv-loop μ-loop
+abbrev answered : tie.After-struct-known2 Inv-loop μ-loop → tie.After-next-block Inv-loop μ-loop
 answered c = c .before .before .before .before
 
 abbrev accepted : tie.After-draft-row Inv-loop μ-loop → tie.Else2 Inv-loop μ-loop
@@ -38,14 +38,14 @@ accepted c = c .before .before
 loop-holds : tie.Need-loop-holds Inv-loop μ-loop
 loop-holds c = drafted-start _ _ _ _ _ _ _ _
 
-step-requires : tie.Need-step-requires Inv-loop μ-loop
-step-requires c κs =
+next-block-requires : tie.Need-next-block-requires Inv-loop μ-loop
+next-block-requires c κs =
     let l = c .before .before .before in
     let w = whole l in
     (w .given, (rows-left w (c .before .if1 .taken), omega (arith, w .few), omega (arith, l .loop .inv .long, start l .pre .1 .0)))
 
 same-length : tie.Need-same-length Inv-loop μ-loop
-same-length c = let d = answered (c .before) in d .step .kept .0 ∙ turn d .loop .inv .long
+same-length c = let d = answered (c .before) in d .next-block .kept .0 ∙ turn d .loop .inv .long
 
 same-length-2 : tie.Need-same-length-2 Inv-loop μ-loop
 same-length-2 c = turn (answered (c .before)) .loop .inv .ledger-long
@@ -53,27 +53,27 @@ same-length-2 c = turn (answered (c .before)) .loop .inv .ledger-long
 returns : tie.Need-returns Inv-loop μ-loop
 returns c =
     let d = answered (c .before) in
-    drafted-refused (turn d .loop .inv) (d .before .before .if1 .taken) (d .step .ensures) (c .if2 .taken)
+    drafted-refused (turn d .loop .inv) (d .before .before .if1 .taken) (d .next-block .ensures) (c .if2 .taken)
 
 draft-row-requires : tie.Need-draft-row-requires Inv-loop μ-loop
 draft-row-requires c κs =
     let d = answered (c .before .before) in
     let l = turn d in
     let h = d .before .before .if1 .taken in
-    (omega (arith, h, l .loop .inv .ledger-long, start l .pre .1 .1), label-short (whole l) h (d .step .ensures) (c .before .if2 .left))
+    (omega (arith, h, l .loop .inv .ledger-long, start l .pre .1 .1), label-short (whole l) h (d .next-block .ensures) (c .before .if2 .left))
 
 loop-less : tie.Need-loop-less Inv-loop μ-loop
 loop-less c =
     let d = answered (accepted (c .before .before) .before) in
     let h = d .before .before .if1 .taken in
-    omega (arith, h, one-more (whole (turn d)) h (d .step .ensures))
+    omega (arith, h, one-more (whole (turn d)) h (d .next-block .ensures))
 
 loop-again : tie.Need-loop-again Inv-loop μ-loop
 loop-again c =
     let r = c .before .before in
     let i = accepted r in
     let d = answered (i .before) in
-    drafted-next (turn d .loop .inv) (d .before .before .if1 .taken) (d .step .ensures) (i .if2 .left) (d .step .kept .0)
+    drafted-next (turn d .loop .inv) (d .before .before .if1 .taken) (d .next-block .ensures) (i .if2 .left) (d .next-block .kept .0)
     (r .draft-row .kept .0) (r .draft-row .ensures)
 
 same-length-3 : tie.Need-same-length-3 Inv-loop μ-loop
@@ -92,7 +92,7 @@ draft-blocks-spec =
     Inv-loop
     μ-loop
     loop-holds
-    step-requires
+    next-block-requires
     same-length
     same-length-2
     returns

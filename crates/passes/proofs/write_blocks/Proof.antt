@@ -2,7 +2,7 @@
 use Prim.Native.Nat.{_-_}
 use native.Mathlib.Omega.{arith}
 use Rattle.passes.specs.Passes.{Pieced}
-use Rattle.passes.proofs.Rewriting.{BlocksLeft, left-start, left-next, left-end, block-left, block-passed, row-left}
+use Rattle.passes.proofs.Rewriting.{BlocksLeft, blocks-left-start, blocks-left-next, blocks-left-end, block-left, block-passed, row-left}
 use Rattle.passes.proofs.write_blocks.Statement.{statement}
 use Rattle.passes.proofs.write_blocks.Tie as tie
 
@@ -22,18 +22,18 @@ abbrev here :
 here c = c .loop .inv (start c .pre .0)
 
 -- the turn in which a block was converted
-abbrev turn : tie.After-step Inv-loop μ-loop → tie.At-loop Inv-loop μ-loop
+abbrev turn : tie.After-next-block Inv-loop μ-loop → tie.At-loop Inv-loop μ-loop
 turn c = c .before .before .before .before
 
 -- and the block, after the writing of its row
-abbrev block : tie.After-slice-known4 Inv-loop μ-loop → tie.After-step Inv-loop μ-loop
+abbrev block : tie.After-slice-known4 Inv-loop μ-loop → tie.After-next-block Inv-loop μ-loop
 block c = let d = c .before .before .before in d .before .before .before .before
 
 loop-holds : tie.Need-loop-holds Inv-loop μ-loop
-loop-holds c w = left-start w _
+loop-holds c w = blocks-left-start w _
 
-step-requires : tie.Need-step-requires Inv-loop μ-loop
-step-requires c κs =
+next-block-requires : tie.Need-next-block-requires Inv-loop μ-loop
+next-block-requires c κs =
     let d = c .before .before .before in
     let l = here d in
     let t = c .before .if1 .taken in
@@ -42,18 +42,18 @@ step-requires c κs =
 write-row-requires : tie.Need-write-row-requires Inv-loop μ-loop
 write-row-requires c κs =
     let d = c .before .before .before .before in
-    row-left (here (turn d) .here) (d .before .before .if1 .taken) (d .step .ensures)
+    row-left (here (turn d) .here) (d .before .before .if1 .taken) (d .next-block .ensures)
 
 loop-less : tie.Need-loop-less Inv-loop μ-loop
 loop-less c =
     let d = block c in
     let t = d .before .before .if1 .taken in
-    omega (arith, block-passed (here (turn d) .here) t (d .step .ensures))
+    omega (arith, block-passed (here (turn d) .here) t (d .next-block .ensures))
 
 loop-again : tie.Need-loop-again Inv-loop μ-loop
 loop-again c w =
     let d = block c in
-    left-next w _ (turn d .loop .inv w) (d .before .before .if1 .taken) (d .step .ensures) (c .before .before .write-row .ensures)
+    blocks-left-next w _ (turn d .loop .inv w) (d .before .before .if1 .taken) (d .next-block .ensures) (c .before .before .write-row .ensures)
 
 same-length : tie.Need-same-length Inv-loop μ-loop
 same-length c = here (c .before .before) .long
@@ -62,7 +62,7 @@ same-length-2 : tie.Need-same-length-2 Inv-loop μ-loop
 same-length-2 c = here (c .before .before) .ledger-long
 
 returns : tie.Need-returns Inv-loop μ-loop
-returns c w = left-end w _ (c .before .before .loop .inv w) (c .if1 .left)
+returns c w = blocks-left-end w _ (c .before .before .loop .inv w) (c .if1 .left)
 
 pub write-blocks-spec : {M : Type 1} → statement M
 write-blocks-spec =
@@ -71,7 +71,7 @@ write-blocks-spec =
     Inv-loop
     μ-loop
     loop-holds
-    step-requires
+    next-block-requires
     write-row-requires
     loop-less
     loop-again

@@ -3,7 +3,7 @@ use lib.ListN.{length-set}
 use native.Mathlib.Omega.{arith}
 use borrow.Author.Needs.{needs}
 use mathlib.Core.Path.{refl}
-use Rattle.text.proofs.Decimal.{DigitsLeft, left-start, left-next, left-end}
+use Rattle.text.proofs.Decimal.{DigitsLeft, digits-left-start, digits-left-next, digits-left-end}
 use Rattle.text.proofs.Writing.{wrote-as, wrote-long}
 use Rattle.text.proofs.put_decimal.Statement.{statement}
 use Rattle.text.proofs.put_decimal.Tie as tie
@@ -15,7 +15,7 @@ abbrev μ-loop : tie.MeasureT-loop
 μ-loop out at n digits₀ i₀ m₀ digits i m = m
 
 loop-holds : tie.Need-loop-holds Inv-loop μ-loop
-loop-holds c = left-start (c .before .args .n) _ refl (c .before .fits .n .fits)
+loop-holds c = digits-left-start (c .before .args .n) _ refl (c .before .fits .n .fits)
 
 sub-i : tie.Need-sub-i Inv-loop μ-loop
 sub-i c = c .before .loop .inv .some
@@ -24,7 +24,7 @@ array-write-digits : tie.Need-array-write-digits Inv-loop μ-loop
 array-write-digits c = let s = c .before .before .loop .inv in let l = s .long in let h = s .some in let r = s .room in omega arith
 
 loop-again : tie.Need-loop-again Inv-loop μ-loop
-loop-again c = left-next (c .low-byte .result) (c .before .before .loop .inv) (c .before .loop-test .taken) (c .low-byte .ensures)
+loop-again c = digits-left-next (c .low-byte .result) (c .before .before .loop .inv) (c .before .loop-test .taken) (c .low-byte .ensures)
 
 sub-i-2 : tie.Need-sub-i-2 Inv-loop μ-loop
 sub-i-2 c = c .before .loop .inv .some
@@ -59,7 +59,7 @@ returns c =
     let at-low-byte2 = at-put .before .before .before .before in
     let in-loop = at-low-byte2 .before in
     let at-loop = in-loop .before in
-    wrote-as (left-end (at-low-byte2 .low-byte2 .result) (at-loop .loop .inv) (in-loop .loop-test .left) (at-low-byte2 .low-byte2 .ensures)) (at-put .put .ensures)
+    wrote-as (digits-left-end (at-low-byte2 .low-byte2 .result) (at-loop .loop .inv) (in-loop .loop-test .left) (at-low-byte2 .low-byte2 .ensures)) (at-put .put .ensures)
 
 pub put-decimal-spec : {M : Type 1} → statement M
 put-decimal-spec =

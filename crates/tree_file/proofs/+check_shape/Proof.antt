@@ -15,7 +15,7 @@ use Rattle.mitex_syntax.specs.Views.{childrenOf}
 use Rattle.mitex_syntax.proofs.Trees.{rows-some, children-part}
 use Rattle.mitex_syntax.proofs.span_at.Reads as span-at-reads
 use Rattle.tree_file.specs.Shape.{nodeFits}
-use Rattle.tree_file.proofs.Shapes.{shape-token, node-breaks, walk-start, walk-end, asked-forest}
+use Rattle.tree_file.proofs.Shapes.{shape-token, node-breaks, shape-walk-start, shape-walk-end, asked-forest}
 use Rattle.tree_file.proofs.Shapes.{ShapeLoop, ChildStands, stands-spans, child-stands}
 use Rattle.tree_file.proofs.sym_fits.Reads as sym-fits-reads
 use Rattle.tree_file.proofs.unless.Reads as unless-reads
@@ -161,7 +161,7 @@ module _ (t : ℕ) where
         begun = omega arith;
         place = omega arith;
         walk = λ u sp.
-            walk-start sp (n .before .before .if1 .left) (a .up) (a .row) (n .node-fits .result) (fits n u sp) (not-false _ (c .if2 .left));
+            shape-walk-start sp (n .before .before .if1 .left) (a .up) (a .row) (n .node-fits .result) (fits n u sp) (not-false _ (c .if2 .left));
       }
 
   span-at-requires : lts.Need-span-at-requires (calls t) (pre-at t) self.Post Inv-loop μ-loop
@@ -210,7 +210,7 @@ module _ (t : ℕ) where
       here (child called) .next (called .check-shape .result) (called .check-shape .ensures) (c .enum-told .given .1)
 
   returns-right : lts.Need-returns-4 (calls t) (pre-at t) self.Post Inv-loop μ-loop
-  returns-right c = λ u sp. walk-end (c .before .loop .inv .walk u sp) (c .loop-test .left)
+  returns-right c = λ u sp. shape-walk-end (c .before .loop .inv .walk u sp) (c .loop-test .left)
 
 pub +check-shape-spec : {M : Type 1} → statement M
 +check-shape-spec = close μ λ t. lts.spec (calls t)

@@ -13,10 +13,10 @@ use Rattle.tree_file.proofs.check_deep.Tie as tie
 
 -- the rows nest
 found : (c : tie.Else1) (ls : List Line) → c .before .before .before .args .rows .now ≡ bytesOf ls → LinesFit ls → (f : Forest) × (grow ls ≡ some f)
-found c ls e h = is-some (grow ls) (c .before .whole .result) (c .before .whole .ensures ls e h) (not-false _ (c .if1 .left))
+found c ls e h = is-some (grow ls) (c .before .rows-nest .result) (c .before .rows-nest .ensures ls e h) (not-false _ (c .if1 .left))
 
 returns : tie.Need-returns
-returns c = λ ls e h d. answer-broken (grow ls) (c .before .whole .result) (c .before .whole .ensures ls e h) (not-true _ (c .if1 .taken))
+returns c = λ ls e h d. answer-broken (grow ls) (c .before .rows-nest .result) (c .before .rows-nest .ensures ls e h) (not-true _ (c .if1 .taken))
 
 root-blocks-requires : tie.Need-root-blocks-requires
 root-blocks-requires c κs =

@@ -10,7 +10,7 @@ use borrow.Author.Tests.{not-true, not-false}
 use lib.ListN.{take, drop, getD, length-take, length-drop}
 use Rattle.mitex_syntax.proofs.Places.{some-forest}
 use Rattle.tree_file.specs.Parts.{firstFits}
-use Rattle.tree_file.proofs.Scanning.{first-unruled, first-sym, first-under, given-head}
+use Rattle.tree_file.proofs.Scanning.{first-unruled, first-sym, first-under, given-scan-head}
 use borrow.Author.Needs.{needs}
 use Rattle.tree_file.proofs.first_fits.Statement.{statement}
 use Rattle.tree_file.proofs.first_fits.Tie as tie
@@ -35,13 +35,13 @@ returns-2 : tie.Need-returns-2
 returns-2 c = λ t f sp. c .begins-slashed .ensures ∙ first-sym t f sp (c .before .if2 .taken)
 
 sub-node-fits : tie.Need-sub-node-fits
-sub-node-fits c = let x = given-head (entry c .pre) in omega (arith, x .first .extent, x .some, c .extent .ensures)
+sub-node-fits c = let x = given-scan-head (entry c .pre) in omega (arith, x .first .extent, x .some, c .extent .ensures)
 
 part-node-fits-start : tie.Need-part-node-fits-start
-part-node-fits-start c = let x = given-head (entry c .pre) in omega (arith, x .first .extent, x .some, c .extent .ensures)
+part-node-fits-start c = let x = given-scan-head (entry c .pre) in omega (arith, x .first .extent, x .some, c .extent .ensures)
 
 part-node-fits-end : tie.Need-part-node-fits-end
-part-node-fits-end c = let x = given-head (entry c .pre) in omega (arith, x .first .extent, x .first .inside, c .extent .ensures)
+part-node-fits-end c = let x = given-scan-head (entry c .pre) in omega (arith, x .first .extent, x .first .inside, c .extent .ensures)
 
 node-fits-requires : tie.Need-node-fits-requires
 node-fits-requires c κs =
@@ -50,7 +50,7 @@ node-fits-requires c κs =
     let p = known .before .before .before .before .pre in
     let few = p .few in
     let short = p .short in
-    let x = given-head p in
+    let x = given-scan-head p in
     some-forest (under at (x .tree) (x .others) (x .exact) .1 .1) (simp (length-take, length-drop) (omega arith)) (omega arith)
 
 returns-3 : tie.Need-returns-3

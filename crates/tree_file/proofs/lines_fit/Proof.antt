@@ -9,7 +9,7 @@ use lib.ListN.{length}
 use Rattle.utf8.specs.Utf8.{oneByteEach}
 use Rattle.utf8.proofs.Texts.{one-drop}
 use Rattle.tree_file.specs.Parts.{isBad}
-use Rattle.tree_file.proofs.Runs.{LinesLeft, left-start, left-bad, left-next, left-end, taken-room}
+use Rattle.tree_file.proofs.Runs.{LinesLeft, lines-left-start, lines-left-bad, lines-left-next, lines-left-end, taken-room}
 use Rattle.tree_file.proofs.lines_fit.Statement.{statement}
 use Rattle.tree_file.proofs.lines_fit.Tie as tie
 
@@ -28,7 +28,7 @@ room c =
     omega (arith, c .row-taken .ensures)
 
 loop-holds : tie.Need-loop-holds Inv-loop μ-loop
-loop-holds c = (λ e. sym (c .one-byte-each .ensures) ∙ e, λ n e. left-start n _ _ e)
+loop-holds c = (λ e. sym (c .one-byte-each .ensures) ∙ e, λ n e. lines-left-start n _ _ e)
 
 row-at-requires : tie.Need-row-at-requires Inv-loop μ-loop
 row-at-requires c κs = (c .loop-test .taken, c .before .loop .inv .0)
@@ -37,7 +37,7 @@ returns : tie.Need-returns Inv-loop μ-loop
 returns c =
     let row = c .before .before in
     let in-loop = row .before in
-    λ n e. left-bad (in-loop .before .loop .inv .1 n e) (in-loop .loop-test .taken)
+    λ n e. lines-left-bad (in-loop .before .loop .inv .1 n e) (in-loop .loop-test .taken)
     (ap isBad (sym (row .row-at .ensures)) ∙ sym (c .before .is-bad .ensures) ∙ c .if1 .taken)
 
 sub-t : tie.Need-sub-t Inv-loop μ-loop
@@ -56,12 +56,12 @@ loop-again c =
     let at = row .before .before .loop in (
       λ e. ap oneByteEach (part-rest (at .t .now) (now .row-taken .result)) ∙ one-drop (now .row-taken .result) (at .t .now) (at .inv .0 e),
       λ n e.
-          left-next (at .inv .1 n e) (row .before .loop-test .taken) (row .row-at .result) (row .row-at .ensures)
+          lines-left-next (at .inv .1 n e) (row .before .loop-test .taken) (row .row-at .result) (row .row-at .ensures)
           (sym (now .before .before .is-bad .ensures) ∙ now .before .if1 .left) (now .row-taken .result) (now .row-taken .ensures),
     )
 
 returns-2 : tie.Need-returns-2 Inv-loop μ-loop
-returns-2 c = λ n e. left-end (c .before .loop .inv .1 n e) (c .loop-test .left)
+returns-2 c = λ n e. lines-left-end (c .before .loop .inv .1 n e) (c .loop-test .left)
 
 pub lines-fit-spec : {M : Type 1} → statement M
 lines-fit-spec =

@@ -1,5 +1,5 @@
 -- The two tests of `nodeRow`, in its order.
-use Rattle.tree_file.specs.declared.Row.the-variants.{Node}
+use Rattle.tree_file.specs.declared.TreeRow.the-variants.{Node}
 use mathlib.Core.Path.{sym, ap, _∙_}
 use borrow.Author.Tests.{eq-eqb, ne-eqb}
 use borrow.Author.Needs.{needs}

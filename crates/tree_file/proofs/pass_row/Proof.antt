@@ -1,8 +1,8 @@
--- What stands first breaks a rule itself, or what is left decides (`head-breaks`, `head-opened`).
+-- What stands first breaks a rule itself, or what is left decides (`scan-head-breaks`, `scan-head-opened`).
 use native.Mathlib.Omega.{arith}
 use mathlib.Core.Path.{sym, _∙_}
 use borrow.Author.Tests.{not-true, not-false}
-use Rattle.tree_file.proofs.Scanning.{given-head, head, head-breaks, head-opened, head-room}
+use Rattle.tree_file.proofs.Scanning.{given-scan-head, scan-head, scan-head-breaks, scan-head-opened, scan-head-room}
 use borrow.Author.Needs.{needs}
 use Rattle.tree_file.proofs.pass_row.Statement.{statement}
 use Rattle.tree_file.proofs.pass_row.Tie as tie
@@ -13,8 +13,8 @@ returns-2 c =
     let p = known .before .before .before .pre .0 in
     let fits = c .before .first-fits in
     λ f sp.
-    let x = head f sp (p .some) (p .few) (p .short) in
-    head-breaks x _ (fits .result) (fits .ensures (x .tree) (x .others) (x .exact)) (not-true _ (c .if2 .taken))
+    let x = scan-head f sp (p .some) (p .few) (p .short) in
+    scan-head-breaks x _ (fits .result) (fits .ensures (x .tree) (x .others) (x .exact)) (not-true _ (c .if2 .taken))
 
 returns-3 : tie.Need-returns-3
 returns-3 c =
@@ -26,10 +26,10 @@ returns-3 c =
     let fits = called .first-fits in (
       omega arith,
       omega (arith, p .some),
-      omega (arith, head-room (given-head p) (omega arith), c .token-len .ensures),
+      omega (arith, scan-head-room (given-scan-head p) (omega arith), c .token-len .ensures),
       λ f sp.
-          let x = head f sp (p .some) (p .few) (p .short) in
-          head-opened x (omega arith) _ (sym (other .before .is-frame .ensures) ∙ other .if1 .left) (fits .result) (fits .ensures (x .tree) (x .others) (x .exact))
+          let x = scan-head f sp (p .some) (p .few) (p .short) in
+          scan-head-opened x (omega arith) _ (sym (other .before .is-frame .ensures) ∙ other .if1 .left) (fits .result) (fits .ensures (x .tree) (x .others) (x .exact))
           (not-false _ (c .before .if2 .left)) (c .token-len .result) (c .token-len .ensures),
     )
 

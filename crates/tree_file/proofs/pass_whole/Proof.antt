@@ -3,7 +3,7 @@ use native.Mathlib.Omega.{arith}
 use lib.ListN.{length-take}
 use lib.Seq.{length-take-le}
 use mathlib.Core.Path.{sym}
-use Rattle.tree_file.proofs.Scanning.{given-head, head, head-spans, Spanned, whole-rows, whole-text, whole-spells, whole-breaks, whole-past}
+use Rattle.tree_file.proofs.Scanning.{given-scan-head, scan-head, scan-head-spans, Spanned, pass-whole-rows, pass-whole-text, pass-whole-spells, pass-whole-breaks, pass-whole-past}
 use borrow.Author.Needs.{needs}
 use Rattle.tree_file.proofs.pass_whole.Statement.{statement}
 use Rattle.tree_file.proofs.pass_whole.Tie as tie
@@ -12,17 +12,17 @@ spanned : (c : tie.After-span-at) → let s = c .span-at .result in Spanned (c .
 spanned c = let s = c .span-at .ensures in record { is-e = s .0; is-n = s .1 }
 
 span-at-requires : tie.Need-span-at-requires
-span-at-requires c κs = let p = c .before .before .pre .0 in let few = p .few in let short = p .short in head-spans (given-head p) (omega arith) (omega arith)
+span-at-requires c κs = let p = c .before .before .pre .0 in let few = p .few in let short = p .short in scan-head-spans (given-scan-head p) (omega arith) (omega arith)
 
 slice-aggregate-check-shape : tie.Need-slice-aggregate-check-shape
 slice-aggregate-check-shape c =
-    let x = given-head (c .before .before .before .before .pre .0) in
-    sym (length-take-le _ _ (omega (arith, x .first .inside, whole-rows (spanned (c .before)) x)))
+    let x = given-scan-head (c .before .before .before .before .pre .0) in
+    sym (length-take-le _ _ (omega (arith, x .first .inside, pass-whole-rows (spanned (c .before)) x)))
 
 slice-aggregate-check-shape-2 : tie.Need-slice-aggregate-check-shape-2
 slice-aggregate-check-shape-2 c =
-    let x = given-head (c .before .before .before .before .before .pre .0) in
-    sym (length-take-le _ _ (omega (arith, x .first .fits, whole-text (spanned (c .before .before)) x)))
+    let x = given-scan-head (c .before .before .before .before .before .pre .0) in
+    sym (length-take-le _ _ (omega (arith, x .first .fits, pass-whole-text (spanned (c .before .before)) x)))
 
 check-shape-requires : tie.Need-check-shape-requires
 check-shape-requires c κs =
@@ -30,9 +30,9 @@ check-shape-requires c κs =
     let few = p .few in
     let short = p .short in
     let low = c .before .before .before .before .before .pre .1 in
-    let x = given-head p in
+    let x = given-scan-head p in
     record {
-      given = record { tree = x .tree; spells = whole-spells (spanned (c .before .before)) x };
+      given = record { tree = x .tree; spells = pass-whole-spells (spanned (c .before .before)) x };
       few = simp length-take (omega arith);
       short = simp length-take (omega arith);
       low = simp length-take (omega arith);
@@ -45,7 +45,7 @@ returns c =
     let start = at .before .before .before in
     let p = start .pre .0 in
     λ f sp.
-    whole-breaks (spanned at) (head f sp (p .some) (p .few) (p .short)) (start .args .row) (called .check-shape .result) (called .check-shape .ensures)
+    pass-whole-breaks (spanned at) (scan-head f sp (p .some) (p .few) (p .short)) (start .args .row) (called .check-shape .result) (called .check-shape .ensures)
     (c .before .r .given .0 .0) (c .before .r .given .1)
 
 returns-2 : tie.Need-returns-2
@@ -54,14 +54,14 @@ returns-2 c =
     let at = called .before .before .before in
     let start = at .before .before .before in
     let p = start .pre .0 in
-    let x = given-head p in
-    let er = whole-rows (spanned at) x in
-    let et = whole-text (spanned at) x in (
+    let x = given-scan-head p in
+    let er = pass-whole-rows (spanned at) x in
+    let et = pass-whole-text (spanned at) x in (
       omega (arith, x .some),
       omega (arith, x .first .inside),
       omega (arith, x .first .fits),
       λ f sp.
-          whole-past (spanned at) (head f sp (p .some) (p .few) (p .short)) (start .args .row) (called .check-shape .result) (called .check-shape .ensures)
+          pass-whole-past (spanned at) (scan-head f sp (p .some) (p .few) (p .short)) (start .args .row) (called .check-shape .result) (called .check-shape .ensures)
           (c .enum-told .given .1),
     )
 

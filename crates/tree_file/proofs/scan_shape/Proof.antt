@@ -1,14 +1,14 @@
--- What is left decides (`Scans`). The measure is what is left of the rows.
+-- What is left decides (`ShapeScan`). The measure is what is left of the rows.
 use Rattle.text.proofs.Writing.{rest-length}
 use borrow.Author.Needs.{needs}
 use native.Mathlib.Omega.{arith}
 use lib.ListN.{length}
-use Rattle.tree_file.proofs.Scanning.{Scans, scan-start, scan-asks, scan-breaks, scan-end, Moves, scan-moves}
+use Rattle.tree_file.proofs.Scanning.{ShapeScan, shape-scan-start, shape-scan-asks, shape-scan-breaks, shape-scan-end, ShapeScanMoves, shape-scan-moves}
 use Rattle.tree_file.proofs.scan_shape.Statement.{statement}
 use Rattle.tree_file.proofs.scan_shape.Tie as tie
 
 abbrev Inv-loop : tie.InvT-loop
-Inv-loop rows text l₀ t₀ at₀ l t at = Scans rows text l t at
+Inv-loop rows text l₀ t₀ at₀ l t at = ShapeScan rows text l t at
 
 abbrev μ-loop : tie.MeasureT-loop
 μ-loop rows text l₀ t₀ at₀ l t at = length l
@@ -16,22 +16,22 @@ abbrev μ-loop : tie.MeasureT-loop
 -- the place after what was passed
 moved : (c : tie.After-e Inv-loop μ-loop) → let here = c .before .before .before .before in let g = c .e .given .0 in
     let args = here .before .before .before .args in let at = here .loop in
-    Moves (args .rows .now) (args .text .now) (at .l .now) (at .t .now) (at .at) (g .0) (g .1 .0)
+    ShapeScanMoves (args .rows .now) (args .text .now) (at .l .now) (at .t .now) (at .at) (g .0) (g .1 .0)
 moved c =
     let called = c .before .before in
-    scan-moves (called .before .before .loop .inv) (called .pass-row .result) (c .e .given .0 .0) (c .e .given .0 .1 .0) (called .pass-row .ensures) (c .e .given .1)
+    shape-scan-moves (called .before .before .loop .inv) (called .pass-row .result) (c .e .given .0 .0) (c .e .given .0 .1 .0) (called .pass-row .ensures) (c .e .given .1)
 
 loop-holds : tie.Need-loop-holds Inv-loop μ-loop
-loop-holds c = scan-start (c .before .before .pre)
+loop-holds c = shape-scan-start (c .before .before .pre)
 
 pass-row-requires : tie.Need-pass-row-requires Inv-loop μ-loop
-pass-row-requires c κs = let s = c .before .loop .inv in let few = s .few in let a = s .asked .few in (scan-asks s (c .loop-test .taken), omega arith)
+pass-row-requires c κs = let s = c .before .loop .inv in let few = s .few in let a = s .asked .few in (shape-scan-asks s (c .loop-test .taken), omega arith)
 
 returns : tie.Need-returns Inv-loop μ-loop
 returns c =
     λ u sp.
     let called = c .before .before .before in
-    scan-breaks (called .before .before .loop .inv) (called .pass-row .result) (c .before .r .given .0 .0) (called .pass-row .ensures) (c .before .r .given .1) u sp
+    shape-scan-breaks (called .before .before .loop .inv) (called .pass-row .result) (c .before .r .given .0 .0) (called .pass-row .ensures) (c .before .r .given .1) u sp
 
 sub-l : tie.Need-sub-l Inv-loop μ-loop
 sub-l c = moved (c .before) .rows-in
@@ -58,7 +58,7 @@ loop-again : tie.Need-loop-again Inv-loop μ-loop
 loop-again c = moved (c .before .before .before) .next
 
 returns-2 : tie.Need-returns-2 Inv-loop μ-loop
-returns-2 c = λ u sp. scan-end (c .before .loop .inv) (c .loop-test .left) u sp
+returns-2 c = λ u sp. shape-scan-end (c .before .loop .inv) (c .loop-test .left) u sp
 
 pub scan-shape-spec : {M : Type 1} → statement M
 scan-shape-spec =

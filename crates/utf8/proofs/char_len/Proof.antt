@@ -5,7 +5,7 @@ use native.Mathlib.Omega.{arith}
 use borrow.Author.Needs.{needs}
 use borrow.Author.Tests.{not-true, not-false}
 use lib.ListN.{length}
-use Rattle.utf8.proofs.Chars.{CharPassed, passed-none, passed-one, passed-on, passed-stop, passed-all}
+use Rattle.utf8.proofs.Chars.{CharPassed, char-passed-none, char-passed-one, char-passed-on, char-passed-stop, char-passed-all}
 use Rattle.utf8.proofs.char_len.Statement.{statement}
 use Rattle.utf8.proofs.char_len.Tie as tie
 
@@ -16,27 +16,27 @@ abbrev μ-loop : tie.MeasureT-loop
 μ-loop s n₀ n = length s - n
 
 returns : tie.Need-returns Inv-loop μ-loop
-returns c = passed-none _ (c .if1 .taken)
+returns c = char-passed-none _ (c .if1 .taken)
 
 loop-holds : tie.Need-loop-holds Inv-loop μ-loop
-loop-holds c = (omega (arith, c .if1 .left), passed-one _ (c .if1 .left))
+loop-holds c = (omega (arith, c .if1 .left), char-passed-one _ (c .if1 .left))
 
 returns-2 : tie.Need-returns-2 Inv-loop μ-loop
 returns-2 c =
     let turn = c .before .before .before in
-    passed-stop _ _ (turn .before .loop .inv .1) (turn .loop-test .taken)
+    char-passed-stop _ _ (turn .before .loop .inv .1) (turn .loop-test .taken)
     (sym (c .before .continues .ensures) ∙ not-true _ (c .if2 .taken))
 
 loop-again : tie.Need-loop-again Inv-loop μ-loop
 loop-again c =
     let turn = c .before .before .before in (
       omega arith,
-      passed-on _ _ (turn .before .loop .inv .1) (turn .loop-test .taken)
+      char-passed-on _ _ (turn .before .loop .inv .1) (turn .loop-test .taken)
           (sym (c .before .continues .ensures) ∙ not-false _ (c .if2 .left)),
     )
 
 returns-3 : tie.Need-returns-3 Inv-loop μ-loop
-returns-3 c = passed-all _ _ (c .before .loop .inv .1) (c .loop-test .left)
+returns-3 c = char-passed-all _ _ (c .before .loop .inv .1) (c .loop-test .left)
 
 pub char-len-spec : {M : Type 1} → statement M
 char-len-spec =

@@ -17,7 +17,7 @@ use denote.Triple.Statement.{Triple}
 use denote.Triple.Table.{cited}
 use Rattle.mitex_meaning.specs.State.{enteredEnv}
 use Rattle.mitex_meaning.proofs.LentForms.{env-known, entered-env-move, Moves, enter-env-form}
-use Rattle.mitex_meaning.proofs.LentWalks.{typed, env-typed, opened, closed, Loan, Walk, ends, proved}
+use Rattle.mitex_meaning.proofs.LentWalks.{typed, env-typed, loan-opened, loan-closed, Loan, LoanWalk, ends, proved}
 use Rattle.mitex_meaning.proofs.LentCalls.{calls-move}
 use Rattle.mitex_meaning.proofs.Converter.entered_env.Symbol.{name as #entered-env, routine}
 use Rattle.mitex_meaning.proofs.Converter.entered_env.Met.{met}
@@ -26,14 +26,14 @@ use Rattle.mitex_meaning.proofs.Converter.enter_env.Statement.{statemen
 use Rattle.mitex_meaning.proofs.Converter.enter_env.Code as code
 
 module _ {M : Type 1} (𝓤 : URA M) (H : Heap 𝓤) (A : Atoms 𝓤) (W : Given 𝓤 H A) (𝓣 : Tables 𝓤 H) where
-  walk : Triple 𝓤 (𝓣 .C #entered-env) (Moves entered-env-move 𝓤 H A) → Walk enter-env-form 𝓤 H A 𝓣 code.function
+  walk : Triple 𝓤 (𝓣 .C #entered-env) (Moves entered-env-move 𝓤 H A) → LoanWalk enter-env-form 𝓤 H A 𝓣 code.function
   walk by-value κ q b o γ h e is =
       let Fits = entered-env-move .Asks h e in
       qed W (raw (fact 𝓤 Fits) ∷ Loan enter-env-form 𝓤 H A κ q b o γ h) ∵ heard ! Fits (λ fits.
       enter ! (𝓣 .C) (𝓣 .Λ) code.function _ _ $
       alloc1 ! (λ l₀. alloc1 ! (λ l₁. alloc1 ! (λ l₂. alloc1 ! (λ l₃. alloc1 ! (λ l₄. alloc1 ! (λ l₅. alloc0 ! $
       params1 ! $ pass1 ! (init ! 8 refl (tt, tt)) $ pass1 ! (init ! 6 refl (env-typed 𝓤 H A W e is)) $ pass0 ! $
-      move ! (12 ∷ 13 ∷ 14 ∷ []) $ opened ! tt h b o (λ was.
+      move ! (12 ∷ 13 ∷ 14 ∷ []) $ loan-opened ! tt h b o (λ was.
       let h′ = enteredEnv e h in
       let known = env-known h was in
       -- [the converter's cell; the open borrow; obs; auth; room for _5; …; room for _4; …; room for _3; …; _2; …; _1; …; room for _0; …]
@@ -51,7 +51,7 @@ module _ {M : Type 1} (𝓤 : URA M) (H : Heap 𝓤) (A : Atoms 𝓤) (W : Given
       (from ! (hop ! (look ! 12 refl) (stop !))) (store ! 0 refl (typed 𝓤 H A W h′ held)) $
       assigns ! (of-opd ! (load ! (from ! (stop !)) (look ! 8 refl)))
       (from ! (stop !)) (init ! 14 refl (env-typed 𝓤 H A W (h .env) known)) $
-      closed ! tt h′ b o held $
+      loan-closed ! tt h′ b o held $
       -- [obs; the borrow; the token; _5; …; _4; …; _3; …; _2; …; _1; …; _0; …]
       returns ! (look ! 13 refl) $
       forget ! 3 refl $ forget ! 5 refl $ forget ! 7 refl $ forget ! 9 refl $ forget ! 11 refl $ forget ! 13 refl $

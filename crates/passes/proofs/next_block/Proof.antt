@@ -1,10 +1,10 @@
--- `step`: the block at which the pass stands is an element of the rows, and what `convert` promises of it is promised here.
+-- `next_block`: the block at which the pass stands is an element of the rows, and what `convert` promises of it is promised here.
 use native.Mathlib.Omega.{arith}
 use borrow.Author.Needs.{needs}
-use Rattle.mitex_syntax.proofs.Trees.{Child}
+use Rattle.mitex_syntax.proofs.Trees.{ChildPart}
 use Rattle.passes.proofs.Stepping.{next-spans, next-child, next-room, stepped, rows-few, text-short}
-use Rattle.passes.proofs.step.Statement.{statement}
-use Rattle.passes.proofs.step.Tie as tie
+use Rattle.passes.proofs.next_block.Statement.{statement}
+use Rattle.passes.proofs.next_block.Tie as tie
 
 -- the function's entry
 abbrev start : tie.After-span-at → tie.Start
@@ -13,7 +13,7 @@ start c = let d = c .before .before .before in d .before .before .before
 -- the block, after its measuring
 here :
     (c : tie.After-span-at)
-    → Child (start c .args .rows .now) (start c .args .text .now) (start c .args .s .i) (start c .args .s .j) (c .span-at .result .rows)
+    → ChildPart (start c .args .rows .now) (start c .args .text .now) (start c .args .s .i) (start c .args .s .j) (c .span-at .result .rows)
     (c .span-at .result .text)
 here c = next-child (start c .pre .0) (start c .pre .1 .0) _ _ (c .span-at .ensures .0) (c .span-at .ensures .1)
 
@@ -55,8 +55,8 @@ returns c =
     let d = ends (m .before .before .before) in
     λ w t g is. stepped w t g is _ _ (d .span-at .ensures .0) (d .span-at .ensures .1) (m .convert .ensures)
 
-pub step-spec : {M : Type 1} → statement M
-step-spec =
+pub next-block-spec : {M : Type 1} → statement M
+next-block-spec =
     tie.close
     (tie.spec
     span-at-requires

@@ -3,8 +3,8 @@ use borrow.Author.Needs.{needs}
 use native.Mathlib.Omega.{arith}
 use Prim.Native.Nat.{_-_, _≤_}
 use lib.ListN.{length}
-use Rattle.tree_cases.proofs.replay.Statement.{statement}
-use Rattle.tree_cases.proofs.replay.Tie as tie
+use Rattle.tree_cases.proofs.replay_all.Statement.{statement}
+use Rattle.tree_cases.proofs.replay_all.Tie as tie
 
 abbrev Inv-loop : tie.InvT-loop
 Inv-loop cases t₀ i₀ turns₀ t i turns = (i ≤ length cases) × (t .cases ≤ turns) × (t .failed ≤ turns) × (turns ≤ 1000)
@@ -12,8 +12,8 @@ Inv-loop cases t₀ i₀ turns₀ t i turns = (i ≤ length cases) × (t .cases 
 abbrev μ-loop : tie.MeasureT-loop
 μ-loop cases t₀ i₀ turns₀ t i turns = 1000 - turns
 
-pub replay-spec : {M : Type 1} → statement M
-replay-spec =
+pub replay-all-spec : {M : Type 1} → statement M
+replay-all-spec =
     tie.close
     (tie.spec
     Inv-loop
