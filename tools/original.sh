@@ -1,21 +1,20 @@
 #!/usr/bin/env bash
 # Builds the original converter beside the static library, in target/original, and runs it there: rust/original/main.rs says what for.
 #   tools/original.sh CONVERTER SYNTAX SPEC CRATES compare CASES SEED
-#   tools/original.sh CONVERTER SYNTAX SPEC CRATES speed RULES TREE
+#   tools/original.sh CONVERTER SYNTAX SPEC CRATES speed SEED
 # CONVERTER, SYNTAX and SPEC are the original's crates/mitex/src/converter.rs, crates/mitex-parser/src/syntax.rs and
 # crates/mitex-spec/src/lib.rs; CRATES is a folder with the sources of rowan, countme, hashbrown, rustc-hash and text-size, each in a
 # folder NAME-VERSION, as a distribution's packages of Rust sources install them. Nothing of theirs is kept in this repository.
 set -eu
-if [ $# -lt 7 ]; then
+if [ $# -lt 6 ]; then
     sed -n '2,7s/^# \{0,1\}//p' "$0" >&2
     exit 2
 fi
 converter=$(realpath "$1") syntax=$(realpath "$2") spec=$(realpath "$3") crates=$(realpath "$4")
 shift 4
-words=("$@")
-if [ "${words[0]}" = speed ]; then words=(speed "$(realpath "$2")" "$(realpath "$3")"); fi
+if [ -n "${ZALDRUME_LIB:-}" ]; then ZALDRUME_LIB=$(realpath "$ZALDRUME_LIB"); fi
 cd "$(dirname "$0")/.."
-[ -f target/staticlib/libzaldrume.a ] || rt staticlib zaldrume
+[ -n "${ZALDRUME_LIB:-}" ] || [ -f target/staticlib/libzaldrume.a ] || rt staticlib zaldrume
 to=target/original
 rm -rf "$to/src" "$to/crates"
 mkdir -p "$to/src" "$to/crates"
@@ -53,4 +52,4 @@ zaldrume-reference = { path = "../../rust/reference" }
 TOML
 cd "$to"
 RUSTFLAGS=-Awarnings cargo build --quiet --release --offline
-exec target/release/original "${words[@]}"
+exec target/release/original "$@"

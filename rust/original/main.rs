@@ -1,5 +1,5 @@
 //! The original converter beside the static library: `compare` feeds both made documents and compares what they answer, `speed` times
-//! both on the benchmark's document. Built by `tools/original.sh`, which puts the original's files beside this one.
+//! both on the benchmark's documents. Built by `tools/original.sh`, which puts the original's files beside this one.
 #![allow(dead_code, unused_imports, unexpected_cfgs)]
 
 mod converter;
@@ -22,12 +22,12 @@ pub mod mitex_spec_gen {
 use std::collections::BTreeMap;
 use std::hint::black_box;
 use std::panic::catch_unwind;
-use std::time::Instant;
 
 use converter::LaTeXMode;
 use mitex_spec::{
     ArgPattern, ArgShape, CmdShape, CommandSpec, CommandSpecItem, ContextFeature, EnvShape,
 };
+use reference::constructs;
 use reference::made::{tree_file, Maker};
 use syntax::SyntaxKind::{self, *};
 use syntax::SyntaxNode;
@@ -181,37 +181,45 @@ fn compare(cases: u64, seed: u64) {
     }
 }
 
-/// The least mean of rounds of five calls.
-fn least(least: &mut f64, mut call: impl FnMut()) {
-    for _ in 0..5 {
-        let start = Instant::now();
-        (0..5).for_each(|_| call());
-        *least = least.min(start.elapsed().as_nanos() as f64 / 5.0);
-    }
-}
-
-fn speed(rules: &[u8], tree: &[u8]) {
-    let rows = areas(tree).1.len() as f64;
-    let (spec, node) = (spec_of(rules), node_of(tree));
-    let run = || converter::run(node.clone(), LaTeXMode::Text, spec.clone()).expect("accepted");
+/// Trees that are there already, converted by the original, beside the library's whole Convert of the files, with 1,000 rules.
+fn speed(seed: u64) {
+    let documents = constructs::documents(seed);
+    let rules = constructs::rules(1_000);
+    let spec = spec_of(&rules);
+    let nodes: Vec<_> = documents.iter().map(|made| node_of(&made.tree)).collect();
+    let original = |i: usize| {
+        let written = converter::run(nodes[i].clone(), LaTeXMode::Text, spec.clone());
+        written.expect("accepted")
+    };
     let (mut text, mut ledger) = (vec![0; 1 << 20], vec![0; 1 << 16]);
-    let length = raw::convert(0, rules, tree, &mut text, &mut ledger).place;
-    assert_eq!(run().as_bytes(), &text[..length]);
-    let (mut theirs, mut ours) = (f64::INFINITY, f64::INFINITY);
-    for _ in 0..60 {
-        least(&mut theirs, || drop(black_box(run())));
-        least(&mut ours, || {
-            drop(black_box(raw::convert(
-                0,
-                black_box(rules),
-                black_box(tree),
-                &mut text,
-                &mut ledger,
-            )))
-        });
+    let mut library = |i: usize, text: &mut [u8]| {
+        let tree = black_box(&documents[i].tree);
+        raw::convert(0, black_box(&rules), tree, text, &mut ledger).place
+    };
+    let count = documents.len();
+    for i in 0..count {
+        let length = library(i, &mut text);
+        assert_eq!(original(i).as_bytes(), &text[..length]);
     }
-    let ratio = ours / theirs;
-    println!("{rows} rows: the original's conversion alone {:.1} ns a row, the library's Convert {:.1}, ratio {ratio:.2}", theirs / rows, ours / rows);
+    let means = constructs::least_means(2 * count, |i| match i < count {
+        true => drop(black_box(original(i))),
+        false => assert!(library(i - count, &mut text) > 0),
+    });
+    println!(
+        "| document | blocks | rows | original ns a row | library ns a row | library / original |"
+    );
+    println!("|---|---|---|---|---|---|");
+    for (i, document) in documents.iter().enumerate() {
+        let (rows, theirs, ours) = (document.rows(), means[i], means[count + i]);
+        println!(
+            "| {} | {} | {rows} | {:.1} | {:.1} | {:.2} |",
+            document.name,
+            document.blocks.len(),
+            theirs / rows as f64,
+            ours / rows as f64,
+            ours / theirs
+        );
+    }
 }
 
 fn main() {
@@ -221,10 +229,7 @@ fn main() {
             cases.parse().expect("a count"),
             seed.parse().expect("a seed"),
         ),
-        ["speed", rules, tree] => speed(
-            &std::fs::read(rules).expect("a rule file"),
-            &std::fs::read(tree).expect("a tree file"),
-        ),
-        _ => eprintln!("usage: original compare CASES SEED | original speed RULES TREE"),
+        ["speed", seed] => speed(seed.parse().expect("a seed")),
+        _ => eprintln!("usage: original compare CASES SEED | original speed SEED"),
     }
 }

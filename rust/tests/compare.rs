@@ -5,8 +5,9 @@
 
 use std::collections::BTreeMap;
 
+use reference::constructs;
 use reference::made::{rule_file, tree_file, Made, Maker};
-use reference::{BLOCKS_MOST, ROW_SIZE};
+use reference::{BLOCKS_MOST, FILE_MOST, ROW_SIZE};
 use zaldrume::raw::{self, Answer};
 
 fn setting(name: &str, usual: u64) -> u64 {
@@ -185,6 +186,19 @@ fn long_documents() {
             blocks.truncate(blocks.len() * 3 / 4);
         }
         convert_all_ways(maker, tally, &rules, &tree_file(&blocks), 200_000);
+    });
+}
+
+#[test]
+fn documents_by_construct() {
+    let rules = constructs::rules(10);
+    each_case("documents by construct", 1, |maker, tally| {
+        for document in constructs::documents(tally.seed) {
+            let mut buffers = Buffers::any(maker, 4 * FILE_MOST, BLOCKS_MOST * ROW_SIZE);
+            let answer = tally.convert(0, &rules, &document.tree, &mut buffers);
+            let (name, seed) = (document.name, tally.seed);
+            assert_eq!(answer.number, 0, "{name} is refused, seed {seed}");
+        }
     });
 }
 

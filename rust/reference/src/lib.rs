@@ -1,7 +1,7 @@
 //! Convert and Edit written a second time, in plain Rust over a parsed tree.
 //!
 //! It shares no code with the proved library and is compared with it, answer by answer and byte by
-//! byte. [`made`] makes the inputs.
+//! byte. [`made`] makes the inputs, and [`constructs`] and [`hostile`] those on which speed is measured.
 
 mod calls;
 mod converter;
@@ -9,6 +9,8 @@ mod ledger;
 mod rules;
 mod tree;
 
+pub mod constructs;
+pub mod hostile;
 pub mod made;
 
 pub use calls::{check, convert, edit, Converted, Edited};

@@ -56,6 +56,14 @@ pub fn node(kind: Kind, children: Vec<Made>) -> Made {
 }
 
 impl Made {
+    /// How many bytes of a tree file it takes, those of its texts and its rows.
+    pub fn size(&self) -> usize {
+        8 + match self {
+            Made::Token(_, text) => text.len(),
+            Made::Node(_, children) => children.iter().map(Made::size).sum(),
+        }
+    }
+
     fn add_rows(&self, text: &mut Vec<u8>, rows: &mut Vec<[u8; 8]>) {
         let at = rows.len();
         let (kind, is_token, size) = match self {
