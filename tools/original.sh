@@ -5,9 +5,10 @@
 # CONVERTER, SYNTAX and SPEC are the original's crates/mitex/src/converter.rs, crates/mitex-parser/src/syntax.rs and
 # crates/mitex-spec/src/lib.rs; CRATES is a folder with the sources of rowan, countme, hashbrown, rustc-hash and text-size, each in a
 # folder NAME-VERSION, as a distribution's packages of Rust sources install them. Nothing of theirs is kept in this repository.
+# The library is that of the folder ZALDRUME_LIB, else target/staticlib's, which is built where it is missing.
 set -eu
 if [ $# -lt 6 ]; then
-    sed -n '2,7s/^# \{0,1\}//p' "$0" >&2
+    sed -n '2,8s/^# \{0,1\}//p' "$0" >&2
     exit 2
 fi
 converter=$(realpath "$1") syntax=$(realpath "$2") spec=$(realpath "$3") crates=$(realpath "$4")

@@ -59,6 +59,7 @@ fn much_text() -> Vec<(&'static str, Made)> {
 fn much_nested() -> Vec<(&'static str, Made)> {
     let outer = |inner| node(ItemFormula, inner);
     let formulas = nested(58, token(TokenDollar, "$"), outer);
+    let braces = nested(55, many(7_700, node(ItemCurly, vec![])), formula);
     let in_commands = |name| {
         let inner = many(3_700, token(TokenWord, "word.txt"));
         nested(30, inner, |inner| command(name, inner))
@@ -67,6 +68,7 @@ fn much_nested() -> Vec<(&'static str, Made)> {
     let symbols = node(ItemText, (0..4_600).map(symbol).collect());
     vec![
         ("125 times 58 formulas in formulas", many(125, formulas)),
+        ("7,700 empty nodes in 55 formulas", braces),
         ("30 colours in colours", in_commands("textcolor")),
         ("30 labels in labels", in_commands("label")),
         ("4,600 symbols, names with one first letter", symbols),
