@@ -19,8 +19,7 @@ returns-3 c =
     let k = c .before .before .args .k in
     let word = c .before .if1 .left in
     λ e.
-    let low = ltb-true k TokenCommandSym e in
-    (
+    let low = ltb-true k TokenCommandSym e in (
       sym (high-token k (λ q. omega arith) (λ q. omega arith) word (c .if2 .left)) ∙ le-leb k TokenCommandSym (omega arith),
       low,
     )
