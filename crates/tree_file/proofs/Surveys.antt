@@ -13,10 +13,9 @@ use Rattle.text.specs.Numbers.{Bytes, four, fourAt}
 use Rattle.text.proofs.Writing.{part-rest, rest-length}
 use Rattle.utf8.specs.Utf8.{oneByteEach}
 use Rattle.utf8.proofs.Texts.{one-drop}
-use Rattle.text.specs.Writing.{cap}
 use Rattle.text.specs.Trailer.{fileMost}
 use Rattle.mitex_syntax.specs.Syntax.{isNode}
-use Rattle.mitex_syntax.specs.Tree.{Tree, Forest, size, sizes, rowsOf, rowsOfs, textOf, textsOf}
+use Rattle.mitex_syntax.specs.Tree.{Forest, sizes, rowsOf, rowsOfs, textOf, textsOf}
 use Rattle.mitex_syntax.specs.Tree.Tree.{token, node}
 use Rattle.mitex_syntax.specs.Tree.Forest.{none, more}
 use Rattle.mitex_syntax.specs.Spells.{tokenFits, Sound, SpellsAll, Begins, SomeForest}
@@ -24,12 +23,11 @@ use Rattle.mitex_syntax.proofs.Trees.{length-rowss}
 use Rattle.tree_file.specs.Layout.{lines, grows}
 use Rattle.tree_file.specs.Depth.{depth, depths, depthMost}
 use Rattle.tree_file.specs.Shape.{symFits, nodeFits, Shaped, ShapedAll}
-use Rattle.tree_file.specs.Parts.{bytesOf, textsIn, LinesFit, answerTo, TokenStands, NodeStands, Surveyed, SurveySays, Surveyable}
+use Rattle.tree_file.specs.Parts.{bytesOf, textsIn, LinesFit, shapeOf, answerTo, TokenStands, NodeStands, Surveyed, SurveySays, Surveyable}
 use Rattle.tree_file.specs.declared.Survey.{Survey}
 use Rattle.tree_file.specs.declared.Survey.the-variants.{Takes}
 use Rattle.tree_file.specs.declared.Shape.the-variants.{Right}
 use Rattle.tree_file.specs.declared.Checked.the-variants.{Whole}
-use Rattle.tree_file.specs.Parts.{shapeOf}
 use Rattle.tree_file.proofs.Grow.{linesOfs, grow-complete, length-liness}
 use Rattle.tree_file.proofs.Rows.{lines-complete, same-rows}
 use Rattle.tree_file.proofs.Decode.{bytes-all, text-all, fits-forest}

@@ -120,14 +120,14 @@ PassSays rows text row (Past e n) =
 
 -- ---- the survey
 
--- a token stands first, which n bytes of text are those of, and it is right under a node of the kind `up`
+-- a token stands first, whose text is the first n bytes, and it is right under a node of the kind `up`
 pub record TokenStands (up : ℕ) (rows text : List ℕ) (n : ℕ) : Type 0 where
   pub room : n ≤ length text
   pub rows-are : rows ≡ rowsOf (token (getD rows 0 0) (take n text)) ++ drop 8 rows
   pub fits : T (tokenFits (getD rows 0 0) (take n text))
   pub right : T (symFits up (getD rows 0 0) (take n text))
 
--- the row of a node stands first, over rows that end with byte e
+-- a node stands first, whose rows end at byte e
 pub record NodeStands (rows : List ℕ) (e : ℕ) : Type 0 where
   pub under : ℕ
   pub end : e ≡ 8 + 8 * under

@@ -644,7 +644,7 @@ fn scan_shape(rows: &[u8], text: &[u8]) -> Shape
 
 // ---- the survey: one pass over rows and text, sure of a tree that is right
 
-// Whether no rule is on tokens of this kind: most are so.
+// Whether a token may be of this kind, and no rule is on it: so it is of most.
 fn is_free(k: u8) -> bool
     ensures { λ r. ⌜ (r ≡ true → (isToken k ≡ true) × (k < TokenCommandSym)) ⌝ }
 {
@@ -837,7 +837,7 @@ fn check_areas(rows: &[u8], text: &[u8]) -> Checked
     }
 }
 
-// The same, where a survey may do: only what it is not sure of is checked step by step.
+// The same, after a survey: only what that is not sure of is checked part by part.
 fn check_quickly(rows: &[u8], text: &[u8]) -> Checked
     requires { ⌜ Areas (now rows) (now text) ⌝ }
     ensures { λ r. ⌜ ((n : ℕ) → length (now (rows .entry)) ≡ 8 * n → r ≡ answerTo (grows (lines n (now (rows .entry)) (now (text .entry))))) ⌝ }

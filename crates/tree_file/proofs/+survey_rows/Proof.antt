@@ -5,12 +5,11 @@ use borrow.Author.Needs.{needs}
 use borrow.Author.Tests.{not-false}
 use borrow.Fn.Kinds.{In}
 use borrow.Fn.PlainCycle.{Measures, is, falls, and}
-use mathlib.Core.Path.{_≡_}
 use mathlib.Core.List.{List}
 use Prim.Native.Nat.{ℕ, _-_, _≤_, _<_}
-use lib.ListN.{length, take, drop, getD}
+use lib.ListN.{length}
 use Rattle.text.proofs.Writing.{rest-length}
-use Rattle.tree_file.specs.Parts.{TokenStands, NodeStands, Surveyed}
+use Rattle.tree_file.specs.Parts.{TokenStands, NodeStands}
 use Rattle.tree_file.proofs.Surveys.{Surveying, survey-start, survey-end, past-token, past-node}
 use Rattle.tree_file.proofs.Surveys.{under-length, under-asks, under-room, under-some}
 use Rattle.tree_file.proofs.sure_token.Reads as sure-token-reads

@@ -1,5 +1,5 @@
 -- A survey of all says what the rows grow to (`spelt-grows`), and that nothing is wrong but, perhaps, the root.
-use mathlib.Core.Path.{_≡_, sym, ap, _∙_}
+use mathlib.Core.Path.{sym, ap, _∙_}
 use borrow.Author.Needs.{needs}
 use borrow.Author.Tests.{not-false}
 use lib.ListN.{length}

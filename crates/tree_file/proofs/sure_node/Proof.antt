@@ -1,5 +1,5 @@
 -- The first four bytes as a number are the kind, so that the three after it are zero (`node-stands`).
-use mathlib.Core.Path.{sym, ap, subst, _∙_}
+use mathlib.Core.Path.{sym, _∙_}
 use native.Mathlib.Omega.{arith}
 use borrow.Author.Needs.{needs}
 use Rattle.tree_file.proofs.Surveys.{node-stands}
@@ -11,9 +11,13 @@ returns c = λ h. absurd (omega arith)
 
 returns-2 : tie.Need-returns-2
 returns-2 c =
+    let past-head = c .before .before .before .before in
+    let head = past-head .before in
+    let start = head .before .before in
     λ h.
-    node-stands _ (λ i. omega (arith, c .before .before .before .before .before .before .shared-slice-known .given i)) (c .before .before .before .before .before .before .before .pre) (omega (arith, c .before .before .before .before .before .read-u32 .ensures .0, c .before .before .before .before .if1 .left))
-    (sym (c .before .before .is-node .ensures) ∙ c .before .if2 .taken) (c .read-u322 .result) (c .read-u322 .ensures .0)
+    node-stands (start .args .rows .now) (λ i. omega (arith, head .before .shared-slice-known .given i)) (start .pre)
+    (omega (arith, head .read-u32 .ensures .0, past-head .if1 .left)) (sym (c .before .before .is-node .ensures) ∙ c .before .if2 .taken)
+    (c .read-u322 .result) (c .read-u322 .ensures .0)
 
 returns-3 : tie.Need-returns-3
 returns-3 c = λ h. absurd (omega arith)

@@ -10,7 +10,9 @@ use Rattle.tree_file.proofs.survey_all.Statement.{statement}
 use Rattle.tree_file.proofs.survey_all.Tie as tie
 
 survey-rows-requires : tie.Need-survey-rows-requires
-survey-rows-requires c κs = record { few = c .before .before .before .pre .0; short = c .before .before .before .pre .1; one-each = λ e. sym (c .one-byte-each .ensures) ∙ e }
+survey-rows-requires c κs =
+    let p = c .before .before .before .pre in
+    record { few = p .0; short = p .1; one-each = λ e. sym (c .one-byte-each .ensures) ∙ e }
 
 returns : tie.Need-returns
 returns c = λ e. absurd (true≢false (sym e))
