@@ -657,6 +657,20 @@ fn is_free(k: u8) -> bool
     k < TOKEN_COMMAND_SYM
 }
 
+// Whether it is known, or seen at once, that the characters of the text have one byte each.
+fn is_plain(s: &[u8], plain: bool) -> bool
+    requires { ⌜ (plain ≡ true → oneByteEach (now s) ≡ true) ⌝ }
+    ensures { λ r. ⌜ (r ≡ true → oneByteEach (now (s .entry)) ≡ true) ⌝ }
+{
+    if plain {
+        return true;
+    }
+    if s.len() == 1 {
+        return s[0] <= ONE_BYTE;
+    }
+    false
+}
+
 // The text bytes of a token that stands first and is right under a node of the kind `up`; 0 where none is sure to.
 fn sure_token(rows: &[u8], text: &[u8], up: u8, plain: bool) -> usize
     requires { ⌜ (8 ≤ length (now rows)) × (plain ≡ true → oneByteEach (now text) ≡ true) ⌝ }
@@ -674,13 +688,14 @@ fn sure_token(rows: &[u8], text: &[u8], up: u8, plain: bool) -> usize
         return 0;
     }
     let k = rows[0];
-    if plain {
+    let s = &text[..n];
+    if is_plain(s, plain) {
         if is_free(k) {
             return n;
         }
     }
-    if token_fits(k, &text[..n], plain) {
-        if sym_fits(up, k, &text[..n]) {
+    if token_fits(k, s, plain) {
+        if sym_fits(up, k, s) {
             return n;
         }
     }
@@ -736,12 +751,10 @@ fn survey_rows(rows: &[u8], text: &[u8], up: u8, left: usize, plain: bool) -> Su
         if l.len() < end {
             return Survey::Unsure;
         }
-        let k = l[0];
-        let inner = &l[8..end];
-        match survey_rows(inner, t, k, left - 1, plain) {
+        match survey_rows(&l[8..end], t, l[0], left - 1, plain) {
             Survey::Unsure => return Survey::Unsure,
             Survey::Takes(m) => {
-                if !rules_fit(k, inner, t) {
+                if !rules_fit(l[0], &l[8..end], t) {
                     return Survey::Unsure;
                 }
                 l = &l[end..];

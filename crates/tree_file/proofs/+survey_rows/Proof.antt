@@ -93,7 +93,7 @@ module _ (t : ℕ) where
   called c = c .before .before .before
 
   abbrev known : AtRight → AtKnown
-  known c = c .before .before
+  known c = c .before .before .before .before
 
   abbrev rowsAt : AtRow → List ℕ
   rowsAt c = turn c .loop .l .now
@@ -141,11 +141,11 @@ module _ (t : ℕ) where
   token-again : lts.Need-loop-again (calls t) (pre-at t) self.Post Inv-loop μ-loop
   token-again c = let at = c .before .before in past-token (turn (at .before) .loop .inv) (token-here at) (some-left (at .before))
 
-  sub-under : lts.Need-sub-inner (calls t) (pre-at t) self.Post Inv-loop μ-loop
-  sub-under c = omega (arith, node-here (c .before) .end)
+  sub-under : lts.Need-sub-survey-rows (calls t) (pre-at t) self.Post Inv-loop μ-loop
+  sub-under c = omega (arith, node-here c .end)
 
-  part-under : lts.Need-part-inner-start (calls t) (pre-at t) self.Post Inv-loop μ-loop
-  part-under c = omega (arith, node-here (c .before) .end)
+  part-under : lts.Need-part-survey-rows-start (calls t) (pre-at t) self.Post Inv-loop μ-loop
+  part-under c = omega (arith, node-here c .end)
 
   survey-rows-requires : lts.Need-survey-rows-requires (calls t) (pre-at t) self.Post Inv-loop μ-loop
   survey-rows-requires c κs =
@@ -157,10 +157,20 @@ module _ (t : ℕ) where
         under-asks s x (n .if4 .left),
       )
 
+  sub-ruled : lts.Need-sub-rules-fit (calls t) (pre-at t) self.Post Inv-loop μ-loop
+  sub-ruled c = omega (arith, node-here (node (called (c .before))) .end)
+
+  part-ruled : lts.Need-part-rules-fit-start (calls t) (pre-at t) self.Post Inv-loop μ-loop
+  part-ruled c = omega (arith, node-here (node (called (c .before))) .end)
+
+  part-ruled-end : lts.Need-part-rules-fit-end (calls t) (pre-at t) self.Post Inv-loop μ-loop
+  part-ruled-end c = node (called (c .before)) .if4 .left
+
   rules-fit-requires : lts.Need-rules-fit-requires (calls t) (pre-at t) self.Post Inv-loop μ-loop
   rules-fit-requires c κs =
-      let n = node (called c) in
-      under-some (turn (row n) .loop .inv) (node-here n) (n .if4 .left) (called c .survey-rows .ensures) (c .before .m .given .1)
+      let k = c .before .before in
+      let n = node (called k) in
+      under-some (turn (row n) .loop .inv) (node-here n) (n .if4 .left) (called k .survey-rows .ensures) (k .before .m .given .1)
 
   sub-past : lts.Need-sub-l-2 (calls t) (pre-at t) self.Post Inv-loop μ-loop
   sub-past c = node (called (known c)) .if4 .left
@@ -187,7 +197,7 @@ module _ (t : ℕ) where
       past-node (turn (row n) .loop .inv) (node-here n) (n .if4 .left) (called k .survey-rows .ensures) (k .before .m .given .1) (some-left (row n))
       (right .before .rules-fit .result) (right .before .rules-fit .ensures) (not-false _ (right .if5 .left))
 
-  sub-taken : lts.Need-sub-t35 (calls t) (pre-at t) self.Post Inv-loop μ-loop
+  sub-taken : lts.Need-sub-t40 (calls t) (pre-at t) self.Post Inv-loop μ-loop
   sub-taken c = c .before .before .loop .inv .short
 
   returns-taken : lts.Need-returns-7 (calls t) (pre-at t) self.Post Inv-loop μ-loop
@@ -213,15 +223,19 @@ pub +survey-rows-spec : {M : Type 1} → statement M
     (λ c κs. omega arith)
     (λ c. tt)
     (λ c. tt)
-    (λ c. omega arith)
     (sub-under t)
     (part-under t)
+    (λ c. omega arith)
     (λ c. omega arith)
     (λ c. omega arith)
     (survey-rows-requires t)
     (λ c. search needs)
     (λ c. tt)
     (λ c. search needs)
+    (λ c. omega arith)
+    (sub-ruled t)
+    (part-ruled t)
+    (part-ruled-end t)
     (rules-fit-requires t)
     (λ c. tt)
     (sub-past t)

@@ -1,5 +1,5 @@
--- The first four bytes as a number say that the row is a token's, and its kind (`token-stands`). A kind that no rule is on, in a text
--- of one-byte characters, asks no more; others are tested.
+-- The first four bytes as a number say that the row is a token's, and its kind (`token-stands`). A kind that no rule is on, with
+-- one-byte characters, asks no more; others are tested.
 use mathlib.Core.Path.{_≡_, sym, _∙_}
 use mathlib.Core.Bool.{true, false}
 use mathlib.Core.List.{List}
@@ -71,26 +71,27 @@ none-sure h = absurd (omega arith)
 returns-free : tie.Need-returns-4
 returns-free c =
     λ h.
-    let at = c .before .before .before in
+    let plain = c .before .before in
+    let at = plain .before .before .before in
     let free = c .before .is-free .ensures (c .if5 .taken) in
     let some : leb 1 (length (textAt at)) ≡ true = le-leb 1 (length (textAt at)) (omega (arith, text-long at)) in
     let other : eqb (getD (rowsAt at) 0 0) TokenCommandSym ≡ false = ne-eqb (getD (rowsAt at) 0 0) TokenCommandSym (λ q. omega (arith, free .1)) in
-    stands at (rw (free .0, some, one-valid _ (text-one at (c .before .before .if4 .taken)))) (rw other)
+    stands at (rw (free .0, some, one-valid _ (plain .before .is-plain .ensures (plain .if4 .taken)))) (rw other)
 
-slice-aggregate-token-fits : tie.Need-slice-aggregate-token-fits
-slice-aggregate-token-fits c = sym (text-long (c .before .before))
+slice-aggregate-s : tie.Need-slice-aggregate-s
+slice-aggregate-s c = sym (text-long (c .before))
+
+is-plain-requires : tie.Need-is-plain-requires
+is-plain-requires c κs = text-one (c .before)
 
 token-fits-requires : tie.Need-token-fits-requires
-token-fits-requires c κs = text-one (c .before .before)
-
-slice-aggregate-sym-fits : tie.Need-slice-aggregate-sym-fits
-slice-aggregate-sym-fits c = sym (text-long (c .before .before .before .before .before))
+token-fits-requires c κs = text-one (c .before .before .before)
 
 returns-fits : tie.Need-returns-5
 returns-fits c =
-    let fits = c .before .before .before in
+    let fits = c .before .before in
     let tested = fits .before in
-    λ h. stands (tested .before .before .before) (sym (tested .token-fits .ensures) ∙ fits .if6 .taken) (sym (c .before .sym-fits .ensures) ∙ c .if7 .taken)
+    λ h. stands (tested .before .before .before .before) (sym (tested .token-fits .ensures) ∙ fits .if6 .taken) (sym (c .before .sym-fits .ensures) ∙ c .if7 .taken)
 
 pub sure-token-spec : {M : Type 1} → statement M
 sure-token-spec =
@@ -103,11 +104,11 @@ sure-token-spec =
     (λ c κs. search needs)
     (λ c. none-sure)
     (λ c. search needs)
+    slice-aggregate-s
+    is-plain-requires
     (λ c κs. search needs)
     returns-free
-    slice-aggregate-token-fits
     token-fits-requires
-    slice-aggregate-sym-fits
     (λ c κs. search needs)
     returns-fits
     (λ c. none-sure)
