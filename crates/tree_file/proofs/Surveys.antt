@@ -37,26 +37,27 @@ use Rattle.tree_file.proofs.Answers.{Rooted-as, answer-whole}
 -- ---- the row that stands first, by its first four bytes as a number
 
 module _ (rows : List ℕ) (by : Bytes rows) (h : 8 ≤ length rows) where
+  row-is : (m n : ℕ) → m ≤ 1 → 256 * m ≤ fourAt 0 rows → fourAt 0 rows < 256 * m + 256 → n ≡ fourAt 4 rows
+      → rows ≡ getD rows 0 0 ∷ m ∷ 0 ∷ 0 ∷ four n (drop 8 rows)
+  row-is m n one low high e =
+      let mark : getD rows 1 0 ≡ m = omega (arith, by 0, by 1, by 2, by 3) in
+      let zero2 : getD rows 2 0 ≡ 0 = omega (arith, by 0, by 1, by 2, by 3) in
+      let zero3 : getD rows 3 0 ≡ 0 = omega (arith, by 0, by 1, by 2, by 3) in
+      same-rows rows m n (drop 8 rows) by h mark zero2 zero3 e refl
+
   pub token-stands : (up : ℕ) (text : List ℕ) (n : ℕ) → 256 ≤ fourAt 0 rows → fourAt 0 rows < 512 → n ≡ fourAt 4 rows → n ≤ length text
       → tokenFits (getD rows 0 0) (take n text) ≡ true → symFits up (getD rows 0 0) (take n text) ≡ true → TokenStands up rows text n
   unfolding rowsOf
-  token-stands up text n low high e room fits right =
-      let m : getD rows 1 0 ≡ 1 = omega (arith, by 0, by 1, by 2, by 3) in
-      let z2 : getD rows 2 0 ≡ 0 = omega (arith, by 0, by 1, by 2, by 3) in
-      let z3 : getD rows 3 0 ≡ 0 = omega (arith, by 0, by 1, by 2, by 3) in
-      record {
-        room = room;
-        rows-are = same-rows rows 1 (length (take n text)) (drop 8 rows) by h m z2 z3 (length-take-le n text room ∙ e) refl;
-        fits = subst T (sym fits) tt;
-        right = subst T (sym right) tt;
-      }
+  token-stands up text n low high e room fits right = record {
+    room = room;
+    rows-are = row-is 1 (length (take n text)) (omega arith) low high (length-take-le n text room ∙ e);
+    fits = subst T (sym fits) tt;
+    right = subst T (sym right) tt;
+  }
 
   pub node-stands : fourAt 0 rows < 256 → isNode (getD rows 0 0) ≡ true → (n : ℕ) → n ≡ fourAt 4 rows → NodeStands rows (8 + 8 * n)
   node-stands low kind n e =
-      let m : getD rows 1 0 ≡ 0 = omega (arith, by 0, by 1, by 2, by 3) in
-      let z2 : getD rows 2 0 ≡ 0 = omega (arith, by 0, by 1, by 2, by 3) in
-      let z3 : getD rows 3 0 ≡ 0 = omega (arith, by 0, by 1, by 2, by 3) in
-      record { under = n; end = refl; rows-are = same-rows rows 0 n (drop 8 rows) by h m z2 z3 e refl; kind = subst T (sym kind) tt }
+      record { under = n; end = refl; rows-are = row-is 0 n (omega arith) (omega arith) low e; kind = subst T (sym kind) tt }
 
 -- ---- elements that are right
 
@@ -203,7 +204,7 @@ module _ {up left : ℕ} {rows text : List ℕ} {plain : Bool} {l t : List ℕ} 
     under-asks = let few = s .asks .few in record { few = omega (arith, under-length); short = s .asks .short; one-each = s .asks .one-each }
 
     module _ {a : Survey} {n : ℕ} (says : SurveySays (getD l 0 0) (left - 1) (take (e - 8) (drop 8 l)) t a) (told : a ≡ Takes n) where
-      pub under-right : Surveyed (getD l 0 0) (left - 1) (take (e - 8) (drop 8 l)) t n
+      under-right : Surveyed (getD l 0 0) (left - 1) (take (e - 8) (drop 8 l)) t n
       under-right = subst (SurveySays (getD l 0 0) (left - 1) (take (e - 8) (drop 8 l)) t) told says
 
       pub under-room : n ≤ length t

@@ -118,6 +118,10 @@ PassSays rows text row (Past e n) =
     (8 ≤ e) × (e ≤ length rows) × (n ≤ length text)
     × ((f : Forest) → SpellsAll f rows text → LowestFrom f row (row + e / 8) (drop e rows) (drop n text))
 
+-- the answer for the trees that the rows of a file grow to
+abbrev pub answerTo : Option Forest → Checked
+answerTo o = checkedAnswer (byDepth (root o))
+
 -- ---- the survey
 
 -- a token stands first, whose text is the first n bytes, and it is right under a node of the kind `up`
@@ -147,10 +151,6 @@ pub record Surveyed (up left : ℕ) (rows text : List ℕ) (n : ℕ) : Type 0 wh
 abbrev pub SurveySays : ℕ → ℕ → List ℕ → List ℕ → Survey → Type 0
 SurveySays up left rows text Unsure = Unit {0}
 SurveySays up left rows text (Takes n) = Surveyed up left rows text n
-
--- the answer for the trees that the rows of a file grow to
-abbrev pub answerTo : Option Forest → Checked
-answerTo o = checkedAnswer (byDepth (root o))
 
 -- ---- what is asked
 

@@ -55,7 +55,7 @@ const ONE_BYTE: u8 = 127;
 // The kind of what is not there.
 const NO_KIND: u8 = 0;
 
-// The first four bytes of a row as a number: a node's is its kind, a token's is this much more.
+// The first four bytes of a row, as a number, are the kind; of a token, the kind and this.
 const TOKEN_MARK: usize = 256;
 
 // A row that was read: a token with its text length, or a node with how many rows lie under it.
@@ -850,7 +850,7 @@ fn check_areas(rows: &[u8], text: &[u8]) -> Checked
     }
 }
 
-// The same, after a survey: only what that is not sure of is checked part by part.
+// The same, after a survey: only what it is not sure of is checked part by part.
 fn check_quickly(rows: &[u8], text: &[u8]) -> Checked
     requires { ⌜ Areas (now rows) (now text) ⌝ }
     ensures { λ r. ⌜ ((n : ℕ) → length (now (rows .entry)) ≡ 8 * n → r ≡ answerTo (grows (lines n (now (rows .entry)) (now (text .entry))))) ⌝ }
