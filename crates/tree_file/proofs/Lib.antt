@@ -11,3 +11,4 @@ pub mod Rules
 pub mod Shaped
 pub mod Bridge
 pub mod Same
+pub mod Surveys

@@ -82,7 +82,7 @@ pub record Read (rows text : List ℕ) (ls : List Line) : Type 0 where
   pub text-is : text ≡ textsIn ls
   pub fit : LinesFit ls
 
-same-rows :
+pub same-rows :
     (rows : List ℕ) (m n : ℕ) (r : List ℕ) → Bytes rows → 8 ≤ length rows → getD rows 1 0 ≡ m → getD rows 2 0 ≡ 0 → getD rows 3 0 ≡ 0
     → n ≡ fourAt 4 rows → drop 8 rows ≡ r
     → rows ≡ getD rows 0 0 ∷ m ∷ 0 ∷ 0 ∷ four n r

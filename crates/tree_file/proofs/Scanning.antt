@@ -133,7 +133,7 @@ kind-first (node k g) f sp = ap (λ l. getD l 0 0) (sp .rows-are)
 unruled : (k m : ℕ) → isRuled k ≡ false → isRuled m ≡ true → eqb k m ≡ false
 unruled k m h r = ne-eqb k m (λ e. absurd (true≢false (sym r ∙ ap isRuled (sym e) ∙ h)))
 
-unruled-fits : (t : Tree) → isRuled (kindOf t) ≡ false → true ≡ firstFits t
+pub unruled-fits : (t : Tree) → isRuled (kindOf t) ≡ false → true ≡ firstFits t
 unruled-fits (token k s) h = rw (unruled k TokenCommandSym h refl)
 unruled-fits (node k g) h = rw (unruled k ClauseLR h refl, unruled k ItemCmd h refl, unruled k ItemEnv h refl)
 

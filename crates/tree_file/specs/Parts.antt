@@ -5,22 +5,23 @@ use mathlib.Core.Option.{Option}
 use mathlib.Core.Option.Option.{none as nothing, some}
 use Prim.Native.Nat.{ℕ, suc, _+_, _*_, _/_, _≤_, _<_}
 use mathlib.Core.List.{List, [], _∷_, _++_}
-use lib.ListN.{length, drop, getD}
+use lib.ListN.{length, take, drop, getD}
 use lib.Dec.{T, eqb, leb}
 use Rattle.text.specs.Numbers.{four, fourAt}
 use Rattle.text.specs.Writing.{cap}
 use Rattle.text.specs.Trailer.{fileMost}
+use Rattle.utf8.specs.Utf8.{oneByteEach}
 use Rattle.mitex_syntax.specs.Syntax.{ClauseLR, ScopeRoot, ItemBegin, ItemEnd, TokenCommandSym, ItemEnv, isNode}
-use Rattle.mitex_syntax.specs.Tree.{Tree, Forest, rowsOfs, count}
+use Rattle.mitex_syntax.specs.Tree.{Tree, Forest, rowsOf, rowsOfs, textsOf, count}
 use Rattle.mitex_syntax.specs.Tree.Tree.{token, node}
 use Rattle.mitex_syntax.specs.Tree.Forest.{none, more}
-use Rattle.mitex_syntax.specs.Spells.{tokenFits, SpellsAll, SomeTree}
+use Rattle.mitex_syntax.specs.Spells.{tokenFits, SpellsAll, Begins, SomeTree}
 use Rattle.mitex_syntax.specs.declared.Spot.{Spot}
 use Rattle.mitex_syntax.specs.declared.Spot.the-variants.{Nowhere, At}
 use Rattle.tree_file.specs.Layout.{blocksMost, Line, root}
 use Rattle.tree_file.specs.Layout.Line.{tok, nod}
 use Rattle.tree_file.specs.Depth.{depths, depthMost}
-use Rattle.tree_file.specs.Shape.{symFits, nodeFits, lowests}
+use Rattle.tree_file.specs.Shape.{symFits, nodeFits, lowests, ShapedAll}
 use Rattle.tree_file.specs.Check.{byDepth, checkedAnswer}
 use Rattle.tree_file.specs.declared.TreeRow.{TreeRow}
 use Rattle.tree_file.specs.declared.TreeRow.the-variants.{Bad, Token, Node}
@@ -33,6 +34,8 @@ use Rattle.tree_file.specs.declared.Pass.{Pass}
 use Rattle.tree_file.specs.declared.Pass.the-variants.{Broke, Past}
 use Rattle.tree_file.specs.declared.Shape.{Shape}
 use Rattle.tree_file.specs.declared.Shape.the-variants.{Right, Breaks}
+use Rattle.tree_file.specs.declared.Survey.{Survey}
+use Rattle.tree_file.specs.declared.Survey.the-variants.{Unsure, Takes}
 
 -- ---- rows that were read
 
@@ -119,6 +122,36 @@ PassSays rows text row (Past e n) =
 abbrev pub answerTo : Option Forest → Checked
 answerTo o = checkedAnswer (byDepth (root o))
 
+-- ---- the survey
+
+-- a token stands first, whose text is the first n bytes, and it is right under a node of the kind `up`
+pub record TokenStands (up : ℕ) (rows text : List ℕ) (n : ℕ) : Type 0 where
+  pub room : n ≤ length text
+  pub rows-are : rows ≡ rowsOf (token (getD rows 0 0) (take n text)) ++ drop 8 rows
+  pub fits : T (tokenFits (getD rows 0 0) (take n text))
+  pub right : T (symFits up (getD rows 0 0) (take n text))
+
+-- a node stands first, whose rows end at byte e
+pub record NodeStands (rows : List ℕ) (e : ℕ) : Type 0 where
+  pub under : ℕ
+  pub end : e ≡ 8 + 8 * under
+  pub rows-are : rows ≡ getD rows 0 0 ∷ 0 ∷ 0 ∷ 0 ∷ four under (drop 8 rows)
+  pub kind : T (isNode (getD rows 0 0))
+
+-- the rows are those of elements side by side, no deeper than `left`, and right under a node of the kind `up`; the text begins with
+-- theirs, of n bytes
+pub record Surveyed (up left : ℕ) (rows text : List ℕ) (n : ℕ) : Type 0 where
+  pub forest : Forest
+  pub begins : Begins forest rows text
+  pub long : n ≡ length (textsOf forest)
+  pub low : depths forest ≤ left
+  pub shaped : ShapedAll up forest
+
+-- an answer that is not sure says nothing
+abbrev pub SurveySays : ℕ → ℕ → List ℕ → List ℕ → Survey → Type 0
+SurveySays up left rows text Unsure = Unit {0}
+SurveySays up left rows text (Takes n) = Surveyed up left rows text n
+
 -- ---- what is asked
 
 -- the rows are those of some lines
@@ -163,3 +196,9 @@ pub record Checkable (rows text : List ℕ) (row : ℕ) : Type 0 where
   pub few : length rows ≤ fileMost
   pub short : length text ≤ fileMost
   pub low : row + length rows ≤ 2 * fileMost
+
+-- bytes within the limits, and where `plain` is said, the characters of the text have one each
+pub record Surveyable (rows text : List ℕ) (plain : Bool) : Type 0 where
+  pub few : length rows ≤ fileMost
+  pub short : length text ≤ fileMost
+  pub one-each : plain ≡ true → oneByteEach text ≡ true

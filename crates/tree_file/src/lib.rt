@@ -10,7 +10,7 @@ ghost use Rattle.text.specs.Trailer.{fileMost};
 ghost use Rattle.utf8.specs.Utf8.{oneByteEach};
 ghost use Rattle.mitex_syntax.specs.Tree.{Tree, Forest, rowsOfs, count};
 ghost use Rattle.mitex_syntax.specs.Tree.Forest.{more};
-ghost use Rattle.mitex_syntax.specs.Syntax.{ItemCurly, ItemBracket};
+ghost use Rattle.mitex_syntax.specs.Syntax.{ItemCurly, ItemBracket, TokenCommandSym, isToken};
 ghost use Rattle.mitex_syntax.specs.Views.{textIn, argumentWith, goodEnds};
 ghost use Rattle.mitex_syntax.specs.Spells.{tokenFits, Spells, SpellsAll, Begins, SomeForest};
 ghost use Rattle.tree_file.specs.Layout.{Line, tokenRow, nodeRow, treeRowAt, rowTaken, lines, split, grow, grows};
@@ -21,9 +21,11 @@ ghost use Rattle.tree_file.specs.Check.{checkTree, checkedAnswer};
 ghost use Rattle.tree_file.specs.declared.Nest.the-variants.{Deep};
 ghost use Rattle.tree_file.specs.Parts.{bytesOf, LinesFit, isBad, underOf, Nested, rootBlocks, isThere, shapeOf, isFrame, isRuled};
 ghost use Rattle.tree_file.specs.Parts.{firstFits, PassSays, answerTo, SomeLines, FewRows, SomeTrees, Areas, Scannable, Checkable};
+ghost use Rattle.tree_file.specs.Parts.{TokenStands, NodeStands, Surveyable, Surveyed, SurveySays};
 use mitex_syntax::CLAUSE_ARGUMENT;
 use mitex_syntax::CLAUSE_LR;
 use mitex_syntax::ITEM_BEGIN;
+use mitex_syntax::ITEM_BLOCK_COMMENT;
 use mitex_syntax::ITEM_BRACKET;
 use mitex_syntax::ITEM_CMD;
 use mitex_syntax::ITEM_CURLY;
@@ -32,6 +34,7 @@ use mitex_syntax::ITEM_ENV;
 use mitex_syntax::SCOPE_ROOT;
 use mitex_syntax::Spot;
 use mitex_syntax::TOKEN_COMMAND_SYM;
+use mitex_syntax::TOKEN_WORD;
 
 // The refusals of a tree file, in checking order.
 const BAD_LAYOUT: u8 = 3;
@@ -51,6 +54,9 @@ const ONE_BYTE: u8 = 127;
 
 // The kind of what is not there.
 const NO_KIND: u8 = 0;
+
+// The first four bytes of a row, as a number, are the kind; of a token, the kind and this.
+const TOKEN_MARK: usize = 256;
 
 // A row that was read: a token with its text length, or a node with how many rows lie under it.
 pub enum TreeRow {
@@ -82,6 +88,12 @@ pub enum Shape {
 pub enum Pass {
     Broke(usize),
     Past { rows: usize, text: usize },
+}
+
+// How many bytes of text elements side by side take, where each of them is right; nothing is said of others.
+pub enum Survey {
+    Unsure,
+    Takes(usize),
 }
 
 // The answer: where the rows start, how many they are, and how many the blocks are; or a refusal and its row.
@@ -630,6 +642,144 @@ fn scan_shape(rows: &[u8], text: &[u8]) -> Shape
     Shape::Right
 }
 
+// ---- the survey: one pass over rows and text, sure of a tree that is right
+
+// Whether a token may be of this kind, and no rule is on it: so it is of most.
+fn is_free(k: u8) -> bool
+    ensures { λ r. ⌜ (r ≡ true → (isToken k ≡ true) × (k < TokenCommandSym)) ⌝ }
+{
+    if k < TOKEN_WORD {
+        return false;
+    }
+    if k == ITEM_BLOCK_COMMENT {
+        return false;
+    }
+    k < TOKEN_COMMAND_SYM
+}
+
+// Whether it is known, or seen at once, that the characters of the text have one byte each.
+fn is_plain(s: &[u8], plain: bool) -> bool
+    requires { ⌜ (plain ≡ true → oneByteEach (now s) ≡ true) ⌝ }
+    ensures { λ r. ⌜ (r ≡ true → oneByteEach (now (s .entry)) ≡ true) ⌝ }
+{
+    if plain {
+        return true;
+    }
+    if s.len() == 1 {
+        return s[0] <= ONE_BYTE;
+    }
+    false
+}
+
+// The text bytes of a token that stands first and is right under a node of the kind `up`; 0 where none is sure to.
+fn sure_token(rows: &[u8], text: &[u8], up: u8, plain: bool) -> usize
+    requires { ⌜ (8 ≤ length (now rows)) × (plain ≡ true → oneByteEach (now text) ≡ true) ⌝ }
+    ensures { λ n. ⌜ (0 < n → TokenStands up (now (rows .entry)) (now (text .entry)) n) ⌝ }
+{
+    let head = text::read_u32(rows, 0);
+    if head < TOKEN_MARK {
+        return 0;
+    }
+    if 2 * TOKEN_MARK <= head {
+        return 0;
+    }
+    let n = text::read_u32(rows, 4);
+    if text.len() < n {
+        return 0;
+    }
+    let k = rows[0];
+    let s = &text[..n];
+    if is_plain(s, plain) {
+        if is_free(k) {
+            return n;
+        }
+    }
+    if token_fits(k, s, plain) {
+        if sym_fits(up, k, s) {
+            return n;
+        }
+    }
+    0
+}
+
+// The bytes of the rows of a node that stands first; 0 where none does.
+fn sure_node(rows: &[u8]) -> usize
+    requires { ⌜ 8 ≤ length (now rows) ⌝ }
+    ensures { λ e. ⌜ (0 < e → NodeStands (now (rows .entry)) e) ⌝ }
+{
+    if TOKEN_MARK <= text::read_u32(rows, 0) {
+        return 0;
+    }
+    if mitex_syntax::is_node(rows[0]) {
+        return 8 + 8 * text::read_u32(rows, 4);
+    }
+    0
+}
+
+// Whether a node of the kind `k` may be over these rows: of most kinds it may.
+fn rules_fit(k: u8, rows: &[u8], text: &[u8]) -> bool
+    requires { ⌜ SomeForest (now rows) (now text) 0 0 ⌝ }
+    ensures { λ r. ⌜ ((f : Forest) → Begins f (now (rows .entry)) (now (text .entry)) → r ≡ nodeFits k f) ⌝ }
+{
+    if is_ruled(k) {
+        return node_fits(k, rows, text);
+    }
+    true
+}
+
+// The text that elements side by side take, no deeper than `left`, under a node of the kind `up`: `text` begins with theirs.
+fn survey_rows(rows: &[u8], text: &[u8], up: u8, left: usize, plain: bool) -> Survey
+    requires { ⌜ Surveyable (now rows) (now text) plain ⌝ }
+    ensures { λ r. ⌜ SurveySays up left (now (rows .entry)) (now (text .entry)) r ⌝ }
+{
+    let mut l = rows;
+    let mut t = text;
+    while 8 <= l.len() {
+        if left == 0 {
+            return Survey::Unsure;
+        }
+        let n = sure_token(l, t, up, plain);
+        if 0 < n {
+            l = &l[8..];
+            t = &t[n..];
+            continue;
+        }
+        let end = sure_node(l);
+        if end == 0 {
+            return Survey::Unsure;
+        }
+        if l.len() < end {
+            return Survey::Unsure;
+        }
+        match survey_rows(&l[8..end], t, l[0], left - 1, plain) {
+            Survey::Unsure => return Survey::Unsure,
+            Survey::Takes(m) => {
+                if !rules_fit(l[0], &l[8..end], t) {
+                    return Survey::Unsure;
+                }
+                l = &l[end..];
+                t = &t[m..];
+            }
+        }
+    }
+    if 0 < l.len() {
+        return Survey::Unsure;
+    }
+    Survey::Takes(text.len() - t.len())
+}
+
+// Whether the rows and the text are sure to be those of elements that are right.
+fn survey_all(rows: &[u8], text: &[u8]) -> bool
+    requires { ⌜ (length (now rows) ≤ fileMost) × (length (now text) ≤ fileMost) ⌝ }
+    ensures { λ r. ⌜ (r ≡ true → Surveyed 0 depthMost (now (rows .entry)) (now (text .entry)) (length (now (text .entry)))) ⌝ }
+{
+    let plain = utf8::one_byte_each(text);
+    match survey_rows(rows, text, NO_KIND, DEPTH_MOST, plain) {
+        Survey::Unsure => false,
+        Survey::Takes(n) => n == text.len(),
+    }
+}
+
 // ---- the check
 
 // The answer for rows that lie deeper than allowed, or do not nest.
@@ -700,6 +850,27 @@ fn check_areas(rows: &[u8], text: &[u8]) -> Checked
     }
 }
 
+// The same, after a survey: only what it is not sure of is checked part by part.
+fn check_quickly(rows: &[u8], text: &[u8]) -> Checked
+    requires { ⌜ Areas (now rows) (now text) ⌝ }
+    ensures { λ r. ⌜ ((n : ℕ) → length (now (rows .entry)) ≡ 8 * n → r ≡ answerTo (grows (lines n (now (rows .entry)) (now (text .entry))))) ⌝ }
+{
+    if !survey_all(rows, text) {
+        return check_areas(rows, text);
+    }
+    match root_blocks(rows) {
+        Blocks::Amiss => Checked::Refused {
+            number: BAD_LAYOUT,
+            row: 0,
+        },
+        Blocks::Are(blocks) => Checked::Whole {
+            start: text.len(),
+            rows: rows.len() / 8,
+            blocks,
+        },
+    }
+}
+
 // The check of a tree file: refusal 3, 4 or 5, or where its rows start, how many they are, and how many the blocks are.
 pub fn check_tree(file: &[u8]) -> Checked
     ensures { λ r. ⌜ r ≡ checkedAnswer (checkTree (now (file .entry))) ⌝ }
@@ -712,5 +883,5 @@ pub fn check_tree(file: &[u8]) -> Checked
     }
     let start = text::start_of(file);
     let end = file.len() - 8;
-    check_areas(&file[start..end], &file[..start])
+    check_quickly(&file[start..end], &file[..start])
 }

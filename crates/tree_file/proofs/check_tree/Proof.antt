@@ -30,19 +30,19 @@ start-of-requires c κs = whole c .long
 sub-end : tie.Need-sub-end
 sub-end c = whole (c .before) .long
 
-sub-check-areas : tie.Need-sub-check-areas
-sub-check-areas c = inside c
+sub-check-quickly : tie.Need-sub-check-quickly
+sub-check-quickly c = inside c
 
-part-check-areas-start : tie.Need-part-check-areas-start
-part-check-areas-start c = inside c
+part-check-quickly-start : tie.Need-part-check-quickly-start
+part-check-quickly-start c = inside c
 
-slice-aggregate-check-areas : tie.Need-slice-aggregate-check-areas
-slice-aggregate-check-areas c =
+slice-aggregate-check-quickly : tie.Need-slice-aggregate-check-quickly
+slice-aggregate-check-quickly c =
     let at = c .before .before in
     sym (part-text (fileAt (at .before)) (whole (at .before)) (at .start-of .result) (at .start-of .ensures .0))
 
-check-areas-requires : tie.Need-check-areas-requires
-check-areas-requires c κs =
+check-quickly-requires : tie.Need-check-quickly-requires
+check-quickly-requires c κs =
     let at = c .before .before in
     let file = fileAt (at .before) in
     let w = whole (at .before) in
@@ -54,7 +54,7 @@ check-areas-requires c κs =
 returns-2 : tie.Need-returns-2
 returns-2 c =
     let at = c .before .before .before in
-    check-is (fileAt (at .before)) (whole (at .before)) (at .start-of .result) (at .start-of .ensures .0) (c .check-areas .result) (c .check-areas .ensures)
+    check-is (fileAt (at .before)) (whole (at .before)) (at .start-of .result) (at .start-of .ensures .0) (c .check-quickly .result) (c .check-quickly .ensures)
 
 pub check-tree-spec : {M : Type 1} → statement M
 check-tree-spec =
@@ -64,9 +64,9 @@ check-tree-spec =
     returns
     start-of-requires
     sub-end
-    sub-check-areas
-    part-check-areas-start
+    sub-check-quickly
+    part-check-quickly-start
     (λ c. search needs)
-    slice-aggregate-check-areas
-    check-areas-requires
+    slice-aggregate-check-quickly
+    check-quickly-requires
     returns-2)
