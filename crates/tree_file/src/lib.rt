@@ -56,7 +56,7 @@ const ONE_BYTE: u8 = 127;
 const NO_KIND: u8 = 0;
 
 // The first four bytes of a row, as a number, are the kind; of a token, the kind and this.
-const TOKEN_MARK: usize = 256;
+const TOKEN_HEAD: usize = 256;
 
 // A row that was read: a token with its text length, or a node with how many rows lie under it.
 pub enum TreeRow {
@@ -677,10 +677,10 @@ fn sure_token(rows: &[u8], text: &[u8], up: u8, plain: bool) -> usize
     ensures { λ n. ⌜ (0 < n → TokenStands up (now (rows .entry)) (now (text .entry)) n) ⌝ }
 {
     let head = text::read_u32(rows, 0);
-    if head < TOKEN_MARK {
+    if head < TOKEN_HEAD {
         return 0;
     }
-    if 2 * TOKEN_MARK <= head {
+    if 2 * TOKEN_HEAD <= head {
         return 0;
     }
     let n = text::read_u32(rows, 4);
@@ -707,7 +707,7 @@ fn sure_node(rows: &[u8]) -> usize
     requires { ⌜ 8 ≤ length (now rows) ⌝ }
     ensures { λ e. ⌜ (0 < e → NodeStands (now (rows .entry)) e) ⌝ }
 {
-    if TOKEN_MARK <= text::read_u32(rows, 0) {
+    if TOKEN_HEAD <= text::read_u32(rows, 0) {
         return 0;
     }
     if mitex_syntax::is_node(rows[0]) {
@@ -717,7 +717,7 @@ fn sure_node(rows: &[u8]) -> usize
 }
 
 // Whether a node of the kind `k` may be over these rows: of most kinds it may.
-fn rules_fit(k: u8, rows: &[u8], text: &[u8]) -> bool
+fn ruled_fits(k: u8, rows: &[u8], text: &[u8]) -> bool
     requires { ⌜ SomeForest (now rows) (now text) 0 0 ⌝ }
     ensures { λ r. ⌜ ((f : Forest) → Begins f (now (rows .entry)) (now (text .entry)) → r ≡ nodeFits k f) ⌝ }
 {
@@ -754,7 +754,7 @@ fn survey_rows(rows: &[u8], text: &[u8], up: u8, left: usize, plain: bool) -> Su
         match survey_rows(&l[8..end], t, l[0], left - 1, plain) {
             Survey::Unsure => return Survey::Unsure,
             Survey::Takes(m) => {
-                if !rules_fit(l[0], &l[8..end], t) {
+                if !ruled_fits(l[0], &l[8..end], t) {
                     return Survey::Unsure;
                 }
                 l = &l[end..];

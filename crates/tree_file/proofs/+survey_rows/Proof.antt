@@ -14,7 +14,7 @@ use Rattle.tree_file.proofs.Surveys.{Surveying, survey-start, survey-en
 use Rattle.tree_file.proofs.Surveys.{under-length, under-asks, under-room, under-some}
 use Rattle.tree_file.proofs.sure_token.Reads as sure-token-reads
 use Rattle.tree_file.proofs.sure_node.Reads as sure-node-reads
-use Rattle.tree_file.proofs.rules_fit.Reads as rules-fit-reads
+use Rattle.tree_file.proofs.ruled_fits.Reads as ruled-fits-reads
 use Rattle.tree_file.proofs.survey_rows.Reads as self
 use Rattle.tree_file.proofs.survey_rows.Kinds as kinds
 use Rattle.tree_file.proofs.+survey_rows.Lts-survey_rows as lts
@@ -39,8 +39,8 @@ calls t = (
   sure-node-reads.Learnt,
   below t,
   self.Post,
-  rules-fit-reads.Asked,
-  rules-fit-reads.Learnt,
+  ruled-fits-reads.Asked,
+  ruled-fits-reads.Learnt,
 )
 
 abbrev Inv-loop : lts.InvT-loop
@@ -157,17 +157,17 @@ module _ (t : ℕ) where
         under-asks s x (n .if4 .left),
       )
 
-  sub-ruled : lts.Need-sub-rules-fit (calls t) (pre-at t) self.Post Inv-loop μ-loop
+  sub-ruled : lts.Need-sub-ruled-fits (calls t) (pre-at t) self.Post Inv-loop μ-loop
   sub-ruled c = omega (arith, node-here (node (called (c .before))) .end)
 
-  part-ruled : lts.Need-part-rules-fit-start (calls t) (pre-at t) self.Post Inv-loop μ-loop
+  part-ruled : lts.Need-part-ruled-fits-start (calls t) (pre-at t) self.Post Inv-loop μ-loop
   part-ruled c = omega (arith, node-here (node (called (c .before))) .end)
 
-  part-ruled-end : lts.Need-part-rules-fit-end (calls t) (pre-at t) self.Post Inv-loop μ-loop
+  part-ruled-end : lts.Need-part-ruled-fits-end (calls t) (pre-at t) self.Post Inv-loop μ-loop
   part-ruled-end c = node (called (c .before)) .if4 .left
 
-  rules-fit-requires : lts.Need-rules-fit-requires (calls t) (pre-at t) self.Post Inv-loop μ-loop
-  rules-fit-requires c κs =
+  ruled-fits-requires : lts.Need-ruled-fits-requires (calls t) (pre-at t) self.Post Inv-loop μ-loop
+  ruled-fits-requires c κs =
       let k = c .before .before in
       let n = node (called k) in
       under-some (turn (row n) .loop .inv) (node-here n) (n .if4 .left) (called k .survey-rows .ensures) (k .before .m .given .1)
@@ -195,7 +195,7 @@ module _ (t : ℕ) where
       let k = known right in
       let n = node (called k) in
       past-node (turn (row n) .loop .inv) (node-here n) (n .if4 .left) (called k .survey-rows .ensures) (k .before .m .given .1) (some-left (row n))
-      (right .before .rules-fit .result) (right .before .rules-fit .ensures) (not-false _ (right .if5 .left))
+      (right .before .ruled-fits .result) (right .before .ruled-fits .ensures) (not-false _ (right .if5 .left))
 
   sub-taken : lts.Need-sub-t40 (calls t) (pre-at t) self.Post Inv-loop μ-loop
   sub-taken c = c .before .before .loop .inv .short
@@ -236,7 +236,7 @@ pub +survey-rows-spec : {M : Type 1} → statement M
     (sub-ruled t)
     (part-ruled t)
     (part-ruled-end t)
-    (rules-fit-requires t)
+    (ruled-fits-requires t)
     (λ c. tt)
     (sub-past t)
     (part-past t)
