@@ -5,7 +5,8 @@ use mathlib.Core.List.{List, [], _∷_, _++_}
 use Rattle.text.specs.Ascii.{ascii}
 use Rattle.mitex_syntax.specs.Syntax.{TokenError, ItemBegin, ItemEnd, TokenWord}
 use Rattle.mitex_syntax.specs.Tree.Tree.{token}
-use Rattle.mitex_meaning.specs.Examples.{Example, example, hold, usual, ruleFor, writes, over, tok, tokWord, tokSym, tokSpace, tokNewLine, tokComment, tokAmpersand, arg, braced, cmd, env}
+use Rattle.mitex_meaning.specs.Examples.{Example, example, hold, usual, ruleFor, writes, over, tok, tokWord, tokSym, tokSpace, tokNewLine, tokComment, tokAmpersand, arg}
+use Rattle.mitex_meaning.specs.Examples.{braced, cmd, env}
 use Rattle.mitex_meaning.specs.Examples.Expected.{refusal}
 use Rattle.mitex_meaning.specs.declared.LaTeXMode.the-variants.{Text}
 
@@ -34,7 +35,9 @@ cellExamples =
     -- table: 13 comes before its children
     ∷ example usual Text (env "tabular" (braced (tokWord "x" ∷ []) ∷ []) (tok TokenError "?" ∷ []) ∷ []) (refusal 13 1)
     -- table: no columns at all
-    ∷ example usual Text (env "tabular" (braced [] ∷ []) [] ∷ []) (writes "#table(stroke: none,\ncolumns: 0,\nalign: (),\n\n);")
+    ∷ example usual Text
+    (env "tabular" (braced [] ∷ []) [] ∷ [])
+    (writes "#table(stroke: none,\ncolumns: 0,\nalign: (),\n\n);")
     -- table: empty cells, a rule, an open last cell
     ∷ example usual Text
     (
@@ -47,7 +50,9 @@ cellExamples =
     (env "tabular" (braced (tokWord "l" ∷ []) ∷ []) (tokComment ∷ tokSpace ∷ tokWord "a" ∷ tokNewLine ∷ tokComment ∷ []) ∷ [])
     (writes "#table(stroke: none,\ncolumns: 1,\nalign: (left, ),\n\n[ a],\n[);")
     -- table: \hline inside a cell is a normal command
-    ∷ example usual Text (env "tabular" (braced (tokWord "l" ∷ []) ∷ []) (tokWord "a" ∷ cmd "\\hline" [] ∷ []) ∷ []) (refusal 9 10)
+    ∷ example usual Text
+    (env "tabular" (braced (tokWord "l" ∷ []) ∷ []) (tokWord "a" ∷ cmd "\\hline" [] ∷ []) ∷ [])
+    (refusal 9 10)
     -- table: \hline as a symbol opens a cell
     ∷ example (ruleFor "hline" 0 ∷ usual) Text
     (env "tabular" (braced (tokWord "l" ∷ []) ∷ []) (tokSym "\\hline" ∷ []) ∷ [])

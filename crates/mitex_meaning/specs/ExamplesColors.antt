@@ -3,7 +3,8 @@ use mathlib.Core.Path.{_≡_, refl}
 use mathlib.Core.Bool.{true}
 use mathlib.Core.List.{List, [], _∷_}
 use Rattle.mitex_syntax.specs.Syntax.{TokenError, TokenLBracket, TokenRBracket, TokenTilde}
-use Rattle.mitex_meaning.specs.Examples.{Example, example, hold, usual, ruleAs, writes, tok, tokWord, tokSpace, tokNewLine, tokComment, curly, bracket, arg, braced, bracketed, cmd}
+use Rattle.mitex_meaning.specs.Examples.{Example, example, hold, usual, ruleAs, writes, tok, tokWord, tokSpace, tokNewLine, tokComment, curly, bracket, arg, braced}
+use Rattle.mitex_meaning.specs.Examples.{bracketed, cmd}
 use Rattle.mitex_meaning.specs.declared.LaTeXMode.the-variants.{Text, Math}
 
 abbrev pub colorExamples : List Example
@@ -16,7 +17,10 @@ colorExamples =
     (writes "mycolor(none, [red])[$ $$a b $]")
     -- \color: model in brackets, newline is trivia
     ∷ example usual Text
-    (cmd "\\color" (arg (tokNewLine ∷ tok TokenLBracket "[" ∷ tokWord "rg" ∷ curly (tokWord "b" ∷ []) ∷ tok TokenRBracket "]" ∷ tokComment ∷ curly (tokWord "red" ∷ []) ∷ tokWord "a" ∷ []) ∷ []) ∷ [])
+    (
+    cmd "\\color" (arg (tokNewLine ∷ tok TokenLBracket "[" ∷ tokWord "rg" ∷ curly (tokWord "b" ∷ []) ∷ tok TokenRBracket "]" ∷ tokComment ∷ curly (tokWord "red" ∷ []) ∷ tokWord "a" ∷ []) ∷ [])
+    ∷ []
+    )
     (writes "mycolor([rg{b}], [red])[a];")
     -- \color: an unclosed model takes everything
     ∷ example usual Text

@@ -4,7 +4,8 @@ use mathlib.Core.Bool.{true}
 use mathlib.Core.List.{List, [], _∷_}
 use Rattle.mitex_syntax.specs.Syntax.{TokenError, ItemFormula, ItemBegin, TokenCommandSym, ItemCmd}
 use Rattle.mitex_syntax.specs.Tree.Tree.{token}
-use Rattle.mitex_meaning.specs.Examples.{Example, example, hold, usual, ruleFor, ruleAs, writes, over, tok, tokWord, tokName, tokSym, tokSpace, tokNewLine, tokDollar, curly, arg, braced, cmd, env}
+use Rattle.mitex_meaning.specs.Examples.{Example, example, hold, usual, ruleFor, ruleAs, writes, over, tok, tokWord, tokName, tokSym, tokSpace, tokNewLine, tokDollar, curly}
+use Rattle.mitex_meaning.specs.Examples.{arg, braced, cmd, env}
 use Rattle.mitex_meaning.specs.Examples.Expected.{refusal}
 use Rattle.mitex_meaning.specs.declared.LaTeXMode.the-variants.{Text, Math}
 

@@ -9,8 +9,8 @@ use Rattle.mitex_syntax.specs.Syntax.{TokenDollar, TokenBeginMath, TokenEndMath
 use Rattle.mitex_syntax.specs.Syntax.{TokenSlash, TokenCaret, TokenUnderscore, TokenHash, TokenAsterisk, TokenAtSign, TokenDitto, TokenSemicolon, TokenLParen, TokenRParen}
 use Rattle.mitex_syntax.specs.Syntax.{TokenLBracket, TokenTilde, TokenCommandSym, ItemEnv, ItemTypstCode}
 use Rattle.mitex_syntax.specs.Tree.Tree.{token}
-use Rattle.mitex_meaning.specs.Examples.{Example, example, hold, ruleFor, ruleAs, ruleBy, writes, over, tok, tokWord, tokName, tokSym, tokSpace, tokBreak, tokNewLine, tokAmpersand, curly, arg, braced}
-use Rattle.mitex_meaning.specs.Examples.{bracketed, cmd, env}
+use Rattle.mitex_meaning.specs.Examples.{Example, example, hold, ruleFor, ruleAs, ruleBy, writes, over, tok, tokWord, tokName, tokSym, tokSpace, tokBreak, tokNewLine}
+use Rattle.mitex_meaning.specs.Examples.{tokAmpersand, curly, arg, braced, bracketed, cmd, env}
 use Rattle.mitex_meaning.specs.Examples.Expected.{text}
 use Rattle.mitex_meaning.specs.declared.LaTeXMode.the-variants.{Text, Math}
 

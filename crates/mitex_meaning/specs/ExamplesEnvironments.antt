@@ -5,7 +5,8 @@ use mathlib.Core.List.{List, [], _∷_, _++_}
 use Rattle.text.specs.Ascii.{ascii}
 use Rattle.mitex_syntax.specs.Syntax.{TokenError, ItemText, ItemBegin, ItemEnd, TokenCommandSym, ItemEnv}
 use Rattle.mitex_syntax.specs.Tree.Tree.{token}
-use Rattle.mitex_meaning.specs.Examples.{Example, example, hold, usual, ruleFor, writes, over, tok, tokWord, tokSym, tokSpace, tokBreak, tokNewLine, tokAmpersand, arg, braced, bracketed, cmd, env}
+use Rattle.mitex_meaning.specs.Examples.{Example, example, hold, usual, ruleFor, writes, over, tok, tokWord, tokSym, tokSpace, tokBreak, tokNewLine, tokAmpersand, arg}
+use Rattle.mitex_meaning.specs.Examples.{braced, bracketed, cmd, env}
 use Rattle.mitex_meaning.specs.Examples.Expected.{refusal}
 use Rattle.mitex_meaning.specs.declared.LaTeXMode.the-variants.{Text, Math}
 
@@ -90,7 +91,9 @@ environmentExamples =
     (env "matrix" [] (cmd "\\mbox" (braced (tokAmpersand ∷ tokNewLine ∷ []) ∷ []) ∷ []) ∷ [])
     (writes "mat(#textmath[zws ,zws ;];)")
     -- \item's arguments are not walked
-    ∷ example usual Text (env "itemize" [] (cmd "\\item" (bracketed (tok TokenError "?" ∷ []) ∷ []) ∷ []) ∷ []) (writes "\n- ")
+    ∷ example usual Text
+    (env "itemize" [] (cmd "\\item" (bracketed (tok TokenError "?" ∷ []) ∷ []) ∷ []) ∷ [])
+    (writes "\n- ")
     ∷ []
 
 pub environment-examples-hold : hold environmentExamples ≡ true

@@ -3,7 +3,8 @@ use mathlib.Core.Path.{_≡_, refl}
 use mathlib.Core.Bool.{true}
 use mathlib.Core.List.{List, [], _∷_}
 use Rattle.mitex_syntax.specs.Syntax.{ItemLR, ItemText, ItemFormula, ClauseLR, ItemAttachComponent, TokenDollar, TokenBeginMath, TokenEndMath, TokenCaret}
-use Rattle.mitex_meaning.specs.Examples.{Example, example, hold, usual, writes, over, tok, tokWord, tokName, tokSpace, tokBreak, tokNewLine, tokComment, tokAmpersand, tokDollar, curly, cmd, env}
+use Rattle.mitex_meaning.specs.Examples.{Example, example, hold, usual, writes, over, tok, tokWord, tokName, tokSpace, tokBreak, tokNewLine, tokComment, tokAmpersand}
+use Rattle.mitex_meaning.specs.Examples.{tokDollar, curly, cmd, env}
 use Rattle.mitex_meaning.specs.Examples.Expected.{refusal}
 use Rattle.mitex_meaning.specs.declared.LaTeXMode.the-variants.{Text, Math}
 
@@ -82,7 +83,9 @@ groupExamples =
     -- 8: the right texts as words
     ∷ example usual Text (over ItemFormula (tokWord "$" ∷ tokWord "x" ∷ tokWord "$" ∷ []) ∷ []) (refusal 8 1)
     -- 8: dollars of another text
-    ∷ example usual Text (over ItemFormula (tok TokenDollar "$$$" ∷ tokWord "x" ∷ tok TokenDollar "$$$" ∷ []) ∷ []) (refusal 8 1)
+    ∷ example usual Text
+    (over ItemFormula (tok TokenDollar "$$$" ∷ tokWord "x" ∷ tok TokenDollar "$$$" ∷ []) ∷ [])
+    (refusal 8 1)
     -- 8: an empty formula, in Math too
     ∷ example usual Math (over ItemFormula [] ∷ []) (refusal 8 1)
     ∷ []

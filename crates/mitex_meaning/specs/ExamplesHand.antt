@@ -7,7 +7,8 @@ use Rattle.text.specs.Ascii.{ascii}
 use Rattle.mitex_syntax.specs.Syntax.{ItemFormula, ItemAttachComponent, TokenWord, TokenCaret}
 use Rattle.mitex_syntax.specs.Tree.Tree.{token}
 use Rattle.mitex_meaning.specs.Outcome.{labelMost}
-use Rattle.mitex_meaning.specs.Examples.{Example, example, hold, fewRules, writes, over, tok, tokWord, tokSpace, tokBreak, tokNewLine, tokDollar, times, curly, braced, bracketed, cmd, env}
+use Rattle.mitex_meaning.specs.Examples.{Example, example, hold, fewRules, writes, over, tok, tokWord, tokSpace, tokBreak, tokNewLine, tokDollar, times, curly, braced}
+use Rattle.mitex_meaning.specs.Examples.{bracketed, cmd, env}
 use Rattle.mitex_meaning.specs.Examples.Expected.{refusal}
 use Rattle.mitex_meaning.specs.declared.LaTeXMode.the-variants.{Text, Math}
 
@@ -26,11 +27,15 @@ handExamples =
     -- Math {a}
     ∷ example fewRules Math (curly (tokWord "a" ∷ []) ∷ []) (writes "a ")
     -- Math x^2
-    ∷ example fewRules Math (over ItemAttachComponent (tokWord "x" ∷ tok TokenCaret "^" ∷ tokWord "2" ∷ []) ∷ []) (writes "x ^(2 )")
+    ∷ example fewRules Math
+    (over ItemAttachComponent (tokWord "x" ∷ tok TokenCaret "^" ∷ tokWord "2" ∷ []) ∷ [])
+    (writes "x ^(2 )")
     -- Math ^2
     ∷ example fewRules Math (over ItemAttachComponent (tok TokenCaret "^" ∷ tokWord "2" ∷ []) ∷ []) (writes "zws^(2 )")
     -- Text $x$
-    ∷ example fewRules Text (over ItemFormula (tokDollar ∷ tokWord "x" ∷ tokDollar ∷ []) ∷ []) (writes "#math.equation(block: false, $x $);")
+    ∷ example fewRules Text
+    (over ItemFormula (tokDollar ∷ tokWord "x" ∷ tokDollar ∷ []) ∷ [])
+    (writes "#math.equation(block: false, $x $);")
     -- item as row 1
     ∷ example fewRules Text (cmd "\\item" [] ∷ []) (refusal 11 1)
     -- table

@@ -7,7 +7,8 @@ use Rattle.text.specs.Ascii.{ascii}
 use Rattle.mitex_syntax.specs.Syntax.{TokenError, ItemFormula, TokenWord, ItemCmd}
 use Rattle.mitex_syntax.specs.Tree.Tree.{token}
 use Rattle.mitex_meaning.specs.Outcome.{labelMost}
-use Rattle.mitex_meaning.specs.Examples.{Example, example, hold, usual, writes, over, tok, tokWord, tokName, tokSpace, tokComment, tokDollar, times, curly, arg, braced, cmd, env}
+use Rattle.mitex_meaning.specs.Examples.{Example, example, hold, usual, writes, over, tok, tokWord, tokName, tokSpace, tokComment, tokDollar, times, curly, arg, braced, cmd}
+use Rattle.mitex_meaning.specs.Examples.{env}
 use Rattle.mitex_meaning.specs.Examples.Expected.{text, refusal}
 use Rattle.mitex_meaning.specs.declared.LaTeXMode.the-variants.{Text, Math}
 
@@ -21,7 +22,11 @@ labelExamples =
     (text (ascii "<" ++ (times (10 + labelMost) (ascii "k") ++ (ascii ">"))))
     -- label directly in a formula: env is None, so it is not held
     ∷ example usual Text
-    (over ItemFormula (tokDollar ∷ cmd "\\label" (braced (tokWord "k" ∷ []) ∷ []) ∷ tokDollar ∷ []) ∷ env "quote" [] [] ∷ [])
+    (
+    over ItemFormula (tokDollar ∷ cmd "\\label" (braced (tokWord "k" ∷ []) ∷ []) ∷ tokDollar ∷ [])
+    ∷ env "quote" [] []
+    ∷ []
+    )
     (writes "#math.equation(block: false, $$);#quote[];")
     -- label in a formula's curly group is held
     ∷ example usual Text
