@@ -186,10 +186,10 @@ def tree(t):
                 return f"{word} {trees(what[0][1][1:-1])}"
         return f"arg {trees(what)}"
     if kind == "ItemCmd" and what and what[0][0] == "ClauseCommandName" and readable(what[0][1]):
-        return f"cmd {string(what[0][1])} {trees(what[1:])}"
+        return f"cmdNode {string(what[0][1])} {trees(what[1:])}"
     if kind == "ItemEnv" and env_of(what):
         name, args, body = env_of(what)
-        return f"env {string(name)} {trees(args)} {trees(body)}"
+        return f"envNode {string(name)} {trees(args)} {trees(body)}"
     return f"over {kind} {trees(what)}"
 
 
@@ -321,7 +321,7 @@ NAMES = [
     ("Rattle.mitex_meaning.specs.Outcome", ["labelMost"]),
     ("Rattle.mitex_meaning.specs.Examples", """Example example hold fewRules usual ruleFor ruleAs ruleBy writes over tok
         tokWord tokName tokSym tokSpace tokBreak tokNewLine tokComment tokAmpersand tokDollar times curly bracket arg braced
-        bracketed cmd env""".split()),
+        bracketed cmdNode envNode""".split()),
     ("Rattle.mitex_meaning.specs.Examples.Expected", ["text", "refusal"]),
     ("Rattle.mitex_meaning.specs.declared.LaTeXMode.the-variants", ["Text", "Math"]),
 ]

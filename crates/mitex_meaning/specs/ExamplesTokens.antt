@@ -7,7 +7,7 @@ use Rattle.mitex_syntax.specs.Syntax.{TokenError, ClauseLR, ItemAttachComponent
 use Rattle.mitex_syntax.specs.Syntax.{TokenTilde, ItemTypstCode}
 use Rattle.mitex_syntax.specs.Tree.Tree.{token}
 use Rattle.mitex_meaning.specs.Examples.{Example, example, hold, usual, writes, over, tok, tokWord, tokName, tokSpace, tokBreak, tokNewLine, tokComment, tokAmpersand, arg}
-use Rattle.mitex_meaning.specs.Examples.{braced, cmd, env}
+use Rattle.mitex_meaning.specs.Examples.{braced, cmdNode, envNode}
 use Rattle.mitex_meaning.specs.declared.LaTeXMode.the-variants.{Text, Math}
 
 abbrev pub tokenExamples : List Example
@@ -33,7 +33,7 @@ tokenExamples =
     -- flag: & that closes a cell does not clear it, and it lives on past the table
     ∷ example usual Text
     (
-    env "tabular" (braced (tokWord "l" ∷ []) ∷ []) (tokWord "a" ∷ tokBreak ∷ tokAmpersand ∷ [])
+    envNode "tabular" (braced (tokWord "l" ∷ []) ∷ []) (tokWord "a" ∷ tokBreak ∷ tokAmpersand ∷ [])
     ∷ tokSpace
     ∷ tokWord "b"
     ∷ []
@@ -42,7 +42,7 @@ tokenExamples =
     -- flag: the same with \\
     ∷ example usual Text
     (
-    env "tabular" (braced (tokWord "l" ∷ []) ∷ []) (tokWord "a" ∷ tokBreak ∷ tokNewLine ∷ [])
+    envNode "tabular" (braced (tokWord "l" ∷ []) ∷ []) (tokWord "a" ∷ tokBreak ∷ tokNewLine ∷ [])
     ∷ tokSpace
     ∷ tokWord "b"
     ∷ []
@@ -51,7 +51,7 @@ tokenExamples =
     -- flag: a rule command outside cells does not clear it
     ∷ example usual Text
     (
-    env "tabular" (braced (tokWord "l" ∷ []) ∷ []) (tokWord "a" ∷ tokBreak ∷ tokNewLine ∷ cmd "\\hline" [] ∷ [])
+    envNode "tabular" (braced (tokWord "l" ∷ []) ∷ []) (tokWord "a" ∷ tokBreak ∷ tokNewLine ∷ cmdNode "\\hline" [] ∷ [])
     ∷ tokSpace
     ∷ tokWord "b"
     ∷ []
@@ -59,17 +59,17 @@ tokenExamples =
     (writes "#table(stroke: none,\ncolumns: 1,\nalign: (left, ),\n\n[a\n],\ntable.hline(stroke: .5pt),\n);b")
     -- flag: line breaks outside cells do not set it
     ∷ example usual Text
-    (env "tabular" (braced (tokWord "l" ∷ []) ∷ []) (tokBreak ∷ []) ∷ tokSpace ∷ tokWord "b" ∷ [])
+    (envNode "tabular" (braced (tokWord "l" ∷ []) ∷ []) (tokBreak ∷ []) ∷ tokSpace ∷ tokWord "b" ∷ [])
     (writes "#table(stroke: none,\ncolumns: 1,\nalign: (left, ),\n\n); b")
     -- flag: skipped \centering and \caption do not clear it
     ∷ example usual Text
-    (env "figure" [] (tokBreak ∷ cmd "\\centering" [] ∷ tokSpace ∷ tokWord "a" ∷ []) ∷ [])
+    (envNode "figure" [] (tokBreak ∷ cmdNode "\\centering" [] ∷ tokSpace ∷ tokWord "a" ∷ []) ∷ [])
     (writes "#figure()[\na];")
     -- flag: ItemEnd does not clear it
-    ∷ example usual Text (env "itemize" [] (tokBreak ∷ []) ∷ tokSpace ∷ tokWord "b" ∷ []) (writes "\n  b")
+    ∷ example usual Text (envNode "itemize" [] (tokBreak ∷ []) ∷ tokSpace ∷ tokWord "b" ∷ []) (writes "\n  b")
     -- flag: trivia that \color passes over is not converted
     ∷ example usual Text
-    (cmd "\\color" (arg (tokBreak ∷ tokWord "red" ∷ tokSpace ∷ tokWord "a" ∷ []) ∷ []) ∷ [])
+    (cmdNode "\\color" (arg (tokBreak ∷ tokWord "red" ∷ tokSpace ∷ tokWord "a" ∷ []) ∷ []) ∷ [])
     (writes "mycolor(none, [red])[ a];")
     -- flag: a skipped TokenWhiteSpace is left out whole
     ∷ example usual Text (tokBreak ∷ token TokenWhiteSpace (ascii "  " ++ (194 ∷ 160 ∷ [])) ∷ tokSpace ∷ []) (writes "\n ")
@@ -80,7 +80,7 @@ tokenExamples =
     -- block comment is unwalked
     ∷ example usual Text (over ItemBlockComment (tok TokenError "?" ∷ []) ∷ []) (writes "")
     -- \array writes nothing and is unwalked, not looked up
-    ∷ example usual Text (cmd "\\array" (braced (tok TokenError "?" ∷ []) ∷ []) ∷ []) (writes "")
+    ∷ example usual Text (cmdNode "\\array" (braced (tok TokenError "?" ∷ []) ∷ []) ∷ []) (writes "")
     -- fixed texts whatever the token's own
     ∷ example usual Text
     (tok TokenComma "zzz" ∷ tok TokenDitto "zzz" ∷ tok TokenLBrace "zzz" ∷ tok TokenTilde "zzz" ∷ [])
