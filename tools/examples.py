@@ -136,14 +136,14 @@ def paren(s):
 
 
 SHORT = {
-    ("TokenWhiteSpace", b" "): "space",
-    ("TokenLineBreak", b"\n"): "break",
-    ("ItemNewLine", b"\\\\"): "newline",
-    ("TokenComment", b"%"): "comment",
-    ("TokenAmpersand", b"&"): "ampersand",
-    ("TokenDollar", b"$"): "dollar",
+    ("TokenWhiteSpace", b" "): "tokSpace",
+    ("TokenLineBreak", b"\n"): "tokBreak",
+    ("ItemNewLine", b"\\\\"): "tokNewLine",
+    ("TokenComment", b"%"): "tokComment",
+    ("TokenAmpersand", b"&"): "tokAmpersand",
+    ("TokenDollar", b"$"): "tokDollar",
 }
-TOKENS = {"TokenWord": "word", "ClauseCommandName": "name", "TokenCommandSym": "sym"}
+TOKENS = {"TokenWord": "tokWord", "ClauseCommandName": "tokName", "TokenCommandSym": "tokSym"}
 GROUPS = {
     "ItemCurly": ("curly", ("TokenLBrace", b"{"), ("TokenRBrace", b"}")),
     "ItemBracket": ("bracket", ("TokenLBracket", b"["), ("TokenRBracket", b"]")),
@@ -186,10 +186,10 @@ def tree(t):
                 return f"{word} {trees(what[0][1][1:-1])}"
         return f"arg {trees(what)}"
     if kind == "ItemCmd" and what and what[0][0] == "ClauseCommandName" and readable(what[0][1]):
-        return f"cmd {string(what[0][1])} {trees(what[1:])}"
+        return f"cmdNode {string(what[0][1])} {trees(what[1:])}"
     if kind == "ItemEnv" and env_of(what):
         name, args, body = env_of(what)
-        return f"env {string(name)} {trees(args)} {trees(body)}"
+        return f"envNode {string(name)} {trees(args)} {trees(body)}"
     return f"over {kind} {trees(what)}"
 
 
@@ -197,7 +197,7 @@ def rule(r):
     name, kind, alias = r
     if not readable(name) or not readable(alias or b""):
         return f"ruleBy {paren(raw(name))} {kind} " + (f"(some {paren(raw(alias))})" if alias else "nothing")
-    return f"rule {string(name)} {kind}" if alias is None else f"ruleAs {string(name)} {kind} {string(alias)}"
+    return f"ruleFor {string(name)} {kind}" if alias is None else f"ruleAs {string(name)} {kind} {string(alias)}"
 
 
 def texts(t):
@@ -216,7 +216,7 @@ def rules_text(rules, usual, few):
     if rules == usual:
         return "usual"
     if rules == few:
-        return "few"
+        return "fewRules"
     own = [r for r in rules if r not in usual]
     names = {r[0] for r in own}
     if set(rules) == set(own) | {r for r in usual if r[0] not in names}:
@@ -302,11 +302,11 @@ def case(folder, usual, few):
     shows = (folder / "name").read_text().strip() if has_name else f"{len(root[1])} block" + "s" * (len(root[1]) > 1)
     shows = shows.replace(str(LABEL_MOST + 1), "one byte more").replace(str(LABEL_MOST), "the most bytes")
     rules = rules_text(rules if has_name else named(rules, root), usual, few)
-    parts = [f"case {rules} {mode}", trees(root[1]), f"({answer((folder / 'expected').read_bytes())})"]
+    parts = [f"example {rules} {mode}", trees(root[1]), f"({answer((folder / 'expected').read_bytes())})"]
     line = " ".join(parts)
     if len(line) <= WIDTH:
         return shows, [line]
-    first = ["case " + (rest := folded(rules))[0]] + rest[1:]
+    first = ["example " + (rest := folded(rules))[0]] + rest[1:]
     first[-1] += " " + mode
     return shows, first + folded(parts[1], WIDTH) + folded(parts[2])
 
@@ -319,9 +319,10 @@ NAMES = [
     ("Rattle.mitex_syntax.specs.Syntax", KINDS),
     ("Rattle.mitex_syntax.specs.Tree.Tree", ["token"]),
     ("Rattle.mitex_meaning.specs.Outcome", ["labelMost"]),
-    ("Rattle.mitex_meaning.specs.Examples", """Case case hold few usual rule ruleAs ruleBy writes over tok word name sym space break
-        newline comment ampersand dollar times curly bracket arg braced bracketed cmd env""".split()),
-    ("Rattle.mitex_meaning.specs.Examples.Answer", ["text", "refusal"]),
+    ("Rattle.mitex_meaning.specs.Examples", """Example example hold fewRules usual ruleFor ruleAs ruleBy writes over tok
+        tokWord tokName tokSym tokSpace tokBreak tokNewLine tokComment tokAmpersand tokDollar times curly bracket arg braced
+        bracketed cmdNode envNode""".split()),
+    ("Rattle.mitex_meaning.specs.Examples.Expected", ["text", "refusal"]),
     ("Rattle.mitex_meaning.specs.declared.LaTeXMode.the-variants", ["Text", "Math"]),
 ]
 
@@ -341,12 +342,14 @@ def uses(body):
     return lines
 
 
-def table(about, cases):
-    lines = ["abbrev pub cases : List Case", "cases ="]
+def table(name, about, cases):
+    one = name.lower().removesuffix("s")
+    examples, law = f"{one}Examples", f"{one}-examples-hold"
+    lines = [f"abbrev pub {examples} : List Example", f"{examples} ="]
     for i, (shows, case_lines) in enumerate(cases):
         lines += [f"    -- {shows}", "    " + ("∷ " if i else "") + case_lines[0]] + ["    " + more for more in case_lines[1:]]
     body = "\n".join(lines + ["    ∷ []", ""])
-    body += "\n".join(["", "pub cases-hold : hold cases ≡ true", "unfolding hold", "cases-hold = refl", ""])
+    body += "\n".join(["", f"pub {law} : hold {examples} ≡ true", "unfolding hold", f"{law} = refl", ""])
     lists = "List, [], _∷_, _++_" if " ++ " in body else "List, [], _∷_"
     head = ["-- Worked conversions: " + about, "use mathlib.Core.Path.{_≡_, refl}", "use mathlib.Core.Bool.{true}"]
     head.append("use mathlib.Core.List.{" + lists + "}")
@@ -359,7 +362,7 @@ def main():
     few = read_rules((vectors / "hand-00" / "rules.bin").read_bytes())
     for name, about, spans in TABLES:
         cases = [case(folder, usual, few) for folder in folders(vectors, spans)]
-        (SPECS / f"Examples{name}.antt").write_text(table(about, cases))
+        (SPECS / f"Examples{name}.antt").write_text(table(name, about, cases))
 
 
 main()

@@ -91,12 +91,12 @@ braced ts = arg (curly ts ∷ [])
 abbrev pub bracketed : List Tree → Tree
 bracketed ts = arg (bracket ts ∷ [])
 
-abbrev pub cmd : String → List Tree → Tree
-cmd s ts = over ItemCmd (tokName s ∷ ts)
+abbrev pub cmdNode : String → List Tree → Tree
+cmdNode s ts = over ItemCmd (tokName s ∷ ts)
 
 -- an environment with its arguments and what stands in it
-abbrev pub env : String → List Tree → List Tree → Tree
-env s args ts = over ItemEnv (over ItemBegin (tokSym s ∷ args) ∷ (ts ++ (over ItemEnd (tokSym s ∷ []) ∷ [])))
+abbrev pub envNode : String → List Tree → List Tree → Tree
+envNode s args ts = over ItemEnv (over ItemBegin (tokSym s ∷ args) ∷ (ts ++ (over ItemEnd (tokSym s ∷ []) ∷ [])))
 
 -- ---- rules
 

@@ -9,8 +9,8 @@ use Rattle.mitex_syntax.specs.Syntax.{TokenDollar, TokenBeginMath, TokenEndMath
 use Rattle.mitex_syntax.specs.Syntax.{TokenSlash, TokenCaret, TokenUnderscore, TokenHash, TokenAsterisk, TokenAtSign, TokenDitto, TokenSemicolon, TokenLParen, TokenRParen}
 use Rattle.mitex_syntax.specs.Syntax.{TokenLBracket, TokenTilde, TokenCommandSym, ItemEnv, ItemTypstCode}
 use Rattle.mitex_syntax.specs.Tree.Tree.{token}
-use Rattle.mitex_meaning.specs.Examples.{Example, example, hold, ruleFor, ruleAs, ruleBy, writes, over, tok, tokWord, tokName, tokSym, tokSpace, tokBreak, tokNewLine, tokAmpersand, curly, arg, braced}
-use Rattle.mitex_meaning.specs.Examples.{bracketed, cmd, env}
+use Rattle.mitex_meaning.specs.Examples.{Example, example, hold, ruleFor, ruleAs, ruleBy, writes, over, tok, tokWord, tokName, tokSym, tokSpace, tokBreak, tokNewLine}
+use Rattle.mitex_meaning.specs.Examples.{tokAmpersand, curly, arg, braced, bracketed, cmdNode, envNode}
 use Rattle.mitex_meaning.specs.Examples.Expected.{text}
 use Rattle.mitex_meaning.specs.declared.LaTeXMode.the-variants.{Text, Math}
 
@@ -19,7 +19,7 @@ documentExamples =
     -- 1 block
     example (ruleFor "" 0 ∷ ruleFor "textcolor" 2 ∷ []) Math
     (
-    cmd "\\textcolor" (braced (tokWord "red" ∷ []) ∷ braced (tok TokenAsterisk "*" ∷ over ItemText (token TokenWhiteSpace (226 ∷ 128 ∷ 128 ∷ []) ∷ tok TokenComment "% note" ∷ []) ∷ []) ∷ [])
+    cmdNode "\\textcolor" (braced (tokWord "red" ∷ []) ∷ braced (tok TokenAsterisk "*" ∷ over ItemText (token TokenWhiteSpace (226 ∷ 128 ∷ 128 ∷ []) ∷ tok TokenComment "% note" ∷ []) ∷ []) ∷ [])
     ∷ []
     )
     (text (ascii "mitexcolor(none, [red])[$\\*" ++ ((226 ∷ 128 ∷ 128 ∷ []) ++ (ascii "$]"))))
@@ -34,7 +34,7 @@ documentExamples =
     ∷ tok TokenSlash "/"
     ∷ over ItemEnv (
     over ItemBegin (token TokenCommandSym (229 ∷ 155 ∷ 190 ∷ []) ∷ [])
-    ∷ cmd "\\caption" (braced (tok TokenSemicolon ";" ∷ tokBreak ∷ token TokenWhiteSpace (227 ∷ 128 ∷ 128 ∷ []) ∷ []) ∷ [])
+    ∷ cmdNode "\\caption" (braced (tok TokenSemicolon ";" ∷ tokBreak ∷ token TokenWhiteSpace (227 ∷ 128 ∷ 128 ∷ []) ∷ []) ∷ [])
     ∷ over ItemEnd (token TokenCommandSym (229 ∷ 155 ∷ 190 ∷ []) ∷ [])
     ∷ []
     )
@@ -55,14 +55,14 @@ documentExamples =
     (
     tok TokenHash "#"
     ∷ tokBreak
-    ∷ cmd "\\textcolor" (braced [] ∷ braced (cmd "\\includegraphics" (bracketed [] ∷ braced (tokWord "a/b" ∷ []) ∷ []) ∷ []) ∷ [])
+    ∷ cmdNode "\\textcolor" (braced [] ∷ braced (cmdNode "\\includegraphics" (bracketed [] ∷ braced (tokWord "a/b" ∷ []) ∷ []) ∷ []) ∷ [])
     ∷ token TokenWhiteSpace (9 ∷ [])
     ∷ over ItemEnv (
     over ItemBegin (token TokenCommandSym (ascii "Zitat-" ++ (195 ∷ 159 ∷ [])) ∷ [])
     ∷ tokBreak
     ∷ over ItemFormula (
     tok TokenBeginMath "\\["
-    ∷ env "equation" [] []
+    ∷ envNode "equation" [] []
     ∷ tokSym "\\section"
     ∷ over ItemAttachComponent (tokBreak ∷ tok TokenUnderscore "_" ∷ [])
     ∷ tokSym "\\substack"
@@ -80,10 +80,10 @@ documentExamples =
     -- 11 blocks
     ∷ example (ruleFor "" 0 ∷ ruleFor " " 0 ∷ ruleFor "color" 1 ∷ ruleFor "rm" 1 ∷ ruleFor "tabular" 10 ∷ []) Text
     (
-    env "tabular" (braced (tokWord "\nlc" ∷ []) ∷ []) []
+    envNode "tabular" (braced (tokWord "\nlc" ∷ []) ∷ []) []
     ∷ tokWord "1"
-    ∷ cmd "\\color" (arg (tok TokenWhiteSpace "\n" ∷ []) ∷ [])
-    ∷ curly (cmd "\\rm" (arg (tok TokenWhiteSpace "  " ∷ []) ∷ []) ∷ [])
+    ∷ cmdNode "\\color" (arg (tok TokenWhiteSpace "\n" ∷ []) ∷ [])
+    ∷ curly (cmdNode "\\rm" (arg (tok TokenWhiteSpace "  " ∷ []) ∷ []) ∷ [])
     ∷ token TokenWhiteSpace (11 ∷ [])
     ∷ tokBreak
     ∷ tok TokenComment "% note"
@@ -97,22 +97,22 @@ documentExamples =
     -- 41 blocks
     ∷ example (ruleFor "right" 2 ∷ ruleBy (ascii "textcolor") 10 (some (195 ∷ 169 ∷ [])) ∷ ruleBy (240 ∷ 159 ∷ 142 ∷ 137 ∷ []) 2 (some (ascii "a b")) ∷ []) Text
     (
-    cmd "\\textcolor" (braced (tokWord "red" ∷ []) ∷ braced [] ∷ [])
+    cmdNode "\\textcolor" (braced (tokWord "red" ∷ []) ∷ braced [] ∷ [])
     ∷ over ItemAttachComponent (tok TokenRParen ")" ∷ tokWord "a" ∷ [])
     ∷ tok TokenComma ","
-    ∷ over ItemTypstCode (tok TokenCaret "^" ∷ cmd "\\color" (braced (tokWord "red" ∷ []) ∷ []) ∷ [])
+    ∷ over ItemTypstCode (tok TokenCaret "^" ∷ cmdNode "\\color" (braced (tokWord "red" ∷ []) ∷ []) ∷ [])
     ∷ tok TokenWhiteSpace "\n"
     ∷ over ItemAttachComponent []
     ∷ token TokenWhiteSpace (227 ∷ 128 ∷ 128 ∷ [])
-    ∷ cmd "\\colorbox" (braced (tokWord "red" ∷ []) ∷ [])
+    ∷ cmdNode "\\colorbox" (braced (tokWord "red" ∷ []) ∷ [])
     ∷ tok TokenLParen "("
     ∷ over ItemBracket (over ItemLR (over ItemBracket (tokWord "|" ∷ over ClauseLR (tokWord "\\leftx" ∷ []) ∷ []) ∷ []) ∷ [])
     ∷ tok TokenApostrophe "'"
     ∷ tokWord "."
     ∷ over ItemLR (over ClauseLR (tokName "\\left" ∷ tokWord "|" ∷ []) ∷ over ClauseLR (tokName "\\right" ∷ tokWord ")" ∷ []) ∷ [])
-    ∷ over ScopeRoot (cmd "\\textcolor" (braced (tokWord "red" ∷ []) ∷ braced (tokWord "ab" ∷ []) ∷ []) ∷ [])
+    ∷ over ScopeRoot (cmdNode "\\textcolor" (braced (tokWord "red" ∷ []) ∷ braced (tokWord "ab" ∷ []) ∷ []) ∷ [])
     ∷ tokNewLine
-    ∷ over ItemAttachComponent (token TokenWhiteSpace (225 ∷ 154 ∷ 128 ∷ []) ∷ token TokenWord (195 ∷ 159 ∷ []) ∷ tok TokenCaret "^" ∷ cmd "\\colorbox" [] ∷ token TokenWhiteSpace (12 ∷ []) ∷ [])
+    ∷ over ItemAttachComponent (token TokenWhiteSpace (225 ∷ 154 ∷ 128 ∷ []) ∷ token TokenWord (195 ∷ 159 ∷ []) ∷ tok TokenCaret "^" ∷ cmdNode "\\colorbox" [] ∷ token TokenWhiteSpace (12 ∷ []) ∷ [])
     ∷ over ItemBlockComment []
     ∷ over ItemBracket (
     over ItemTypstCode (
@@ -142,16 +142,16 @@ documentExamples =
     ∷ tok TokenDollar "$$"
     ∷ tok TokenDitto "\""
     ∷ tok TokenComment "% note"
-    ∷ cmd "\\label" (braced (tokWord "lab:16" ∷ []) ∷ [])
+    ∷ cmdNode "\\label" (braced (tokWord "lab:16" ∷ []) ∷ [])
     ∷ tok TokenDitto "\""
     ∷ tok TokenLBracket "["
-    ∷ over ItemLR (cmd "\\right" (braced (over ItemParen (tokSym "\\right" ∷ []) ∷ []) ∷ []) ∷ [])
+    ∷ over ItemLR (cmdNode "\\right" (braced (over ItemParen (tokSym "\\right" ∷ []) ∷ []) ∷ []) ∷ [])
     ∷ over ClauseLR (tokSym "\\leftx" ∷ [])
     ∷ over ClauseLR (tokName "\\right" ∷ [])
     ∷ over ItemTypstCode (tok TokenTilde "~" ∷ [])
     ∷ tok TokenDitto "\""
     ∷ tok TokenEndMath "\\]"
-    ∷ cmd "\\label" (braced (token TokenWord ((226 ∷ 128 ∷ 168 ∷ 226 ∷ 128 ∷ 168 ∷ []) ++ (ascii "lab:10")) ∷ []) ∷ [])
+    ∷ cmdNode "\\label" (braced (token TokenWord ((226 ∷ 128 ∷ 168 ∷ 226 ∷ 128 ∷ 168 ∷ []) ++ (ascii "lab:10")) ∷ []) ∷ [])
     ∷ []
     )
     (text (ascii "mitexcolor(none, [red])[];\\)a\\,^\\color{red}\n"
@@ -171,7 +171,7 @@ documentExamples =
     ∷ example (ruleAs "" 0 "#" ∷ ruleFor "colorbox" 2 ∷ ruleBy (232 ∷ 161 ∷ 168 ∷ []) 0 (some (ascii "#strong")) ∷ []) Math
     (
     tok TokenAtSign "@"
-    ∷ cmd "\\colorbox" (
+    ∷ cmdNode "\\colorbox" (
     braced (tokWord "red" ∷ [])
     ∷ braced (
     over ItemAttachComponent (
@@ -196,10 +196,10 @@ documentExamples =
     over ItemBegin (token TokenCommandSym (ascii "list" ++ (226 ∷ 128 ∷ 131 ∷ 226 ∷ 128 ∷ 168 ∷ [])) ∷ [])
     ∷ token TokenLineBreak ((13 ∷ []) ++ (ascii "\n"))
     ∷ token TokenWhiteSpace (194 ∷ 133 ∷ [])
-    ∷ cmd "\\item" []
-    ∷ env "tabular" (braced (token TokenWord ((225 ∷ 160 ∷ 142 ∷ []) ++ (ascii "lclc")) ∷ []) ∷ []) (tokNewLine ∷ cmd "\\midrule" [] ∷ tokAmpersand ∷ [])
+    ∷ cmdNode "\\item" []
+    ∷ envNode "tabular" (braced (token TokenWord ((225 ∷ 160 ∷ 142 ∷ []) ++ (ascii "lclc")) ∷ []) ∷ []) (tokNewLine ∷ cmdNode "\\midrule" [] ∷ tokAmpersand ∷ [])
     ∷ tokBreak
-    ∷ cmd "\\item" []
+    ∷ cmdNode "\\item" []
     ∷ over ItemEnd (token TokenCommandSym (ascii "list" ++ (226 ∷ 128 ∷ 131 ∷ 226 ∷ 128 ∷ 168 ∷ [])) ∷ [])
     ∷ []
     )

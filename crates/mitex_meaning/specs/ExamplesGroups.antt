@@ -3,7 +3,8 @@ use mathlib.Core.Path.{_≡_, refl}
 use mathlib.Core.Bool.{true}
 use mathlib.Core.List.{List, [], _∷_}
 use Rattle.mitex_syntax.specs.Syntax.{ItemLR, ItemText, ItemFormula, ClauseLR, ItemAttachComponent, TokenDollar, TokenBeginMath, TokenEndMath, TokenCaret}
-use Rattle.mitex_meaning.specs.Examples.{Example, example, hold, usual, writes, over, tok, tokWord, tokName, tokSpace, tokBreak, tokNewLine, tokComment, tokAmpersand, tokDollar, curly, cmd, env}
+use Rattle.mitex_meaning.specs.Examples.{Example, example, hold, usual, writes, over, tok, tokWord, tokName, tokSpace, tokBreak, tokNewLine, tokComment, tokAmpersand}
+use Rattle.mitex_meaning.specs.Examples.{tokDollar, curly, cmdNode, envNode}
 use Rattle.mitex_meaning.specs.Examples.Expected.{refusal}
 use Rattle.mitex_meaning.specs.declared.LaTeXMode.the-variants.{Text, Math}
 
@@ -34,12 +35,12 @@ groupExamples =
     -- curly: white space is written, then zws
     ∷ example usual Math (curly (tokSpace ∷ []) ∷ []) (writes " zws ")
     -- curly in Text keeps the environment: \item inside works
-    ∷ example usual Text (env "itemize" [] (curly (cmd "\\item" [] ∷ []) ∷ []) ∷ []) (writes "\n- ")
+    ∷ example usual Text (envNode "itemize" [] (curly (cmdNode "\\item" [] ∷ []) ∷ []) ∷ []) (writes "\n- ")
     -- curly in Math in a list: \item is 11
-    ∷ example usual Math (env "itemize" [] (curly (cmd "\\item" [] ∷ []) ∷ []) ∷ []) (refusal 11 6)
+    ∷ example usual Math (envNode "itemize" [] (curly (cmdNode "\\item" [] ∷ []) ∷ []) ∷ []) (refusal 11 6)
     -- curly in a matrix: newline inside writes nothing, & stays &
     ∷ example usual Math
-    (env "matrix" [] (tokWord "a" ∷ curly (tokNewLine ∷ tokAmpersand ∷ []) ∷ tokNewLine ∷ tokAmpersand ∷ []) ∷ [])
+    (envNode "matrix" [] (tokWord "a" ∷ curly (tokNewLine ∷ tokAmpersand ∷ []) ∷ tokNewLine ∷ tokAmpersand ∷ []) ∷ [])
     (writes "mat(a &zws ;zws ,)")
     -- formula of one token: first and last are the same
     ∷ example usual Text (over ItemFormula (tokDollar ∷ []) ∷ []) (writes "#math.equation(block: false, $$);")
@@ -82,7 +83,9 @@ groupExamples =
     -- 8: the right texts as words
     ∷ example usual Text (over ItemFormula (tokWord "$" ∷ tokWord "x" ∷ tokWord "$" ∷ []) ∷ []) (refusal 8 1)
     -- 8: dollars of another text
-    ∷ example usual Text (over ItemFormula (tok TokenDollar "$$$" ∷ tokWord "x" ∷ tok TokenDollar "$$$" ∷ []) ∷ []) (refusal 8 1)
+    ∷ example usual Text
+    (over ItemFormula (tok TokenDollar "$$$" ∷ tokWord "x" ∷ tok TokenDollar "$$$" ∷ []) ∷ [])
+    (refusal 8 1)
     -- 8: an empty formula, in Math too
     ∷ example usual Math (over ItemFormula [] ∷ []) (refusal 8 1)
     ∷ []

@@ -6,7 +6,8 @@ use Rattle.text.specs.Ascii.{ascii}
 use Rattle.mitex_syntax.specs.Syntax.{TokenError, ClauseLR, ItemAttachComponent, ItemBegin, TokenLBrace, ItemBlockComment, TokenWhiteSpace, TokenComma, TokenCaret, TokenDitto}
 use Rattle.mitex_syntax.specs.Syntax.{TokenTilde, ItemTypstCode}
 use Rattle.mitex_syntax.specs.Tree.Tree.{token}
-use Rattle.mitex_meaning.specs.Examples.{Example, example, hold, usual, writes, over, tok, tokWord, tokName, tokSpace, tokBreak, tokNewLine, tokComment, tokAmpersand, arg, braced, cmd, env}
+use Rattle.mitex_meaning.specs.Examples.{Example, example, hold, usual, writes, over, tok, tokWord, tokName, tokSpace, tokBreak, tokNewLine, tokComment, tokAmpersand, arg}
+use Rattle.mitex_meaning.specs.Examples.{braced, cmdNode, envNode}
 use Rattle.mitex_meaning.specs.declared.LaTeXMode.the-variants.{Text, Math}
 
 abbrev pub tokenExamples : List Example
@@ -18,23 +19,39 @@ tokenExamples =
     -- flag: the lone dot of ClauseLR does not clear it
     ∷ example usual Math (over ClauseLR (tokName "\\left" ∷ tokBreak ∷ tokWord "." ∷ tokSpace ∷ []) ∷ []) (writes "lr(\n   ")
     -- flag: another word of ClauseLR clears it
-    ∷ example usual Math (over ClauseLR (tokName "\\left" ∷ tokBreak ∷ tokWord "," ∷ tokSpace ∷ []) ∷ []) (writes "lr(\n ,    ")
+    ∷ example usual Math
+    (over ClauseLR (tokName "\\left" ∷ tokBreak ∷ tokWord "," ∷ tokSpace ∷ []) ∷ [])
+    (writes "lr(\n ,    ")
     -- flag: the splitting caret does not clear it
-    ∷ example usual Math (over ItemAttachComponent (tokWord "x" ∷ tokBreak ∷ tok TokenCaret "^" ∷ tokSpace ∷ []) ∷ []) (writes "x \n^()")
+    ∷ example usual Math
+    (over ItemAttachComponent (tokWord "x" ∷ tokBreak ∷ tok TokenCaret "^" ∷ tokSpace ∷ []) ∷ [])
+    (writes "x \n^()")
     -- flag: in Text the caret is converted and clears it
-    ∷ example usual Text (over ItemAttachComponent (tokWord "x" ∷ tokBreak ∷ tok TokenCaret "^" ∷ tokSpace ∷ []) ∷ []) (writes "x\n\\^ ")
+    ∷ example usual Text
+    (over ItemAttachComponent (tokWord "x" ∷ tokBreak ∷ tok TokenCaret "^" ∷ tokSpace ∷ []) ∷ [])
+    (writes "x\n\\^ ")
     -- flag: & that closes a cell does not clear it, and it lives on past the table
     ∷ example usual Text
-    (env "tabular" (braced (tokWord "l" ∷ []) ∷ []) (tokWord "a" ∷ tokBreak ∷ tokAmpersand ∷ []) ∷ tokSpace ∷ tokWord "b" ∷ [])
+    (
+    envNode "tabular" (braced (tokWord "l" ∷ []) ∷ []) (tokWord "a" ∷ tokBreak ∷ tokAmpersand ∷ [])
+    ∷ tokSpace
+    ∷ tokWord "b"
+    ∷ []
+    )
     (writes "#table(stroke: none,\ncolumns: 1,\nalign: (left, ),\n\n[a\n], );b")
     -- flag: the same with \\
     ∷ example usual Text
-    (env "tabular" (braced (tokWord "l" ∷ []) ∷ []) (tokWord "a" ∷ tokBreak ∷ tokNewLine ∷ []) ∷ tokSpace ∷ tokWord "b" ∷ [])
+    (
+    envNode "tabular" (braced (tokWord "l" ∷ []) ∷ []) (tokWord "a" ∷ tokBreak ∷ tokNewLine ∷ [])
+    ∷ tokSpace
+    ∷ tokWord "b"
+    ∷ []
+    )
     (writes "#table(stroke: none,\ncolumns: 1,\nalign: (left, ),\n\n[a\n],\n);b")
     -- flag: a rule command outside cells does not clear it
     ∷ example usual Text
     (
-    env "tabular" (braced (tokWord "l" ∷ []) ∷ []) (tokWord "a" ∷ tokBreak ∷ tokNewLine ∷ cmd "\\hline" [] ∷ [])
+    envNode "tabular" (braced (tokWord "l" ∷ []) ∷ []) (tokWord "a" ∷ tokBreak ∷ tokNewLine ∷ cmdNode "\\hline" [] ∷ [])
     ∷ tokSpace
     ∷ tokWord "b"
     ∷ []
@@ -42,15 +59,17 @@ tokenExamples =
     (writes "#table(stroke: none,\ncolumns: 1,\nalign: (left, ),\n\n[a\n],\ntable.hline(stroke: .5pt),\n);b")
     -- flag: line breaks outside cells do not set it
     ∷ example usual Text
-    (env "tabular" (braced (tokWord "l" ∷ []) ∷ []) (tokBreak ∷ []) ∷ tokSpace ∷ tokWord "b" ∷ [])
+    (envNode "tabular" (braced (tokWord "l" ∷ []) ∷ []) (tokBreak ∷ []) ∷ tokSpace ∷ tokWord "b" ∷ [])
     (writes "#table(stroke: none,\ncolumns: 1,\nalign: (left, ),\n\n); b")
     -- flag: skipped \centering and \caption do not clear it
-    ∷ example usual Text (env "figure" [] (tokBreak ∷ cmd "\\centering" [] ∷ tokSpace ∷ tokWord "a" ∷ []) ∷ []) (writes "#figure()[\na];")
+    ∷ example usual Text
+    (envNode "figure" [] (tokBreak ∷ cmdNode "\\centering" [] ∷ tokSpace ∷ tokWord "a" ∷ []) ∷ [])
+    (writes "#figure()[\na];")
     -- flag: ItemEnd does not clear it
-    ∷ example usual Text (env "itemize" [] (tokBreak ∷ []) ∷ tokSpace ∷ tokWord "b" ∷ []) (writes "\n  b")
+    ∷ example usual Text (envNode "itemize" [] (tokBreak ∷ []) ∷ tokSpace ∷ tokWord "b" ∷ []) (writes "\n  b")
     -- flag: trivia that \color passes over is not converted
     ∷ example usual Text
-    (cmd "\\color" (arg (tokBreak ∷ tokWord "red" ∷ tokSpace ∷ tokWord "a" ∷ []) ∷ []) ∷ [])
+    (cmdNode "\\color" (arg (tokBreak ∷ tokWord "red" ∷ tokSpace ∷ tokWord "a" ∷ []) ∷ []) ∷ [])
     (writes "mycolor(none, [red])[ a];")
     -- flag: a skipped TokenWhiteSpace is left out whole
     ∷ example usual Text (tokBreak ∷ token TokenWhiteSpace (ascii "  " ++ (194 ∷ 160 ∷ [])) ∷ tokSpace ∷ []) (writes "\n ")
@@ -61,7 +80,7 @@ tokenExamples =
     -- block comment is unwalked
     ∷ example usual Text (over ItemBlockComment (tok TokenError "?" ∷ []) ∷ []) (writes "")
     -- \array writes nothing and is unwalked, not looked up
-    ∷ example usual Text (cmd "\\array" (braced (tok TokenError "?" ∷ []) ∷ []) ∷ []) (writes "")
+    ∷ example usual Text (cmdNode "\\array" (braced (tok TokenError "?" ∷ []) ∷ []) ∷ []) (writes "")
     -- fixed texts whatever the token's own
     ∷ example usual Text
     (tok TokenComma "zzz" ∷ tok TokenDitto "zzz" ∷ tok TokenLBrace "zzz" ∷ tok TokenTilde "zzz" ∷ [])
