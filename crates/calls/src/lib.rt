@@ -43,9 +43,8 @@ const SHORT_BLOCKS: usize = 64;
 
 const SHORT_TEXT: usize = 4096;
 
-// The same for a document that is not short, and not long either.
-const MIDDLE_DRAFT: usize = 32768;
-
+// A document that is not short, and not long either, has rows for fewer blocks. Its text is drafted as that of any other: what a table
+// comes to is four times as long as its tokens.
 const MIDDLE_ROWS: usize = ROW_SIZE * MIDDLE_BLOCKS;
 
 const MIDDLE_BLOCKS: usize = 128;
@@ -266,7 +265,7 @@ fn convert_longer<'a>(
         (now (out .entry)) (now (ledger .entry)) r (now (out .exit)) (now (ledger .exit)) ⌝ }
 {
     if is_within(text, blocks, MIDDLE_TEXT, MIDDLE_BLOCKS) {
-        let mut draft = [0u8; MIDDLE_DRAFT];
+        let mut draft = [0u8; DRAFT];
         let mut draft_rows = [0u8; MIDDLE_ROWS];
         return convert_by_draft(
             &mut draft,

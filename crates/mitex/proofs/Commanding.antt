@@ -1,20 +1,21 @@
 -- Laws of the arms of commands: what a command comes to once its name and its rule are known.
 use mathlib.Core.Path.{_≡_, refl, sym, ap, subst, _∙_}
-use mathlib.Core.Bool.{Bool, cond}
+use mathlib.Core.Bool.{Bool, true, false, cond}
 use mathlib.Core.Option.{Option}
 use mathlib.Core.List.{List, _++_}
 use Prim.Native.Nat.{ℕ}
+use native.Mathlib.Nat.{add-zero}
 use Rattle.text.specs.Compare.{same}
 use Rattle.mitex_spec.specs.Rules.{Rule}
 use Rattle.mitex_syntax.specs.Tree.{Forest}
 use Rattle.mitex_meaning.specs.Outcome.{Context, Carry, Conv, after, inEnv}
-use Rattle.mitex_meaning.specs.Outcome.Outcome.{refused}
-use Rattle.mitex_meaning.specs.State.{contextOf}
 use Rattle.mitex_meaning.specs.Texts.{leftParen, leftBracket, substackName}
 use Rattle.mitex_meaning.specs.Colors.{colorAlias, bodyLoop, argumentsLoop}
 use Rattle.mitex_meaning.specs.Commands.{argumentsOf, argumentsBy, stackEnv, writtenAs, command}
 use Rattle.mitex_meaning.specs.declared.LaTeXMode.{LaTeXMode}
 use Rattle.mitex_meaning.specs.declared.LaTeXMode.the-variants.{Text, Math}
+use Rattle.mitex_commands.specs.Leaves.{stackIn}
+use Rattle.mitex_meaning.specs.declared.LaTeXEnv.{LaTeXEnv}
 use Rattle.mitex_meaning.specs.declared.LaTeXEnv.the-variants.{SubStack}
 use Rattle.mitex_meaning.specs.declared.Arguments.{Arguments}
 use Rattle.mitex_meaning.specs.declared.Converter.{Converter}
@@ -23,37 +24,23 @@ use Rattle.mitex_meaning.specs.declared.ModelPart.{ModelPart}
 use Rattle.mitex_meaning.specs.declared.Loop.{Loop}
 use Rattle.mitex.specs.Walks.{Colors}
 use Rattle.mitex_loops.specs.Given.{numberOf}
-use Rattle.mitex_plans.specs.Plans.{Means, argumentsIn, opening, ArgumentsMean}
-use Rattle.mitex_plans.specs.Plans.ArgumentsMean.{missing, takes}
-use Rattle.mitex_plans.specs.declared.Plan.{Plan}
-use Rattle.mitex_plans.specs.declared.ArgumentsPlan.{ArgumentsPlan}
-use Rattle.mitex_plans.specs.declared.ArgumentsPlan.the-variants.{Missing, Takes}
 
 -- ---- by rule
 
 -- by how a command takes its arguments, in a stack or not
 pub normal-written :
     (k : ℕ) (w : List ℕ) (conv : Conv) (x : Context) (f : Forest) (c : Carry) (how : Arguments) (b : Bool) → how ≡ argumentsOf k (x .mode) w
-    → b ≡ same w substackName → writtenAs k w conv x f c ≡ after w (argumentsIn how b conv x f c)
+    → b ≡ same w substackName → writtenAs k w conv x f c ≡ after w (argumentsBy how conv (cond b (inEnv SubStack x) x) f c)
 normal-written k w conv x f c how b h i =
     ap (λ (a : Arguments). after w (argumentsBy a conv (stackEnv w x) f c)) (sym h)
     ∙ ap (λ (y : Bool). after w (argumentsBy how conv (cond y (inEnv SubStack x) x) f c)) (sym i)
 
-module _ {how : Arguments} {b : Bool} {c : Converter} {rs : List Rule} {f : Forest} {rows text : List ℕ} {r : ArgumentsPlan}
-    (m : ArgumentsMean how b c rs f rows text r) where
-  -- the argument that is needed is missing
-  pub arguments-missing : r ≡ Missing → (conv : Conv) (k : Carry) → argumentsIn how b conv (contextOf rs c) f k ≡ refused 12 0
-  arguments-missing e = go (subst (ArgumentsMean how b c rs f rows text) e m)
-    where
-      go : ArgumentsMean how b c rs f rows text Missing → (conv : Conv) (k : Carry) → argumentsIn how b conv (contextOf rs c) f k ≡ refused 12 0
-      go (missing h) = h
-
-  -- the arguments are walked by a plan
-  pub arguments-taken : {opens : Bool} {plan : Plan} → r ≡ Takes opens plan → Means (argumentsIn how b) (opening opens) c rs f rows text plan
-  arguments-taken {opens} {plan} e = go (subst (ArgumentsMean how b c rs f rows text) e m)
-    where
-      go : ArgumentsMean how b c rs f rows text (Takes opens plan) → Means (argumentsIn how b) (opening opens) c rs f rows text plan
-      go (takes h) = h
+-- in the place that the code has: a stack is not further in
+pub stacked :
+    (x : Context) (b : Bool) {v : LaTeXEnv} → v ≡ stackIn (x .env) b
+    → cond b (inEnv SubStack x) x ≡ record { rules = x .rules; mode = x .mode; env = v; indent = x .indent }
+stacked x true e = λ i. record { rules = x .rules; mode = x .mode; env = sym e i; indent = add-zero (x .indent) i }
+stacked x false e = λ i. record { rules = x .rules; mode = x .mode; env = sym e i; indent = x .indent }
 
 -- ---- colours
 

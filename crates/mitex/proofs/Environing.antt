@@ -38,7 +38,7 @@ use Rattle.mitex_meaning.specs.declared.LaTeXEnv.the-variants.{Table as TableEn
 use Rattle.mitex_meaning.specs.declared.Loop.the-variants.{Table}
 use Rattle.mitex_meaning.specs.declared.CaptionPart.{CaptionPart}
 use Rattle.mitex_commands.specs.Leaves.{isAbsent, classOf}
-use Rattle.mitex_plans.specs.Plans.{isBare, bareRow}
+use Rattle.mitex_environments.specs.Captions.{isBare, bareRow}
 
 -- ---- by rule
 

@@ -1,6 +1,7 @@
 pub mod Rooms
 pub mod Walking
-pub mod Planning
-pub mod Nodes
 pub mod Commanding
 pub mod Environing
+pub mod Taking
+pub mod Bodies
+pub mod Grouping

@@ -1,5 +1,5 @@
 // The parts of a command that its arm walks over: the argument of a Greedy command, and the model, the colour and the body of a colour
-// command; and what is written for a model.
+// command; and what is written around a model, a colour and a body.
 ghost use mathlib.Core.Path.{_≡_};
 ghost use mathlib.Core.List.{List, [], _++_};
 ghost use Prim.Native.Nat.{ℕ, _+_, _*_, _≤_};
@@ -10,13 +10,17 @@ ghost use Rattle.mitex_spec.specs.LookUp.{aliasOf, ruleOf, endOf};
 ghost use Rattle.mitex_syntax.specs.Tree.{Forest};
 ghost use Rattle.mitex_syntax.specs.Views.{isSolid};
 ghost use Rattle.mitex_syntax.specs.Spells.{SpellsAll, SomeForest};
-ghost use Rattle.mitex_meaning.specs.Texts.{leftParen, leftBracket, mitexcolor};
-ghost use Rattle.mitex_meaning.specs.Colors.{Rest, seek, modelIn, isModel, argumentModel, colorAlias};
+ghost use Rattle.mitex_meaning.specs.Texts.{leftParen, leftBracket, mitexcolor, black, colorEnd};
+ghost use Rattle.mitex_meaning.specs.Colors.{Rest, seek, modelIn, isModel, argumentModel, colorAlias, bodyEnd};
+ghost use Rattle.mitex_meaning.specs.Contract.{Closes};
 ghost use Rattle.mitex_meaning.specs.Parts.{between, modelText, GreedyFound, ModelFound};
 ghost use Rattle.mitex_colors.specs.Scanning.{stopsAt, picks, ElementsLeft, Sought, FirstPassed, modelAt, ColorFound};
 use mitex_meaning::GreedyPart;
+use mitex_meaning::LaTeXMode;
 use mitex_meaning::ModelPart;
 use mitex_meaning::Part;
+use mitex_meaning::Progress;
+use mitex_meaning::close;
 use mitex_spec::Found;
 use mitex_syntax::CLAUSE_ARGUMENT;
 use mitex_syntax::CLAUSE_COMMAND_NAME;
@@ -77,7 +81,7 @@ fn stops(kind: u8, stop: Stop) -> bool
 }
 
 // Past the first element from a cursor on, if there is one.
-fn past_first(rows: &[u8], text: &[u8], at: Cursor) -> Cursor
+fn past_child(rows: &[u8], text: &[u8], at: Cursor) -> Cursor
     requires { ⌜ SomeForest (now rows) (now text) (at .row) (at .text) ⌝ }
     ensures { λ r. ⌜ ((tail : List ℕ) (s : Rest) → ElementsLeft (now (rows .entry)) (now (text .entry)) tail (at .row) (at .text) (s .elements)
         → FirstPassed (now (rows .entry)) (now (text .entry)) tail (at .row) (at .text) s r) ⌝ }
@@ -105,7 +109,7 @@ fn seek(rows: &[u8], text: &[u8], at: Cursor, stop: Stop) -> Cursor
         if stops(rows[i], stop) {
             return Cursor { row: i, text: j };
         }
-        let next = past_first(rows, text, Cursor { row: i, text: j });
+        let next = past_child(rows, text, Cursor { row: i, text: j });
         i = next.row;
         j = next.text;
     }
@@ -146,9 +150,9 @@ fn greedy_model(rows: &[u8], text: &[u8], at: Cursor) -> ModelPart
     if rows[i] != TOKEN_LBRACKET {
         return model_part(rows, text, false, 0, 0, first);
     }
-    let begin = past_first(rows, text, first);
+    let begin = past_child(rows, text, first);
     let end = seek(rows, text, begin, Stop::Kind(TOKEN_RBRACKET));
-    let beyond = past_first(rows, text, end);
+    let beyond = past_child(rows, text, end);
     let behind = seek(rows, text, beyond, Stop::Solid);
     model_part(rows, text, true, begin.text, end.text, behind)
 }
@@ -210,7 +214,7 @@ pub fn argument_model(rows: &[u8], text: &[u8]) -> ModelPart
     if rows.len() <= i {
         return model_part(rows, text, false, 0, 0, first);
     }
-    let next = past_first(rows, text, first);
+    let next = past_child(rows, text, first);
     let from = first.text;
     let to = next.text;
     if is_model(&text[from..to]) {
@@ -270,4 +274,31 @@ pub fn put_color_head(
     let to = m.to;
     let c = put_model(out, b, m.held, &text[from..to]);
     text::put(out, c, b"[")
+}
+
+// The colour where none is given, and its end.
+pub fn put_black(out: &mut [u8], at: usize) -> usize
+    requires { ⌜ (at ≤ cap) × (length (now out) ≤ cap) ⌝ }
+    ensures { λ r. ⌜ Wrote at (now (out .entry)) (black ++ colorEnd) r (now (out .exit)) ⌝ }
+{
+    text::put(out, at, b"black])[")
+}
+
+// What a colour ends with.
+pub fn close_color(out: &mut [u8], r: Progress) -> Progress
+    requires { ⌜ ((r .refusal ≡ 0 → r .at ≤ cap) × (length (now out) ≤ cap)) ⌝ }
+    ensures { λ q. ⌜ Closes r colorEnd (now (out .entry)) q (now (out .exit)) ⌝ }
+{
+    close(out, r, b"])[")
+}
+
+// What the body of a colour ends with.
+pub fn close_body(out: &mut [u8], r: Progress, mode: LaTeXMode) -> Progress
+    requires { ⌜ ((r .refusal ≡ 0 → r .at ≤ cap) × (length (now out) ≤ cap)) ⌝ }
+    ensures { λ q. ⌜ Closes r (bodyEnd mode) (now (out .entry)) q (now (out .exit)) ⌝ }
+{
+    match mode {
+        LaTeXMode::Text => close(out, r, b"];"),
+        LaTeXMode::Math => close(out, r, b"]"),
+    }
 }

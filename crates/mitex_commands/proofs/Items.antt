@@ -1,15 +1,21 @@
--- `\item` and `\label` by what their environment is: a list or not, and whether a label is written at once.
+-- `\item` and `\label` by what their environment is: a list or not, and whether a label is written at once. A label that is held stands
+-- at the front of the array.
 use mathlib.Core.Path.{_≡_, refl, sym, ap, _∙_}
 use mathlib.Core.Bool.{Bool, true, false, cond}
-use mathlib.Core.List.{List, _∷_}
+use mathlib.Core.List.{List, _∷_, _++_}
 use Prim.Native.Nat.{ℕ}
 use borrow.Author.Tests.{eq-eqb, ne-eqb}
 use lib.Dec.{eqb}
-use Rattle.mitex_meaning.specs.Outcome.{Carry}
+use lib.ListN.{length, take}
+use lib.Seq.{take-at}
+use Rattle.mitex_meaning.specs.Outcome.{Carry, labelled}
+use Rattle.mitex_meaning.specs.Outcome.Label.{held}
 use Rattle.mitex_meaning.specs.Outcome.Outcome.{refused, done}
+use Rattle.mitex_meaning.specs.State.{labelOf}
 use Rattle.mitex_meaning.specs.Texts.{space}
 use Rattle.mitex_meaning.specs.Commands.{itemText, itemIn, labelNow, labelHeld, labelIn}
-use Rattle.mitex_meaning.specs.Contract.{Place, Agrees}
+use Rattle.mitex_meaning.specs.Contract.{Agrees}
+use Rattle.mitex_meaning.specs.declared.Place.{Place}
 use Rattle.mitex_meaning.specs.declared.LaTeXMode.{LaTeXMode}
 use Rattle.mitex_meaning.specs.declared.LaTeXMode.the-variants.{Text, Math}
 use Rattle.mitex_meaning.specs.declared.Walked.{Walked}
@@ -63,6 +69,12 @@ module _ (m : LaTeXMode) (s : List ℕ) (c : Carry) where
 
     pub label-held : b ≡ false → labelIn e m s c ≡ labelHeld s c
     label-held z = label-by e ∙ ap (λ (x : Bool). cond x (labelNow m s c) (labelHeld s c)) (sym is ∙ z)
+
+-- an array that begins with a label holds it
+pub label-stored :
+    (s t : List ℕ) (c : Carry) {l : List ℕ} → l ≡ s ++ t → record { flag = c .flag; label = labelOf true (length s) l } ≡ labelled (held s) c
+label-stored s t c e =
+    ap (λ (x : List ℕ). labelled (held (take (length s) x)) c) e ∙ ap (λ (x : List ℕ). labelled (held x) c) (take-at s t (length s) refl)
 
 -- a label that is written at once is never refused
 pub label-well :

@@ -55,3 +55,7 @@ abbrev pub classOf : Found → ℕ
 classOf Absent = 0
 classOf (Plain class) = class
 classOf (Aliased class at size) = class
+
+-- the environment of a command's arguments
+abbrev pub stackIn : LaTeXEnv → Bool → LaTeXEnv
+stackIn v stack = cond stack SubStack v

@@ -1,9 +1,10 @@
 // Commands, by their name without the backslash: which arm an element and a command have, `\item` and `\label`, and the name that a
 // command is written by. Nothing here recurses.
 ghost use mathlib.Core.Path.{_≡_};
-ghost use mathlib.Core.List.{List, _∷_};
+ghost use mathlib.Core.Bool.{Bool};
+ghost use mathlib.Core.List.{List, _∷_, _++_};
 ghost use Prim.Native.Nat.{ℕ, _-_, _≤_};
-ghost use lib.ListN.{length};
+ghost use lib.ListN.{length, drop};
 ghost use Rattle.text.specs.Compare.{same};
 ghost use Rattle.text.specs.Writing.{cap, Wrote};
 ghost use Rattle.mitex_syntax.specs.Syntax.{ClauseArgument};
@@ -11,19 +12,21 @@ ghost use Rattle.mitex_syntax.specs.Tree.{Forest};
 ghost use Rattle.mitex_syntax.specs.Views.{firstOf, textIn};
 ghost use Rattle.mitex_syntax.specs.Spells.{Begins, SpellsAll, SomeForest};
 ghost use Rattle.mitex_meaning.specs.Outcome.{labelMost};
-ghost use Rattle.mitex_meaning.specs.State.{carryOf};
-ghost use Rattle.mitex_meaning.specs.Contract.{placeOf, Agrees};
+ghost use Rattle.mitex_meaning.specs.State.{carryOf, stateOf};
+ghost use Rattle.mitex_meaning.specs.Contract.{Agrees, walkedOf};
 ghost use Rattle.mitex_meaning.specs.Texts.{space, labelMark, substackName};
 ghost use Rattle.mitex_meaning.specs.Commands.{commandOf, itemText, itemIn, labelNow, labelHeld, labelIn, labelText, typstName, otherArguments, argumentsOf};
 ghost use Rattle.mitex_meaning.specs.Conversion.{elementOf};
-ghost use Rattle.mitex_commands.specs.Leaves.{colorOf, markOf, writesNow, isAbsent, classOf};
+ghost use Rattle.mitex_commands.specs.Leaves.{colorOf, markOf, writesNow, isAbsent, classOf, stackIn};
 use mitex_meaning::Arguments;
 use mitex_meaning::Command;
-use mitex_meaning::Converter;
 use mitex_meaning::Element;
+use mitex_meaning::LABEL_MOST;
 use mitex_meaning::LaTeXEnv;
 use mitex_meaning::LaTeXMode;
-use mitex_meaning::Walked;
+use mitex_meaning::Progress;
+use mitex_meaning::halt;
+use mitex_meaning::reach;
 use mitex_spec::Found;
 use mitex_syntax::CLAUSE_ARGUMENT;
 use mitex_syntax::CLAUSE_LR;
@@ -160,20 +163,29 @@ pub fn put_item(out: &mut [u8], at: usize, indent: usize, mark: u8) -> usize
 }
 
 // `\item`
-pub fn convert_command_item(out: &mut [u8], at: usize, row: usize, c: Converter) -> Walked
+pub fn convert_command_item(
+    out: &mut [u8],
+    at: usize,
+    row: usize,
+    mode: LaTeXMode,
+    env: LaTeXEnv,
+    indent: usize,
+    flag: bool,
+    held: bool,
+    len: usize,
+) -> Progress
     requires { ⌜ (at ≤ cap) × (length (now out) ≤ cap) ⌝ }
-    requires { ⌜ c .«label_len» ≤ labelMost ⌝ }
-    ensures { λ r. ⌜ Agrees r (placeOf c) row at (now (out .entry)) (now (out .exit)) (itemIn (c .env) (c .indent) (carryOf c)) ⌝ }
+    requires { ⌜ len ≤ labelMost ⌝ }
+    ensures { λ r. ⌜ ((l : List ℕ) → Agrees (walkedOf mode env indent l r) (record { mode = mode; env = env; indent = indent }) row at
+        (now (out .entry)) (now (out .exit)) (itemIn env indent (carryOf (stateOf mode env indent flag held len l)))) ⌝ }
     ensures untouched { λ r. ⌜ ((r .refusal ≡ 0 → ⊥) → now (out .exit) ≡ now (out .entry)) ⌝ }
 {
-    let env = c.env;
     let mark = mark_of(env);
     if mark == 0 {
-        return mitex_meaning::refuse(c, NO_LIST, row);
+        return halt(NO_LIST, row);
     }
-    let indent = c.indent;
     let p = put_item(out, at, indent, mark);
-    mitex_meaning::went(c, p)
+    reach(p, flag, held, len)
 }
 
 // ---- `\label`
@@ -207,31 +219,50 @@ pub fn put_label(out: &mut [u8], at: usize, s: &[u8]) -> usize
 }
 
 // A label that is written at once, in Text; in Math it is none.
-fn write_label(out: &mut [u8], at: usize, s: &[u8], c: Converter) -> Walked
+fn write_label(
+    out: &mut [u8],
+    at: usize,
+    s: &[u8],
+    mode: LaTeXMode,
+    flag: bool,
+    held: bool,
+    len: usize,
+) -> Progress
     requires { ⌜ (at ≤ cap) × (length (now out) ≤ cap) ⌝ }
-    requires { ⌜ c .«label_len» ≤ labelMost ⌝ }
-    ensures { λ r. ⌜ ((row : ℕ) → Agrees r (placeOf c) row at (now (out .entry)) (now (out .exit)) (labelNow (c .mode) (now (s .entry)) (carryOf c))) ⌝ }
+    requires { ⌜ len ≤ labelMost ⌝ }
+    ensures { λ r. ⌜ ((env : LaTeXEnv) (indent row : ℕ) (l : List ℕ)
+        → Agrees (walkedOf mode env indent l r) (record { mode = mode; env = env; indent = indent }) row at (now (out .entry)) (now (out .exit))
+        (labelNow mode (now (s .entry)) (carryOf (stateOf mode env indent flag held len l)))) ⌝ }
 {
-    let mode = c.mode;
     match mode {
         LaTeXMode::Text => {
             let p = put_label(out, at, s);
-            mitex_meaning::went(c, p)
+            reach(p, flag, held, len)
         }
-        LaTeXMode::Math => mitex_meaning::went(c, at),
+        LaTeXMode::Math => reach(at, flag, held, len),
     }
 }
 
-// A label that is held; nothing is written.
-fn hold_label(s: &[u8], at: usize, row: usize, c: Converter) -> Walked
-    requires { ⌜ at ≤ cap ⌝ }
-    requires { ⌜ c .«label_len» ≤ labelMost ⌝ }
-    ensures { λ r. ⌜ ((out : List ℕ) → Agrees r (placeOf c) row at out out (labelHeld (now (s .entry)) (carryOf c))) ⌝ }
+// A label's bytes, over the front of the array.
+fn store_label(s: &[u8], label: &mut [u8; LABEL_MOST])
+    requires { ⌜ length (now s) ≤ labelMost ⌝ }
+    ensures { λ _. ⌜ now (label .exit) ≡ now (s .entry) ++ drop (length (now (s .entry))) (now (label .entry)) ⌝ }
 {
-    if s.len() <= mitex_meaning::LABEL_MOST {
-        return mitex_meaning::went(c.with_label(s), at);
+    text::put(label, 0, s);
+}
+
+// A label that is held in place of the one before; nothing is written.
+fn hold_label(s: &[u8], at: usize, row: usize, label: &mut [u8; LABEL_MOST], flag: bool) -> Progress
+    requires { ⌜ at ≤ cap ⌝ }
+    ensures { λ r. ⌜ ((mode : LaTeXMode) (env : LaTeXEnv) (indent : ℕ) (held : Bool) (len : ℕ) (out : List ℕ)
+        → Agrees (walkedOf mode env indent (now (label .exit)) r) (record { mode = mode; env = env; indent = indent }) row at out out
+        (labelHeld (now (s .entry)) (carryOf (stateOf mode env indent flag held len (now (label .entry)))))) ⌝ }
+{
+    if s.len() <= LABEL_MOST {
+        store_label(s, label);
+        return reach(at, flag, true, s.len());
     }
-    mitex_meaning::refuse(c, LONG_LABEL, row)
+    halt(LONG_LABEL, row)
 }
 
 // The text of the first argument; none where there is none.
@@ -250,28 +281,35 @@ pub fn label_text<'a>(rows: &[u8], text: &'a [u8]) -> &'a [u8]
     mitex_syntax::trimmed_inner(argument_text(rows, text))
 }
 
-// `\label`
+// `\label`: written at once, or held in the array that is lent.
 pub fn convert_command_label(
     out: &mut [u8],
     at: usize,
     rows: &[u8],
     text: &[u8],
     row: usize,
-    c: Converter,
-) -> Walked
+    label: &mut [u8; LABEL_MOST],
+    mode: LaTeXMode,
+    env: LaTeXEnv,
+    indent: usize,
+    flag: bool,
+    held: bool,
+    len: usize,
+) -> Progress
     requires { ⌜ (at ≤ cap) × (length (now out) ≤ cap) ⌝ }
     requires { ⌜ SomeForest (now rows) (now text) 0 0 ⌝ }
-    requires { ⌜ c .«label_len» ≤ labelMost ⌝ }
+    requires { ⌜ len ≤ labelMost ⌝ }
     ensures { λ r. ⌜ ((f : Forest) → SpellsAll f (now (rows .entry)) (now (text .entry))
-        → Agrees r (placeOf c) row at (now (out .entry)) (now (out .exit)) (labelIn (c .env) (c .mode) (labelText f) (carryOf c))) ⌝ }
+        → Agrees (walkedOf mode env indent (now (label .exit)) r) (record { mode = mode; env = env; indent = indent }) row at
+        (now (out .entry)) (now (out .exit))
+        (labelIn env mode (labelText f) (carryOf (stateOf mode env indent flag held len (now (label .entry)))))) ⌝ }
     ensures untouched { λ r. ⌜ ((r .refusal ≡ 0 → ⊥) → now (out .exit) ≡ now (out .entry)) ⌝ }
 {
     let s = label_text(rows, text);
-    let env = c.env;
     if writes_now(env) {
-        return write_label(out, at, s, c);
+        return write_label(out, at, s, mode, flag, held, len);
     }
-    hold_label(s, at, row, c)
+    hold_label(s, at, row, label, flag)
 }
 
 // ---- all others
@@ -347,6 +385,16 @@ pub fn is_stack(mode: LaTeXMode, name: &[u8], written: &[u8]) -> bool
         }
         LaTeXMode::Math => text::same(written, b"substack"),
     }
+}
+
+// The environment of a command's arguments: a stack, or the one that it stands in.
+pub fn stack_env(env: LaTeXEnv, stack: bool) -> LaTeXEnv
+    ensures { λ r. ⌜ r ≡ stackIn env stack ⌝ }
+{
+    if stack {
+        return LaTeXEnv::SubStack;
+    }
+    env
 }
 
 // How a command that is neither without arguments nor Greedy takes its arguments.

@@ -1,4 +1,5 @@
--- The end of an environment that hands its walk on as it is: a refusal, a list, or one that ends in Math.
+-- The end of an environment that hands its walk on as it is: a refusal, a list, or one that ends in Math; and the one that takes the
+-- held label.
 use mathlib.Core.Path.{_≡_, refl, sym, ap, subst, _∙_}
 use mathlib.Core.Bool.{Bool, true, false}
 use mathlib.Core.List.{List, []}
@@ -7,12 +8,13 @@ use native.Mathlib.Omega.{arith}
 use Rattle.text.specs.Writing.{cap, Wrote}
 use Rattle.text.proofs.Writing.{wrote-nil}
 use Rattle.mitex_meaning.specs.Outcome.{Carry, Label, labelMost}
-use Rattle.mitex_meaning.specs.State.{carryOf, withoutLabel}
-use Rattle.mitex_meaning.specs.Contract.{wentWith, Takes}
+use Rattle.mitex_meaning.specs.State.{labelOf, carryOf}
+use Rattle.mitex_meaning.specs.Contract.{reachedAt, walkedOf, Takes}
 use Rattle.mitex_meaning.specs.Environments.{taken, dropped, heldText}
 use Rattle.mitex_meaning.specs.declared.LaTeXMode.{LaTeXMode}
 use Rattle.mitex_meaning.specs.declared.LaTeXMode.the-variants.{Text, Math}
-use Rattle.mitex_meaning.specs.declared.Converter.{Converter}
+use Rattle.mitex_meaning.specs.declared.LaTeXEnv.{LaTeXEnv}
+use Rattle.mitex_meaning.specs.declared.Progress.{Progress}
 use Rattle.mitex_meaning.specs.declared.Walked.{Walked}
 
 taken-math : (list : Bool) (l : Label) → taken list Math l ≡ []
@@ -66,13 +68,13 @@ pub takes-as :
 takes-as {a} {r} {list} {m} {out} {out′} e q t =
     subst (λ (b : Bool). Takes a b m out r out′) (sym e) (subst (λ (x : LaTeXMode). Takes a false x out r out′) (sym q) t)
 
--- the held label is written and dropped
+-- the held label is written and dropped, with the label's array as l
 pub takes-dropped :
-    {a r : Walked} {d : Converter} {p : ℕ} {out out′ : List ℕ} → a .refusal ≡ 0 → a .converter .«label_len» ≤ labelMost
-    → d ≡ withoutLabel (a .converter) → r ≡ wentWith d p
-    → Wrote (a .at) out (heldText (carryOf (a .converter) .label)) p out′ → Takes a false Text out r out′
-takes-dropped {a} {r} {d} {p} {out} {out′} z l m g w =
-    subst (λ (b : Walked). Takes a false Text out b out′) (sym (g ∙ ap (λ (c : Converter). wentWith c p) m))
+    (l : List ℕ) {r q : Progress} {p : ℕ} {out out′ : List ℕ} {m : LaTeXMode} {e : LaTeXEnv} {n : ℕ} → r .refusal ≡ 0
+    → q ≡ reachedAt p (r .flag) false 0 → Wrote (r .at) out (heldText (labelOf (r .held) (r .len) l)) p out′
+    → Takes (walkedOf m e n l r) false Text out (walkedOf m e n l q) out′
+takes-dropped l {r} {q} {p} {out} {out′} {m} {e} {n} z g w =
+    subst (λ (b : Progress). Takes (walkedOf m e n l r) false Text out (walkedOf m e n l b) out′) (sym g)
     (record {
       refused-on = λ h. absurd (h z);
       accepted = λ h. refl;

@@ -1,7 +1,8 @@
--- Captions as parts of a figure's rows and text: what a child has for a caption, what a part shows of one, and which of two wins.
+-- Captions as parts of a figure's rows and text: what a child has for a caption, what a part shows of one, and which of two wins;
+-- and the texts around the one that a figure has.
 use mathlib.Core.Path.{_≡_}
-use mathlib.Core.Bool.{cond}
-use mathlib.Core.List.{List}
+use mathlib.Core.Bool.{Bool, true, false, cond}
+use mathlib.Core.List.{List, [], _++_}
 use Prim.Native.Nat.{ℕ, _+_, _*_, _≤_, _<_}
 use lib.ListN.{length}
 use Rattle.text.specs.Writing.{cap}
@@ -9,6 +10,7 @@ use Rattle.mitex_syntax.specs.Syntax.{ClauseArgument}
 use Rattle.mitex_syntax.specs.Tree.{Tree, size}
 use Rattle.mitex_syntax.specs.Views.{firstOf, childrenOf}
 use Rattle.mitex_syntax.specs.Spells.{Spells, SomeTree}
+use Rattle.mitex_meaning.specs.Texts.{bodyBegin, captionBegin, captionEnd}
 use Rattle.mitex_meaning.specs.Environments.{Caption, isCaption, captionAt}
 use Rattle.mitex_meaning.specs.Environments.Caption.{absent, bare, caption}
 use Rattle.mitex_meaning.specs.Parts.{between, partRows, partText, Inside}
@@ -52,3 +54,38 @@ laterPart (BareCaption n) l = BareCaption n
 laterPart (CaptionAt p) NoCaption = CaptionAt p
 laterPart (CaptionAt p) (BareCaption n) = BareCaption n
 laterPart (CaptionAt p) (CaptionAt q) = CaptionAt q
+
+-- ---- the caption of a figure
+
+-- without an argument
+abbrev pub isBare : CaptionPart → Bool
+isBare NoCaption = false
+isBare (BareCaption n) = true
+isBare (CaptionAt p) = false
+
+-- how many rows below the first child a caption without an argument stands
+abbrev pub bareRow : CaptionPart → ℕ
+bareRow NoCaption = 0
+bareRow (BareCaption n) = n
+bareRow (CaptionAt p) = 0
+
+-- the part that is walked over: no children where there is no argument
+abbrev pub noPart : Part
+noPart = record { i = 0; e = 0; j = 0; u = 0 }
+
+abbrev pub captionPart : CaptionPart → Part
+captionPart NoCaption = noPart
+captionPart (BareCaption n) = noPart
+captionPart (CaptionAt p) = p
+
+-- what stands before it
+abbrev pub captionText : CaptionPart → List ℕ
+captionText NoCaption = []
+captionText (BareCaption n) = []
+captionText (CaptionAt p) = captionBegin
+
+-- what stands behind it, up to the body
+abbrev pub captionClose : CaptionPart → List ℕ
+captionClose NoCaption = bodyBegin
+captionClose (BareCaption n) = bodyBegin
+captionClose (CaptionAt p) = captionEnd ++ bodyBegin

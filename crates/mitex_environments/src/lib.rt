@@ -3,7 +3,7 @@
 ghost use mathlib.Core.Path.{_≡_};
 ghost use mathlib.Core.Bool.{false};
 ghost use mathlib.Core.List.{_++_};
-ghost use Prim.Native.Nat.{ℕ, _+_, _*_, _≤_};
+ghost use Prim.Native.Nat.{ℕ, _+_, _*_, _≤_, _<_};
 ghost use lib.ListN.{length};
 ghost use Rattle.text.specs.Writing.{cap, Wrote};
 ghost use Rattle.mitex_syntax.specs.Syntax.{ClauseArgument};
@@ -11,22 +11,26 @@ ghost use Rattle.mitex_syntax.specs.Tree.{Tree, Forest, size};
 ghost use Rattle.mitex_syntax.specs.Views.{firstOf, textIn, beginOf, childrenOf};
 ghost use Rattle.mitex_syntax.specs.Spells.{Spells, SpellsAll, SomeForest};
 ghost use Rattle.mitex_meaning.specs.Outcome.{labelMost};
-ghost use Rattle.mitex_meaning.specs.Texts.{leftParen, hash};
+ghost use Rattle.mitex_meaning.specs.Texts.{leftParen, rightParen, hash, dollarBegin, dollarEnd};
 ghost use Rattle.mitex_meaning.specs.State.{labelOf};
-ghost use Rattle.mitex_meaning.specs.Contract.{Takes};
-ghost use Rattle.mitex_meaning.specs.Environments.{envOf, isList, envBegin, heldText, isCaption, captionAt};
+ghost use Rattle.mitex_meaning.specs.Contract.{walkedOf, Closes, Takes};
+ghost use Rattle.mitex_meaning.specs.Environments.{envOf, isList, envBegin, envEnd, heldText, isCaption, captionAt};
+ghost use Rattle.mitex_meaning.specs.Tables.{tableHead};
 ghost use Rattle.mitex_meaning.specs.Parts.{between, BeginFound, CaptionFound};
 ghost use Rattle.mitex_environments.specs.Plain.{isPlain};
-ghost use Rattle.mitex_environments.specs.Captions.{ChildAt, childCaption, Shows, laterPart};
+ghost use Rattle.mitex_environments.specs.Captions.{ChildAt, childCaption, Shows, laterPart, isBare, bareRow, captionPart, noPart, captionText, captionClose};
 use mitex_meaning::CaptionPart;
-use mitex_meaning::Converter;
+use mitex_meaning::LABEL_MOST;
 use mitex_meaning::LaTeXEnv;
 use mitex_meaning::LaTeXMode;
 use mitex_meaning::Part;
-use mitex_meaning::Walked;
+use mitex_meaning::Progress;
+use mitex_meaning::close;
+use mitex_meaning::reach;
 use mitex_syntax::CLAUSE_ARGUMENT;
 use mitex_syntax::ITEM_CMD;
 use mitex_syntax::Spot;
+use mitex_tables::put_table_head;
 
 // The classes of environments, in the order of `ContextFeature`; from 3 on, and any other is None.
 const CLASS_MATH: u8 = 4;
@@ -126,48 +130,129 @@ pub fn put_env_begin(out: &mut [u8], at: usize, env: LaTeXEnv, name: &[u8]) -> u
     at
 }
 
+// What a list or a normal environment ends with.
+pub fn close_env(out: &mut [u8], r: Progress, env: LaTeXEnv) -> Progress
+    requires { ⌜ ((r .refusal ≡ 0 → r .at ≤ cap) × (length (now out) ≤ cap)) ⌝ }
+    ensures { λ q. ⌜ Closes r (envEnd env) (now (out .entry)) q (now (out .exit)) ⌝ }
+{
+    if is_plain(env) {
+        return close(out, r, b"];");
+    }
+    r
+}
+
+// What a formula of its own begins with, in Text.
+fn put_dollar_begin(out: &mut [u8], at: usize, mode: LaTeXMode) -> usize
+    requires { ⌜ (at ≤ cap) × (length (now out) ≤ cap) ⌝ }
+    ensures { λ r. ⌜ Wrote at (now (out .entry)) (dollarBegin mode) r (now (out .exit)) ⌝ }
+{
+    match mode {
+        LaTeXMode::Text => text::put(out, at, b"$ "),
+        LaTeXMode::Math => at,
+    }
+}
+
+// What an environment for Math begins with.
+pub fn put_math_begin(out: &mut [u8], at: usize, mode: LaTeXMode, name: &[u8]) -> usize
+    requires { ⌜ (at ≤ cap) × (length (now out) ≤ cap) ⌝ }
+    ensures { λ r. ⌜ Wrote at (now (out .entry)) (dollarBegin mode ++ (now (name .entry) ++ leftParen)) r (now (out .exit)) ⌝ }
+{
+    let a = put_dollar_begin(out, at, mode);
+    let b = text::put(out, a, name);
+    text::put(out, b, b"(")
+}
+
+// What an environment for Math ends with.
+pub fn close_math(out: &mut [u8], r: Progress, mode: LaTeXMode) -> Progress
+    requires { ⌜ ((r .refusal ≡ 0 → r .at ≤ cap) × (length (now out) ≤ cap)) ⌝ }
+    ensures { λ q. ⌜ Closes r (rightParen ++ dollarEnd mode) (now (out .entry)) q (now (out .exit)) ⌝ }
+{
+    match mode {
+        LaTeXMode::Text => close(out, r, b") $"),
+        LaTeXMode::Math => close(out, r, b")"),
+    }
+}
+
+// What a table begins with: the call, and the head by its column letters.
+pub fn put_table_begin(out: &mut [u8], at: usize, name: &[u8], letters: &[u8]) -> usize
+    requires { ⌜ (at ≤ cap) × (length (now out) ≤ cap) × (length (now letters) < cap) ⌝ }
+    ensures { λ r. ⌜ Wrote at (now (out .entry)) (hash ++ (now (name .entry) ++ (leftParen ++ tableHead (now (letters .entry))))) r (now (out .exit)) ⌝ }
+{
+    let p = put_hash_begin(out, at, name);
+    put_table_head(out, p, letters)
+}
+
+// What a figure begins with: the call, and the begin of its caption if it has one.
+pub fn put_figure_begin(out: &mut [u8], at: usize, name: &[u8], caption: CaptionPart) -> usize
+    requires { ⌜ (at ≤ cap) × (length (now out) ≤ cap) ⌝ }
+    ensures { λ r. ⌜ Wrote at (now (out .entry)) ((hash ++ (now (name .entry) ++ leftParen)) ++ captionText caption) r (now (out .exit)) ⌝ }
+{
+    let p = put_hash_begin(out, at, name);
+    match caption {
+        CaptionPart::NoCaption => p,
+        CaptionPart::BareCaption(_) => p,
+        CaptionPart::CaptionAt(_) => text::put(out, p, b"caption: ["),
+    }
+}
+
+// The end of a figure's caption, if it has one, and the begin of its body.
+pub fn put_caption_end(out: &mut [u8], at: usize, caption: CaptionPart) -> usize
+    requires { ⌜ (at ≤ cap) × (length (now out) ≤ cap) ⌝ }
+    ensures { λ r. ⌜ Wrote at (now (out .entry)) (captionClose caption) r (now (out .exit)) ⌝ }
+{
+    match caption {
+        CaptionPart::NoCaption => text::put(out, at, b")["),
+        CaptionPart::BareCaption(_) => text::put(out, at, b")["),
+        CaptionPart::CaptionAt(_) => text::put(out, at, b"],)["),
+    }
+}
+
 // ---- the held label
 
-// The label that a converter holds, if any.
-fn put_held(out: &mut [u8], at: usize, c: Converter) -> usize
+// The first bytes of the array, while a label is held.
+fn put_held(out: &mut [u8], at: usize, held: bool, label: &[u8], len: usize) -> usize
     requires { ⌜ (at ≤ cap) × (length (now out) ≤ cap) ⌝ }
-    requires { ⌜ c .«label_len» ≤ labelMost ⌝ }
-    ensures { λ r. ⌜ Wrote at (now (out .entry)) (heldText (labelOf (c .«label_held») (c .«label_len») (c .label))) r (now (out .exit)) ⌝ }
+    requires { ⌜ len ≤ length (now label) ⌝ }
+    ensures { λ r. ⌜ Wrote at (now (out .entry)) (heldText (labelOf held len (now (label .entry)))) r (now (out .exit)) ⌝ }
 {
-    if c.label_held {
-        let label = c.label;
-        let n = c.label_len;
-        return mitex_commands::put_label(out, at, &label[..n]);
+    if held {
+        return mitex_commands::put_label(out, at, &label[..len]);
     }
     at
 }
 
 // The held label is written and dropped.
-fn drop_label(out: &mut [u8], a: Walked) -> Walked
-    requires { ⌜ (a .at ≤ cap) × (a .converter .«label_len» ≤ labelMost) ⌝ }
-    requires { ⌜ (a .refusal ≡ 0) × (length (now out) ≤ cap) ⌝ }
-    ensures { λ r. ⌜ Takes a false LaTeXMode.Text (now (out .entry)) r (now (out .exit)) ⌝ }
+fn drop_label(out: &mut [u8], r: Progress, label: &[u8; LABEL_MOST]) -> Progress
+    requires { ⌜ (r .at ≤ cap) × (r .len ≤ labelMost) ⌝ }
+    requires { ⌜ (r .refusal ≡ 0) × (length (now out) ≤ cap) ⌝ }
+    ensures { λ q. ⌜ ((m : LaTeXMode) (e : LaTeXEnv) (n : ℕ)
+        → Takes (walkedOf m e n (now (label .entry)) r) false LaTeXMode.Text (now (out .entry)) (walkedOf m e n (now (label .entry)) q) (now (out .exit))) ⌝ }
 {
-    let c = a.converter;
-    let at = a.at;
-    let p = put_held(out, at, c);
-    mitex_meaning::went(c.without_label(), p)
+    let p = put_held(out, r.at, r.held, label, r.len);
+    reach(p, r.flag, false, 0)
 }
 
 // The end of an environment: any but a list that ends in Text takes the held label.
-pub fn take_label(out: &mut [u8], a: Walked, list: bool, mode: LaTeXMode) -> Walked
-    requires { ⌜ ((a .refusal ≡ 0 → (a .at ≤ cap) × (a .converter .«label_len» ≤ labelMost)) × (length (now out) ≤ cap)) ⌝ }
-    ensures { λ r. ⌜ Takes a list mode (now (out .entry)) r (now (out .exit)) ⌝ }
+pub fn take_label(
+    out: &mut [u8],
+    r: Progress,
+    label: &[u8; LABEL_MOST],
+    list: bool,
+    mode: LaTeXMode,
+) -> Progress
+    requires { ⌜ ((r .refusal ≡ 0 → (r .at ≤ cap) × (r .len ≤ labelMost)) × (length (now out) ≤ cap)) ⌝ }
+    ensures { λ q. ⌜ ((m : LaTeXMode) (e : LaTeXEnv) (n : ℕ)
+        → Takes (walkedOf m e n (now (label .entry)) r) list mode (now (out .entry)) (walkedOf m e n (now (label .entry)) q) (now (out .exit))) ⌝ }
 {
-    if a.refusal != 0 {
-        return a;
+    if r.refusal != 0 {
+        return r;
     }
     if list {
-        return a;
+        return r;
     }
     match mode {
-        LaTeXMode::Text => drop_label(out, a),
-        LaTeXMode::Math => a,
+        LaTeXMode::Text => drop_label(out, r, label),
+        LaTeXMode::Math => r,
     }
 }
 
@@ -284,4 +369,49 @@ pub fn last_caption(rows: &[u8], text: &[u8]) -> CaptionPart
         j = u;
     }
     found
+}
+
+// Whether a caption lacks its argument.
+pub fn is_bare(caption: CaptionPart) -> bool
+    ensures { λ r. ⌜ r ≡ isBare caption ⌝ }
+{
+    match caption {
+        CaptionPart::NoCaption => false,
+        CaptionPart::BareCaption(_) => true,
+        CaptionPart::CaptionAt(_) => false,
+    }
+}
+
+// How many rows below the first child a caption without an argument stands.
+pub fn bare_row(caption: CaptionPart) -> usize
+    ensures { λ r. ⌜ r ≡ bareRow caption ⌝ }
+{
+    match caption {
+        CaptionPart::NoCaption => 0,
+        CaptionPart::BareCaption(below) => below,
+        CaptionPart::CaptionAt(_) => 0,
+    }
+}
+
+// No children.
+fn no_part() -> Part
+    ensures { λ r. ⌜ r ≡ noPart ⌝ }
+{
+    Part {
+        i: 0,
+        e: 0,
+        j: 0,
+        u: 0,
+    }
+}
+
+// The part of a caption's argument; no children where there is none.
+pub fn caption_part(caption: CaptionPart) -> Part
+    ensures { λ r. ⌜ r ≡ captionPart caption ⌝ }
+{
+    match caption {
+        CaptionPart::NoCaption => no_part(),
+        CaptionPart::BareCaption(_) => no_part(),
+        CaptionPart::CaptionAt(p) => p,
+    }
 }

@@ -8,12 +8,12 @@ use borrow.Author.Tests.{ne-eqb}
 use Rattle.mitex_meaning.specs.Children.{converts, behind}
 use Rattle.mitex_meaning.specs.declared.Act.{Act}
 use Rattle.mitex_meaning.specs.declared.Act.the-variants.{Skip, Convert, ThenSpace, Space, ThenComma, InBrackets, InDollars, SplitBare, SplitBased, Name, Empty, EmptyLast, ThinRule, ThickRule, Open, Close, CloseLast}
-use Rattle.mitex_loops.specs.Marks.{behindByte, markOf}
+use Rattle.mitex_loops.specs.Marks.{behindByte, markText}
 
-pub some-mark : (b : ℕ) → (b ≡ 0 → ⊥) → b ∷ [] ≡ markOf b
+pub some-mark : (b : ℕ) → (b ≡ 0 → ⊥) → b ∷ [] ≡ markText b
 some-mark b h = rw (ne-eqb b 0 h)
 
-pub behind-mark : (a : Act) → markOf (behindByte a) ≡ behind a
+pub behind-mark : (a : Act) → markText (behindByte a) ≡ behind a
 behind-mark Skip = refl
 behind-mark Convert = refl
 behind-mark ThenSpace = refl

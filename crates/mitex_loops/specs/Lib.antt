@@ -1,2 +1,4 @@
 pub mod Given
 pub mod Marks
+pub mod Steady
+pub mod FirstChild

@@ -27,5 +27,5 @@ behindByte Open = 0
 behindByte Close = 0
 behindByte CloseLast = 0
 
-abbrev pub markOf : ℕ → List ℕ
-markOf b = cond (eqb b 0) [] (b ∷ [])
+abbrev pub markText : ℕ → List ℕ
+markText b = cond (eqb b 0) [] (b ∷ [])

@@ -1,35 +1,47 @@
 // What the loops of the converter over children do, child by child, and the small leaves that its arms need: nothing here recurses.
 ghost use mathlib.Core.Path.{_≡_};
-ghost use mathlib.Core.Bool.{true, false, _&&_, cond};
+ghost use mathlib.Core.Bool.{true, false, _&&_, _||_, cond};
 ghost use mathlib.Core.List.{List, [], _++_};
 ghost use Prim.Native.Nat.{ℕ, _+_, _≤_, _<_};
 ghost use lib.ListN.{length, drop};
 ghost use lib.Dec.{eqb};
 ghost use Rattle.text.specs.Writing.{cap, Wrote, decimal};
-ghost use Rattle.mitex_syntax.specs.Syntax.{ClauseArgument, ClauseCommandName, ItemCurly};
-ghost use Rattle.mitex_syntax.specs.Tree.{Tree, Forest, rowsOfs, kindOf};
+ghost use Rattle.mitex_syntax.specs.Syntax.{ClauseArgument, ClauseCommandName, ItemCurly, ItemAttachComponent};
+ghost use Rattle.mitex_syntax.specs.Tree.{Tree, Forest, rowsOfs, textsOf, kindOf};
 ghost use Rattle.mitex_syntax.specs.Views.{childrenOf, cmdName};
-ghost use Rattle.mitex_syntax.specs.Spells.{Spells};
+ghost use Rattle.mitex_syntax.specs.Spells.{Spells, SpellsAll, SomeForest};
 ghost use Rattle.mitex_meaning.specs.Children.{isBlank, isDot, isSplit, isEnds, follows, othersFollow, isNamed, actOf, attachAct, ruleAct, cellAct, before, converts, behind, nextAttach, nextExterior, nextLoop, attachEnd, loopEnd};
-ghost use Rattle.mitex_meaning.specs.Texts.{leftParen, colonSpace, formulaBegin};
-ghost use Rattle.mitex_meaning.specs.Texts.{dollarBegin, blankGroup, noBase, namedArg};
-ghost use Rattle.mitex_meaning.specs.Groups.{groupEnv, lrBegin, attachLoop};
+ghost use Rattle.mitex_meaning.specs.Texts.{leftParen, colonSpace, formulaBegin, formulaEnd};
+ghost use Rattle.mitex_meaning.specs.Texts.{blankGroup, noBase, namedArg};
+ghost use Rattle.mitex_meaning.specs.Groups.{groupEnv, lrBegin, lrEnd, attachLoop};
 ghost use Rattle.mitex_meaning.specs.Colors.{bodyLoop, argumentsLoop};
+ghost use Rattle.mitex_meaning.specs.Contract.{Closes};
+ghost use Rattle.mitex_meaning.specs.Runs.{isChildren, isFlat, isSteady, allBlank};
 ghost use Rattle.mitex_meaning.specs.declared.Act.the-variants.{Skip, Convert, Space, ThenSpace, ThenComma, InDollars};
 ghost use Rattle.mitex_loops.specs.Marks.{behindByte};
 ghost use Rattle.mitex_loops.specs.Given.{ChildGiven, OthersGiven, Decides, numberOf};
+ghost use Rattle.mitex_loops.specs.Steady.{SteadyGiven, SteadyRun};
+ghost use Rattle.mitex_loops.specs.FirstChild.{FirstApart, lrName};
 use mitex_meaning::Act;
 use mitex_meaning::Attach;
 use mitex_meaning::LaTeXEnv;
 use mitex_meaning::LaTeXMode;
 use mitex_meaning::Loop;
+use mitex_meaning::Progress;
 use mitex_syntax::CLAUSE_ARGUMENT;
 use mitex_syntax::CLAUSE_COMMAND_NAME;
+use mitex_syntax::ITEM_ATTACH_COMPONENT;
 use mitex_syntax::ITEM_BEGIN;
+use mitex_syntax::ITEM_BRACKET;
 use mitex_syntax::ITEM_CMD;
 use mitex_syntax::ITEM_CURLY;
 use mitex_syntax::ITEM_END;
+use mitex_syntax::ITEM_LR;
 use mitex_syntax::ITEM_NEW_LINE;
+use mitex_syntax::ITEM_PAREN;
+use mitex_syntax::ITEM_TEXT;
+use mitex_syntax::SCOPE_ROOT;
+use mitex_syntax::Span;
 use mitex_syntax::TOKEN_AMPERSAND;
 use mitex_syntax::TOKEN_CARET;
 use mitex_syntax::TOKEN_LBRACE;
@@ -442,6 +454,170 @@ pub fn next_loop(l: Loop, kind: u8, act: Act) -> Loop
     }
 }
 
+// ---- runs of children
+
+// A node that means its children, in every mode.
+fn is_children(kind: u8) -> bool
+    ensures { λ r. ⌜ r ≡ isChildren kind ⌝ }
+{
+    match kind {
+        ITEM_LR => true,
+        CLAUSE_ARGUMENT => true,
+        SCOPE_ROOT => true,
+        ITEM_TEXT => true,
+        ITEM_BRACKET => true,
+        ITEM_PAREN => true,
+        _ => false,
+    }
+}
+
+// A curly group or an attachment.
+fn is_group(kind: u8) -> bool
+    ensures { λ r. ⌜ r ≡ (eqb kind ItemCurly || eqb kind ItemAttachComponent) ⌝ }
+{
+    match kind {
+        ITEM_CURLY => true,
+        ITEM_ATTACH_COMPONENT => true,
+        _ => false,
+    }
+}
+
+// A node that means its children in this mode: it clears the flag, and no more.
+pub fn is_flat(kind: u8, mode: LaTeXMode) -> bool
+    ensures { λ r. ⌜ r ≡ isFlat mode kind ⌝ }
+{
+    if is_children(kind) {
+        return true;
+    }
+    match mode {
+        LaTeXMode::Text => is_group(kind),
+        LaTeXMode::Math => false,
+    }
+}
+
+// An attachment past its split converts all that follows.
+fn is_past_split(state: Attach) -> bool
+    ensures { λ r. ⌜ ((k : ℕ) → r ≡ isSteady (Loop.Attached state) k) ⌝ }
+{
+    match state {
+        Attach::Bare => false,
+        Attach::Based => false,
+        Attach::Split => true,
+    }
+}
+
+// What stands in a figure and is no command, which might be its caption.
+fn is_body(kind: u8) -> bool
+    ensures { λ r. ⌜ r ≡ isSteady Loop.Figure kind ⌝ }
+{
+    match kind {
+        ITEM_BEGIN => false,
+        ITEM_END => false,
+        ITEM_CMD => false,
+        _ => true,
+    }
+}
+
+// What stands in a cell of a table and does not end it.
+fn is_in_cell(exterior: bool, kind: u8) -> bool
+    ensures { λ r. ⌜ r ≡ isSteady (Loop.Table exterior) kind ⌝ }
+{
+    if exterior {
+        return false;
+    }
+    match kind {
+        ITEM_BEGIN => false,
+        ITEM_END => false,
+        TOKEN_AMPERSAND => false,
+        ITEM_NEW_LINE => false,
+        _ => true,
+    }
+}
+
+// Whether the loop converts every child of this kind with nothing around it, and stays as it is.
+fn is_steady(l: Loop, kind: u8) -> bool
+    ensures { λ r. ⌜ r ≡ isSteady l kind ⌝ }
+{
+    match l {
+        Loop::Plain => true,
+        Loop::Curly(_) => false,
+        Loop::Spaced => false,
+        Loop::Attached(state) => is_past_split(state),
+        Loop::Greedy => kind != ITEM_CURLY,
+        Loop::Separated => false,
+        Loop::Bracketed => false,
+        Loop::Dollars => false,
+        Loop::Arguments(_) => false,
+        Loop::Named(_) => false,
+        Loop::Inside => !is_ends(kind),
+        Loop::Figure => is_body(kind),
+        Loop::Table(exterior) => is_in_cell(exterior, kind),
+    }
+}
+
+// How many bytes of rows and of text the children from row byte `i` on have, up to the first that the loop is not steady on.
+pub fn steady_run(l: Loop, rows: &[u8], i: usize) -> Span
+    requires { ⌜ SteadyGiven (now rows) i ⌝ }
+    ensures { λ r. ⌜ ((f : Forest) → drop i (now (rows .entry)) ≡ rowsOfs f → length (textsOf f) < cap → SteadyRun l f r) ⌝ }
+{
+    let mut k = i;
+    let mut n = 0;
+    while k < rows.len() {
+        if !is_steady(l, rows[k]) {
+            return Span {
+                rows: k - i,
+                text: n,
+            };
+        }
+        let s = mitex_syntax::span_at(rows, k);
+        k += s.rows;
+        n += s.text;
+    }
+    Span {
+        rows: k - i,
+        text: n,
+    }
+}
+
+// Whether the children with these rows leave a curly group blank. They are tokens then, each with one row.
+pub fn is_blank_group(rows: &[u8]) -> bool
+    requires { ⌜ length (now rows) < cap ⌝ }
+    ensures { λ r. ⌜ ((f : Forest) (text : List ℕ) → SpellsAll f (now (rows .entry)) text → r ≡ allBlank f) ⌝ }
+{
+    let mut i = 0;
+    while i < rows.len() {
+        if !is_blank(rows[i]) {
+            return false;
+        }
+        i += 8;
+    }
+    true
+}
+
+// ---- the first child
+
+// The bytes of the first child, none where there is no child.
+pub fn first_span(rows: &[u8], text: &[u8]) -> Span
+    requires { ⌜ SomeForest (now rows) (now text) 0 0 ⌝ }
+    ensures inside { λ r. ⌜ (r .rows ≤ length (now (rows .entry))) × (r .text ≤ length (now (text .entry))) ⌝ }
+    ensures parts { λ r. ⌜ ((f : Forest) → SpellsAll f (now (rows .entry)) (now (text .entry)) → FirstApart f (now (rows .entry)) (now (text .entry)) r) ⌝ }
+{
+    if rows.len() == 0 {
+        return Span { rows: 0, text: 0 };
+    }
+    mitex_syntax::span_at(rows, 0)
+}
+
+// The name of `\left` or `\right`: the first child without its backslash; none where there is no child.
+pub fn lr_name<'a>(rows: &[u8], text: &'a [u8]) -> &'a [u8]
+    requires { ⌜ SomeForest (now rows) (now text) 0 0 ⌝ }
+    ensures { λ r. ⌜ ((f : Forest) → SpellsAll f (now (rows .entry)) (now (text .entry)) → now r ≡ lrName f) ⌝ }
+{
+    let s = first_span(rows, text);
+    let u = s.text;
+    past_first(&text[..u])
+}
+
 // ---- what is written
 
 // The token that splits an attachment, and the bracket that the rest stands in.
@@ -559,17 +735,6 @@ pub fn put_formula_begin(out: &mut [u8], at: usize, mode: LaTeXMode, inline: boo
     }
 }
 
-// What an environment for Math begins with.
-pub fn put_dollar_begin(out: &mut [u8], at: usize, mode: LaTeXMode) -> usize
-    requires { ⌜ (at ≤ cap) × (length (now out) ≤ cap) ⌝ }
-    ensures { λ r. ⌜ Wrote at (now (out .entry)) (dollarBegin mode) r (now (out .exit)) ⌝ }
-{
-    match mode {
-        LaTeXMode::Text => text::put(out, at, b"$ "),
-        LaTeXMode::Math => at,
-    }
-}
-
 // What `\left` begins with.
 pub fn put_lr_begin(out: &mut [u8], at: usize, name: &[u8]) -> usize
     requires { ⌜ (at ≤ cap) × (length (now out) ≤ cap) ⌝ }
@@ -618,6 +783,58 @@ pub fn put_behind(out: &mut [u8], at: usize, act: Act) -> usize
         return at;
     }
     text::put_byte(out, at, b)
+}
+
+// ---- what is written after elements, unless one was refused
+
+// What is written behind a child.
+pub fn close_act(out: &mut [u8], r: Progress, act: Act) -> Progress
+    requires { ⌜ ((r .refusal ≡ 0 → r .at ≤ cap) × (length (now out) ≤ cap)) ⌝ }
+    ensures { λ q. ⌜ Closes r (behind act) (now (out .entry)) q (now (out .exit)) ⌝ }
+{
+    if r.refusal != 0 {
+        return r;
+    }
+    let p = put_behind(out, r.at, act);
+    mitex_meaning::reach(p, r.flag, r.held, r.len)
+}
+
+// What a formula ends with.
+pub fn close_formula(out: &mut [u8], r: Progress, mode: LaTeXMode, inline: bool) -> Progress
+    requires { ⌜ ((r .refusal ≡ 0 → r .at ≤ cap) × (length (now out) ≤ cap)) ⌝ }
+    ensures { λ q. ⌜ Closes r (formulaEnd mode inline) (now (out .entry)) q (now (out .exit)) ⌝ }
+{
+    match mode {
+        LaTeXMode::Text => {
+            if inline {
+                return mitex_meaning::close(out, r, b"$);");
+            }
+            mitex_meaning::close(out, r, b" $")
+        }
+        LaTeXMode::Math => r,
+    }
+}
+
+// What a curly group in Math ends with.
+pub fn close_curly(out: &mut [u8], r: Progress, blank: bool) -> Progress
+    requires { ⌜ ((r .refusal ≡ 0 → r .at ≤ cap) × (length (now out) ≤ cap)) ⌝ }
+    ensures { λ q. ⌜ Closes r (cond blank blankGroup []) (now (out .entry)) q (now (out .exit)) ⌝ }
+{
+    if blank {
+        return mitex_meaning::close(out, r, b"zws ");
+    }
+    r
+}
+
+// What a group from `\left` to `\right` ends with, by the name.
+pub fn close_lr(out: &mut [u8], r: Progress, name: &[u8]) -> Progress
+    requires { ⌜ ((r .refusal ≡ 0 → r .at ≤ cap) × (length (now out) ≤ cap)) ⌝ }
+    ensures { λ q. ⌜ Closes r (lrEnd (now (name .entry))) (now (out .entry)) q (now (out .exit)) ⌝ }
+{
+    if text::same(name, b"right") {
+        return mitex_meaning::close(out, r, b")");
+    }
+    r
 }
 
 // ---- where the arms begin

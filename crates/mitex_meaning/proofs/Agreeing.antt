@@ -1,20 +1,23 @@
 -- Laws of answers that agree with outcomes: how agreement follows `after`, `closing`, `andThen` and `shift`.
 use mathlib.Core.Path.{_≡_, refl, sym, ap, subst, _∙_}
 use mathlib.Core.Bool.{Bool}
-use mathlib.Core.List.{List}
+use mathlib.Core.List.{List, []}
 use Prim.Native.Nat.{ℕ, _+_, _≤_, _<_}
 use native.Mathlib.Omega.{arith}
 use lib.ListN.{length}
 use Rattle.text.specs.Writing.{cap, Wrote}
-use Rattle.text.proofs.Writing.{wrote-then, wrote-low}
+use Rattle.text.proofs.Writing.{wrote-then, wrote-low, wrote-nil}
 use Rattle.mitex_meaning.specs.Outcome.{Carry, Outcome, andThen, after, closing, shift, labelMost}
 use Rattle.mitex_meaning.specs.Outcome.Outcome.{refused, done}
-use Rattle.mitex_meaning.specs.State.{carryOf, placed, Carried}
-use Rattle.mitex_meaning.specs.Contract.{Place, placeOf, Agrees, wentWith, refusedWith, Takes}
+use Rattle.mitex_meaning.specs.State.{labelOf, carryOf, stateOf, placed, Carried}
+use Rattle.mitex_meaning.specs.Contract.{placeOf, Agrees, reachedAt, haltedWith, walkedOf, Closes, wentWith, refusedWith, Takes}
+use Rattle.mitex_meaning.specs.declared.Place.{Place}
 use Rattle.mitex_meaning.specs.Contract.Agrees.{declines, accepts}
 use Rattle.mitex_meaning.specs.Environments.{taken, dropped, takeLabel}
 use Rattle.mitex_meaning.specs.declared.LaTeXMode.{LaTeXMode}
+use Rattle.mitex_meaning.specs.declared.LaTeXEnv.{LaTeXEnv}
 use Rattle.mitex_meaning.specs.declared.Converter.{Converter}
+use Rattle.mitex_meaning.specs.declared.Progress.{Progress}
 use Rattle.mitex_meaning.specs.declared.Walked.{Walked}
 
 pub agrees-as :
@@ -89,6 +92,76 @@ module _ {row at : ℕ} {out out₁ out₂ w : List ℕ} {a r : Walked} {x y : P
       let same = c .converter u in
       accepts (c .accepted u) (ap placeOf same) (ap carryOf same ∙ ec) (subst (λ (z : Converter). z .«label_len» ≤ labelMost) (sym same) l)
       (wrote-then h v (c .written u))
+
+-- ---- what follows elements
+
+module _ {r : Progress} {out : List ℕ} where
+  pub closes-refused : (w : List ℕ) → (r .refusal ≡ 0 → ⊥) → Closes r w out r out
+  closes-refused w z =
+      record {
+        refused-on = λ h. (refl, refl);
+        accepted = λ h. h;
+        flag-so = λ h. refl;
+        held-so = λ h. refl;
+        len-so = λ h. refl;
+        written = λ h. absurd (z h);
+      }
+
+  -- nothing is written
+  pub closes-nothing : {w : List ℕ} → w ≡ [] → (r .refusal ≡ 0 → r .at ≤ cap) → Closes r w out r out
+  closes-nothing {w} e h =
+      record {
+        refused-on = λ z. (refl, refl);
+        accepted = λ z. z;
+        flag-so = λ z. refl;
+        held-so = λ z. refl;
+        len-so = λ z. refl;
+        written = λ z. subst (λ (v : List ℕ). Wrote (r .at) out v (r .at) out) (sym e) (wrote-nil (r .at) out (h z));
+      }
+
+  pub closes-reached :
+      {w : List ℕ} {p : ℕ} {q : Progress} {out′ : List ℕ} → r .refusal ≡ 0 → Wrote (r .at) out w p out′
+      → q ≡ reachedAt p (r .flag) (r .held) (r .len) → Closes r w out q out′
+  closes-reached {w} {p} {q} {out′} z wr e =
+      record {
+        refused-on = λ h. absurd (h z);
+        accepted = λ h. ap (λ (a : Progress). a .refusal) e;
+        flag-so = λ h. ap (λ (a : Progress). a .flag) e;
+        held-so = λ h. ap (λ (a : Progress). a .held) e;
+        len-so = λ h. ap (λ (a : Progress). a .len) e;
+        written = λ h. subst (λ (n : ℕ). Wrote (r .at) out w n out′) (sym (ap (λ (a : Progress). a .at) e)) wr;
+      }
+
+  -- the same text by another name
+  pub closes-as : {w v : List ℕ} {q : Progress} {out′ : List ℕ} → v ≡ w → Closes r w out q out′ → Closes r v out q out′
+  closes-as {w} {v} {q} {out′} e m = subst (λ (u : List ℕ). Closes r u out q out′) (sym e) m
+
+module _ {row at : ℕ} {out out′ : List ℕ} {r : Progress} {m : LaTeXMode} {e : LaTeXEnv} {n : ℕ} (l : List ℕ) where
+  -- elements were walked over, with the label's array as l
+  pub agrees-reached :
+      {c : Carry} {w : List ℕ} {p k : ℕ} {b h : Bool} → r ≡ reachedAt p b h k → record { flag = b; label = labelOf h k l } ≡ c → k ≤ labelMost
+      → Wrote at out w p out′ → Agrees (walkedOf m e n l r) (record { mode = m; env = e; indent = n }) row at out out′ (done c w)
+  agrees-reached {k = k} {b = b} {h = h} g ec s wr = agrees-done (stateOf m e n b h k l) (ap (walkedOf m e n l) g) refl ec s wr
+
+  -- the element was refused at its own row
+  pub agrees-halted :
+      {k : ℕ} → 0 < k → r ≡ haltedWith k row → Agrees (walkedOf m e n l r) (record { mode = m; env = e; indent = n }) row at out out′ (refused k 0)
+  agrees-halted h g = agrees-here h (ap (walkedOf m e n l) g)
+
+module _ {row at : ℕ} {out out₁ out₂ w : List ℕ} {r q : Progress} {l : List ℕ} {m m′ : LaTeXMode} {e e′ : LaTeXEnv} {n n′ : ℕ} where
+  -- elements walked in another place, and a text after them: the caller stands where it stood
+  pub agrees-closes :
+      {o : Outcome} → length out ≤ cap
+      → Agrees (walkedOf m′ e′ n′ l r) (record { mode = m′; env = e′; indent = n′ }) row at out out₁ o → Closes r w out₁ q out₂
+      → Agrees (walkedOf m e n l q) (record { mode = m; env = e; indent = n }) row at out out₂ (closing w o)
+  agrees-closes h (declines {n = k} {r = i} g p s) c =
+      let z : r .refusal ≡ 0 → ⊥ = λ u. omega arith in
+      let same = c .refused-on z .0 in
+      declines {r = i} g (ap (λ (b : Progress). b .refusal) same ∙ p) (ap (λ (b : Progress). b .row) same ∙ s)
+  agrees-closes h (accepts u ex ec k v) c =
+      accepts (c .accepted u) refl
+      ((λ i. record { flag = c .flag-so u i; label = labelOf (c .held-so u i) (c .len-so u i) l }) ∙ ec)
+      (subst (λ (z : ℕ). z ≤ labelMost) (sym (c .len-so u)) k) (wrote-then h v (c .written u))
 
 module _ {row at : ℕ} {out out₁ out₂ : List ℕ} {a r : Walked} {x : Place} (list : Bool) (m : LaTeXMode) where
   -- an environment takes the held label

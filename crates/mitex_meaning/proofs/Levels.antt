@@ -62,7 +62,7 @@ module _ (n : ℕ) (p q : Tree → Carry → Outcome) (agree : Same n p q) where
   unfolding turn
   same-turn a t c h = ap (λ (r : Outcome). after (before a (textOf t)) (closing (behind a) (cond (converts a) r (done c [])))) (agree t c h)
 
-  same-each : (o : ℕ) (l : Loop) (f : Forest) (c : Carry) → sizes f ≤ n → each p o l f c ≡ each q o l f c
+  pub same-each : (o : ℕ) (l : Loop) (f : Forest) (c : Carry) → sizes f ≤ n → each p o l f c ≡ each q o l f c
   unfolding each
   same-each o l none c h = refl
   same-each o l (more t f) c h =

@@ -6,6 +6,7 @@ pub mod Keeping
 pub mod Blocks
 pub mod Sizes
 pub mod Levels
+pub mod Runs
 pub mod LentForms
 pub mod LentWalks
 pub mod LentCalls

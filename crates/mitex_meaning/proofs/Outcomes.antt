@@ -1,6 +1,6 @@
 -- How outcomes compose: texts before and after, one outcome after another, and rows counted from further up. Each law goes by
 -- the two cases of an outcome.
-use mathlib.Core.Path.{_≡_, refl, ap}
+use mathlib.Core.Path.{_≡_, refl, sym, ap}
 use mathlib.Core.List.{List, [], _++_, append-assoc, append-nil}
 use Prim.Native.Nat.{ℕ, _+_}
 use native.Mathlib.Nat.{add-assoc, zero-add}
@@ -27,6 +27,14 @@ andThen-done (done c w) = rw append-nil
 pub andThen-same : (p : Outcome) (k l : Carry → Outcome) → ((c : Carry) → k c ≡ l c) → andThen p k ≡ andThen p l
 andThen-same (refused n r) k l e = refl
 andThen-same (done c w) k l e = ap (after w) (e c)
+
+pub andThen-after : (w : List ℕ) (p : Outcome) (k : Carry → Outcome) → andThen (after w p) k ≡ after w (andThen p k)
+andThen-after w (refused n r) k = refl
+andThen-after w (done c v) k = sym (after-after w v (k c))
+
+pub andThen-andThen : (p : Outcome) (k l : Carry → Outcome) → andThen (andThen p k) l ≡ andThen p (λ c. andThen (k c) l)
+andThen-andThen (refused n r) k l = refl
+andThen-andThen (done c w) k l = andThen-after w (k c) l
 
 -- ---- a text after
 

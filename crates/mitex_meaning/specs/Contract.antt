@@ -1,24 +1,21 @@
 -- What a walk over an element promises: its answer agrees with the outcome that the definitions give.
 use mathlib.Core.Path.{_≡_}
-use mathlib.Core.Bool.{Bool}
+use mathlib.Core.Bool.{Bool, false}
 use Prim.Native.Nat.{ℕ, _+_, _≤_, _<_}
 use mathlib.Core.List.{List}
 use Rattle.text.specs.Writing.{Wrote}
 use Rattle.mitex_meaning.specs.Outcome.{Carry, Outcome, labelMost}
 use Rattle.mitex_meaning.specs.Outcome.Outcome.{refused, done}
-use Rattle.mitex_meaning.specs.State.{carryOf}
+use Rattle.mitex_meaning.specs.State.{carryOf, stateOf}
 use Rattle.mitex_meaning.specs.Environments.{taken, dropped}
 use Rattle.mitex_meaning.specs.declared.LaTeXMode.{LaTeXMode}
 use Rattle.mitex_meaning.specs.declared.LaTeXEnv.{LaTeXEnv}
 use Rattle.mitex_meaning.specs.declared.Converter.{Converter}
+use Rattle.mitex_meaning.specs.declared.Place.{Place}
+use Rattle.mitex_meaning.specs.declared.Progress.{Progress}
 use Rattle.mitex_meaning.specs.declared.Walked.{Walked}
 
 -- mode, environment and indent
-pub record Place : Type 0 where
-  pub mode : LaTeXMode
-  pub env : LaTeXEnv
-  pub indent : ℕ
-
 abbrev pub placeOf : Converter → Place
 placeOf c = record { mode = c .mode; env = c .env; indent = c .indent }
 
@@ -41,6 +38,34 @@ pub record Went (c : Converter) (at : ℕ) (a : Walked) : Type 0 where
   pub gives : a .converter ≡ c
   pub next : a .at ≡ at
   pub well : a .refusal ≡ 0
+
+-- elements that were walked over, and one that was refused
+abbrev pub reachedAt : ℕ → Bool → Bool → ℕ → Progress
+reachedAt at b h k = record { at = at; row = 0; len = k; refusal = 0; flag = b; held = h }
+
+abbrev pub haltedWith : ℕ → ℕ → Progress
+haltedWith n row = record { at = 0; row = row; len = 0; refusal = n; flag = false; held = false }
+
+-- the same as the answer of a walk that began in a place and leaves the label's array as l
+abbrev pub walkedOf : LaTeXMode → LaTeXEnv → ℕ → List ℕ → Progress → Walked
+walkedOf m e n l r =
+    record { converter = stateOf m e n (r .flag) (r .held) (r .len) l; at = r .at; refusal = r .refusal; row = r .row }
+
+-- the state and the answer by the place
+abbrev pub stateIn : Place → Bool → Bool → ℕ → List ℕ → Converter
+stateIn x b h k l = stateOf (x .mode) (x .env) (x .indent) b h k l
+
+abbrev pub walkedIn : Place → List ℕ → Progress → Walked
+walkedIn x l r = walkedOf (x .mode) (x .env) (x .indent) l r
+
+-- what follows elements: a refusal is handed on; else w is written, and the carry stays
+pub record Closes (r : Progress) (w out : List ℕ) (q : Progress) (out′ : List ℕ) : Type 0 where
+  pub refused-on : (r .refusal ≡ 0 → ⊥) → (q ≡ r) × (out′ ≡ out)
+  pub accepted : r .refusal ≡ 0 → q .refusal ≡ 0
+  pub flag-so : r .refusal ≡ 0 → q .flag ≡ r .flag
+  pub held-so : r .refusal ≡ 0 → q .held ≡ r .held
+  pub len-so : r .refusal ≡ 0 → q .len ≡ r .len
+  pub written : r .refusal ≡ 0 → Wrote (r .at) out w (q .at) out′
 
 -- what ends an environment: a refusal is handed on; else the held label is written and dropped where the environment takes it
 pub record Takes (a : Walked) (list : Bool) (m : LaTeXMode) (out : List ℕ) (r : Walked) (out′ : List ℕ) : Type 0 where

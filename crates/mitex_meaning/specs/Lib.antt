@@ -24,3 +24,4 @@ pub mod State
 pub mod Contract
 pub mod Keeping
 pub mod Parts
+pub mod Runs

@@ -4,7 +4,8 @@ ghost use Prim.Native.Nat.{_+_, _<_, _≤_, _^_};
 ghost use lib.ListN.{length};
 ghost use Rattle.mitex_meaning.specs.Outcome.{labelMost, stepOf};
 ghost use Rattle.mitex_meaning.specs.State.{newOf, openingOf, withMode, enteredEnv, exitedEnv, withFlag, withLabel, withoutLabel};
-ghost use Rattle.mitex_meaning.specs.Contract.{wentWith, refusedWith};
+ghost use Rattle.text.specs.Writing.{cap};
+ghost use Rattle.mitex_meaning.specs.Contract.{reachedAt, haltedWith, Closes, wentWith, refusedWith};
 
 // The mode of the text that is written.
 pub enum LaTeXMode {
@@ -181,7 +182,25 @@ pub enum CaptionPart {
     CaptionAt(Part),
 }
 
-// What a walk answers: the converter and the next place, with refusal 0; or a refusal and its row.
+// Where an element stands: what goes down and does not come back.
+pub struct Place {
+    pub mode: LaTeXMode,
+    pub env: LaTeXEnv,
+    pub indent: usize,
+}
+
+// How far a walk over elements has come: the next place, the flag, and whether a label is held and of how many bytes, with refusal 0; or
+// a refusal and its row. The label's bytes are lent beside it.
+pub struct Progress {
+    pub at: usize,
+    pub row: usize,
+    pub len: usize,
+    pub refusal: u8,
+    pub flag: bool,
+    pub held: bool,
+}
+
+// What a walk over a block answers: the converter and the next place, with refusal 0; or a refusal and its row.
 pub struct Walked {
     pub converter: Converter,
     pub at: usize,
@@ -360,6 +379,46 @@ pub fn indent_in(mut c: Converter, context: LaTeXEnv) -> usize
     let inside = c.indent;
     c.exit_env(prev);
     inside - c.indent
+}
+
+// Elements that were walked over.
+pub fn reach(at: usize, flag: bool, held: bool, len: usize) -> Progress
+    ensures { λ r. ⌜ r ≡ reachedAt at flag held len ⌝ }
+{
+    Progress {
+        at,
+        row: 0,
+        len,
+        refusal: 0,
+        flag,
+        held,
+    }
+}
+
+// An element that is refused.
+pub fn halt(number: u8, row: usize) -> Progress
+    ensures { λ r. ⌜ r ≡ haltedWith number row ⌝ }
+{
+    Progress {
+        at: 0,
+        row,
+        len: 0,
+        refusal: number,
+        flag: false,
+        held: false,
+    }
+}
+
+// What is written after elements, unless one was refused.
+pub fn close(out: &mut [u8], r: Progress, end: &[u8]) -> Progress
+    requires { ⌜ ((r .refusal ≡ 0 → r .at ≤ cap) × (length (now out) ≤ cap)) ⌝ }
+    ensures { λ q. ⌜ Closes r (now (end .entry)) (now (out .entry)) q (now (out .exit)) ⌝ }
+{
+    if r.refusal != 0 {
+        return r;
+    }
+    let p = text::put(out, r.at, end);
+    reach(p, r.flag, r.held, r.len)
 }
 
 // A walk that went well.

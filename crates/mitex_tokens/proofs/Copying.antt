@@ -1,5 +1,5 @@
 -- Words and white space that are copied: how far the loop over what is spelt has gone, with their texts as they are (`Copied`), and what
--- comes of it within a run (`ran-copied`).
+-- comes of it as a run (`copies-run`).
 use mathlib.Core.Path.{_≡_, refl, sym, ap, subst, _∙_}
 use mathlib.Core.Bool.{Bool, true, false, _||_}
 use mathlib.Core.List.{List, []}
@@ -19,21 +19,18 @@ use Rattle.mitex_syntax.proofs.Trees.{getD-here}
 use Rattle.mitex_meaning.specs.Outcome.{Context, Label, Outcome, after, andThen, shift}
 use Rattle.mitex_meaning.specs.Outcome.Outcome.{done}
 use Rattle.mitex_meaning.specs.Tokens.{word, tokenOut}
-use Rattle.mitex_meaning.specs.Children.{nextLoop, each}
+use Rattle.mitex_meaning.specs.Children.{each}
 use Rattle.mitex_meaning.specs.Conversion.{convert, startContext}
 use Rattle.mitex_meaning.specs.declared.LaTeXMode.{LaTeXMode}
 use Rattle.mitex_meaning.specs.declared.LaTeXMode.the-variants.{Text}
-use Rattle.mitex_meaning.specs.declared.Loop.{Loop}
-use Rattle.mitex_meaning.specs.declared.Act.the-variants.{Convert}
+use Rattle.mitex_meaning.specs.declared.Loop.the-variants.{Plain}
 use Rattle.mitex_meaning.proofs.Outcomes.{after-nil, after-after}
-use Rattle.mitex_loops.specs.Given.{numberOf}
-use Rattle.mitex_tokens.specs.Puts.{carrying, tokenTurn}
+use Rattle.mitex_tokens.specs.Puts.{carrying}
 use Rattle.mitex_tokens.specs.Running.{isCopied, runOf}
-use Rattle.mitex_tokens.specs.Runs.{Copies, Runs}
-use Rattle.mitex_tokens.specs.declared.Run.{Run}
+use Rattle.mitex_tokens.specs.Runs.{Copies, RunGoes}
+use Rattle.mitex_tokens.specs.declared.TokenRun.{TokenRun}
 use Rattle.mitex_tokens.proofs.Tokens.{token-space, token-word}
-use Rattle.mitex_tokens.proofs.Putting.{turn-plain}
-use Rattle.mitex_tokens.proofs.Running.{Head, head, Steady, steady-act, steady-next, each-token, rows-eight}
+use Rattle.mitex_tokens.proofs.Running.{Head, head, each-token, rows-eight}
 
 -- such a token writes its text
 copied-out :
@@ -47,21 +44,21 @@ copied-out x k s l t e = on (eqb k TokenWord) refl
         token-space x s (carrying false l) k (eqb-true k TokenWhiteSpace (ap (λ (b : Bool). b || eqb k TokenWhiteSpace) (sym q) ∙ e))
 
 -- the loop over f goes on behind i bytes of rows and j of text, which is written
-pub record CopiedTo (x : Context) (how : Loop) (f : Forest) (n : ℕ) (rows text : List ℕ) (i j : ℕ) : Type 0 where
+pub record CopiedTo (x : Context) (f : Forest) (n : ℕ) (rows text : List ℕ) (i j : ℕ) : Type 0 where
   pub forest : Forest
   pub spells : SpellsAll forest (drop i rows) (drop j text)
   pub fits : sizes forest ≤ sizes f
   pub is :
-      (l : Label) (o : ℕ) → each (convert n x) o how f (carrying false l)
-      ≡ after (take j text) (each (convert n x) (o + i / 8) how forest (carrying false l))
+      (l : Label) (o : ℕ) → each (convert n x) o Plain f (carrying false l)
+      ≡ after (take j text) (each (convert n x) (o + i / 8) Plain forest (carrying false l))
 
-pub record Copied (x : Context) (how : Loop) (rows text : List ℕ) (i j : ℕ) : Type 0 where
+pub record Copied (x : Context) (rows text : List ℕ) (i j : ℕ) : Type 0 where
   pub stop : j ≤ length text
   pub whole : i ≡ 8 * (i / 8)
-  pub goes : (f : Forest) (n : ℕ) → SpellsAll f rows text → sizes f ≤ n → CopiedTo x how f n rows text i j
+  pub goes : (f : Forest) (n : ℕ) → SpellsAll f rows text → sizes f ≤ n → CopiedTo x f n rows text i j
 
-pub copied-start : (x : Context) (how : Loop) (rows text : List ℕ) → Copied x how rows text 0 0
-copied-start x how rows text =
+pub copied-start : (x : Context) (rows text : List ℕ) → Copied x rows text 0 0
+copied-start x rows text =
     record {
       stop = omega arith;
       whole = refl;
@@ -71,16 +68,16 @@ copied-start x how rows text =
             spells = sp;
             fits = omega arith;
             is =
-                λ l o. sym (after-nil (each (convert n x) (o + 0) how f (carrying false l))
-                ∙ ap (λ (m : ℕ). each (convert n x) m how f (carrying false l)) (add-zero o));
+                λ l o. sym (after-nil (each (convert n x) (o + 0) Plain f (carrying false l))
+                ∙ ap (λ (m : ℕ). each (convert n x) m Plain f (carrying false l)) (add-zero o));
           };
     }
 
 -- the next token
-module _ {x : Context} {how : Loop} {rows text : List ℕ} {i j : ℕ} (p : Copied x how rows text i j) (st : Steady how) (t : x .mode ≡ Text)
-    (short : length text < cap) (h : i < length rows) (mark : getD rows (i + 1) 0 ≡ 1) (c : isCopied (getD rows i 0) ≡ true) where
+module _ {x : Context} {rows text : List ℕ} {i j : ℕ} (p : Copied x rows text i j) (t : x .mode ≡ Text) (short : length text < cap)
+    (h : i < length rows) (mark : getD rows (i + 1) 0 ≡ 1) (c : isCopied (getD rows i 0) ≡ true) where
   module _ (f : Forest) (n : ℕ) (sp : SpellsAll f rows text) (q : sizes f ≤ n) where
-    abbrev before : CopiedTo x how f n rows text i j
+    abbrev before : CopiedTo x f n rows text i j
     before = p .goes f n sp q
 
     abbrev there : Head (before .forest) (drop i rows) (drop j text)
@@ -98,25 +95,20 @@ module _ {x : Context} {how : Loop} {rows text : List ℕ} {i j : ℕ} (p : Copi
     unfolding size
     fewer = omega (arith, before .fits, ap sizes (there .is))
 
-    copied-is : (l : Label) → tokenTurn x Convert kind said (carrying false l) ≡ done (carrying false l) said
-    copied-is l = turn-plain x kind said (carrying false l) ∙ copied-out x kind said l t (ap isCopied (getD-here rows i) ∙ c)
-
-    abbrev then : ℕ → Loop → Label → Outcome
-    then o l′ l = each (convert n x) o l′ (there .others) (carrying false l)
+    abbrev then : ℕ → Label → Outcome
+    then o l = each (convert n x) o Plain (there .others) (carrying false l)
 
     goes-on :
-        (l : Label) (o : ℕ) → each (convert n x) o how f (carrying false l)
-        ≡ after (take j text) (after said (then (o + i / 8 + 1) (nextLoop how kind Convert) l))
+        (l : Label) (o : ℕ) → each (convert n x) o Plain f (carrying false l) ≡ after (take j text) (after said (then (o + i / 8 + 1) l))
     goes-on l o =
         before .is l o
-        ∙ ap (λ (y : Forest). after (take j text) (each (convert n x) (o + i / 8) how y (carrying false l))) (there .is)
+        ∙ ap (λ (y : Forest). after (take j text) (each (convert n x) (o + i / 8) Plain y (carrying false l))) (there .is)
         ∙ ap (after (take j text))
-        (each-token n x (o + i / 8) how kind said (there .others) (carrying false l) Convert (omega (arith, fewer))
-        (sym (steady-act st kind said (there .others) (there .first .sound)))
-        ∙ ap (λ (y : Outcome). andThen (shift (o + i / 8) y) (λ d. each (convert n x) (o + i / 8 + 1) (nextLoop how kind Convert) (there .others) d))
-        (copied-is l))
+        (each-token n x (o + i / 8) kind said (there .others) (carrying false l) (omega (arith, fewer))
+        ∙ ap (λ (y : Outcome). andThen (shift (o + i / 8) y) (each (convert n x) (o + i / 8 + 1) Plain (there .others)))
+        (copied-out x kind said l t (ap isCopied (getD-here rows i) ∙ c)))
 
-    copied-to : CopiedTo x how f n rows text (i + 8) (j + numOf (drop i rows))
+    copied-to : CopiedTo x f n rows text (i + 8) (j + numOf (drop i rows))
     copied-to =
         record {
           forest = there .others;
@@ -128,13 +120,12 @@ module _ {x : Context} {how : Loop} {rows text : List ℕ} {i j : ℕ} (p : Copi
               λ l o.
               let row : o + i / 8 + 1 ≡ o + (i + 8) / 8 = omega arith in
               goes-on l o
-              ∙ after-after (take j text) said (then (o + i / 8 + 1) (nextLoop how kind Convert) l)
-              ∙ ap (λ (y : List ℕ). after y (then (o + i / 8 + 1) (nextLoop how kind Convert) l)) (sym (take-add j (numOf (drop i rows)) text))
-              ∙ ap (λ (y : Loop). after (take (j + numOf (drop i rows)) text) (then (o + i / 8 + 1) y l)) (steady-next st kind Convert)
-              ∙ ap (λ (y : ℕ). after (take (j + numOf (drop i rows)) text) (then y how l)) row;
+              ∙ after-after (take j text) said (then (o + i / 8 + 1) l)
+              ∙ ap (λ (y : List ℕ). after y (then (o + i / 8 + 1) l)) (sym (take-add j (numOf (drop i rows)) text))
+              ∙ ap (λ (y : ℕ). after (take (j + numOf (drop i rows)) text) (then y l)) row;
         }
 
-  pub copied-next : (f : Forest) → SpellsAll f rows text → Copied x how rows text (i + 8) (j + numOf (drop i rows))
+  pub copied-next : (f : Forest) → SpellsAll f rows text → Copied x rows text (i + 8) (j + numOf (drop i rows))
   copied-next f sp =
       record {
         stop = omega (arith, there f (sizes f) sp (omega arith) .fits, length-drop j text, p .stop);
@@ -148,7 +139,7 @@ module _ {x : Context} {how : Loop} {rows text : List ℕ} {i j : ℕ} (p : Copi
 abbrev inText : Context
 inText = startContext [] Text
 
-module _ {how : Loop} {rows text : List ℕ} {i j : ℕ} (p : (x : Context) → x .mode ≡ Text → Copied x how rows text i j) where
+module _ {rows text : List ℕ} {i j : ℕ} (p : (x : Context) → x .mode ≡ Text → Copied x rows text i j) where
   pub copied-stop : j ≤ length text
   copied-stop = p inText refl .stop
 
@@ -160,10 +151,10 @@ module _ {how : Loop} {rows text : List ℕ} {i j : ℕ} (p : (x : Context) → 
 
   -- once it is written
   pub copied-run :
-      {at w : ℕ} {out out′ : List ℕ} {r : Run} → 8 ≤ i → i ≤ length rows → Wrote at out (take j text) w out′ → r ≡ runOf i j w false how 0
-      → Copies how rows text at out r out′
+      {at w : ℕ} {out out′ : List ℕ} {r : TokenRun} → 8 ≤ i → i ≤ length rows → Wrote at out (take j text) w out′ → r ≡ runOf i j w false 0
+      → Copies rows text at out r out′
   copied-run {at} {w} {out} {out′} some high wrote e =
-      subst (λ (y : Run). Copies how rows text at out y out′) (sym e)
+      subst (λ (y : TokenRun). Copies rows text at out y out′) (sym e)
       (record {
         stays = refl;
         some = some;
@@ -179,14 +170,13 @@ module _ {how : Loop} {rows text : List ℕ} {i j : ℕ} (p : (x : Context) → 
 -- ---- what was copied, as a run
 
 pub copies-run :
-    {x : Context} {how : Loop} {rows text : List ℕ} {at : ℕ} {out : List ℕ} {r : Run} {out′ : List ℕ} → x .mode ≡ Text
-    → Copies how rows text at out r out′ → Runs x false how rows text at out r out′
-copies-run {x} {how} {r = r} t q =
-    let z : r .refusal ≡ 0 = ap (λ (y : Run). y .refusal) (q .stays) in
+    {x : Context} {rows text : List ℕ} {at : ℕ} {out : List ℕ} {r : TokenRun} {out′ : List ℕ} → x .mode ≡ Text → Copies rows text at out r out′
+    → RunGoes x false rows text at out r out′
+copies-run {x} {r = r} t q =
+    let z : r .refusal ≡ 0 = ap (λ (y : TokenRun). y .refusal) (q .stays) in
     record {
       high = q .high;
       stop = q .stop;
-      counts = omega (arith, ap (λ (y : Run). numberOf (y .how)) (q .stays));
       some = λ y. q .some;
       refuses = λ y. absurd (y z);
       goes = λ y. q .goes x t;

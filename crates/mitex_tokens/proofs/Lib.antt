@@ -3,8 +3,3 @@ pub mod Spacing
 pub mod Putting
 pub mod Running
 pub mod Copying
-pub mod Bracing
-pub mod Attaching
-pub mod Calling
-pub mod Commanding
-pub mod Noding

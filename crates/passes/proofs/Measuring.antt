@@ -16,7 +16,8 @@ use Rattle.mitex_syntax.proofs.Trees.{length-rowss}
 use Rattle.mitex_meaning.specs.Outcome.{Carry, Outcome, labelMost}
 use Rattle.mitex_meaning.specs.Outcome.Outcome.{refused, done}
 use Rattle.mitex_meaning.specs.State.{carryOf}
-use Rattle.mitex_meaning.specs.Contract.{Place, Agrees}
+use Rattle.mitex_meaning.specs.Contract.{Agrees}
+use Rattle.mitex_meaning.specs.declared.Place.{Place}
 use Rattle.mitex_meaning.specs.Contract.Agrees.{declines, accepts}
 use Rattle.ledger.specs.Ledger.{decodeRows, rowAt, sameCarry, Piece, written}
 use Rattle.edit_meaning.specs.Walk.{Walk, onto, next, nextUntil, walk, walkUntil}

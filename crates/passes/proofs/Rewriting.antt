@@ -15,7 +15,8 @@ use Rattle.mitex_syntax.proofs.Trees.{length-rowss, size-some, size-more}
 use Rattle.mitex_meaning.specs.Outcome.{Carry, labelMost}
 use Rattle.mitex_meaning.specs.Outcome.Outcome.{done}
 use Rattle.mitex_meaning.specs.State.{carryOf}
-use Rattle.mitex_meaning.specs.Contract.{Place, Agrees}
+use Rattle.mitex_meaning.specs.Contract.{Agrees}
+use Rattle.mitex_meaning.specs.declared.Place.{Place}
 use Rattle.mitex_meaning.specs.Contract.Agrees.{accepts}
 use Rattle.mitex_meaning.specs.declared.LaTeXMode.{LaTeXMode}
 use Rattle.mitex_meaning.specs.declared.Walked.{Walked}

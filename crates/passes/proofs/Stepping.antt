@@ -14,12 +14,13 @@ use Rattle.mitex_syntax.specs.Rows.{extentOf, tokenSum, Spans}
 use Rattle.mitex_syntax.proofs.Trees.{ElementAt, element, first-spelt, size-some, all-begins, spans, rows-e, text-n, part, part-spells, past-exact, ChildPart, child-part}
 use Rattle.mitex_meaning.specs.Outcome.{Context}
 use Rattle.mitex_meaning.specs.State.{contextOf, carryOf}
-use Rattle.mitex_meaning.specs.Contract.{Place, placeOf, Agrees}
+use Rattle.mitex_meaning.specs.Contract.{placeOf, Agrees}
+use Rattle.mitex_meaning.specs.declared.Place.{Place}
 use Rattle.mitex_meaning.specs.Conversion.{convert, levels, startContext}
 use Rattle.mitex_meaning.specs.declared.Converter.{Converter}
 use Rattle.mitex_meaning.specs.declared.Walked.{Walked}
 use Rattle.mitex_meaning.proofs.Agreeing.{Good, good}
-use Rattle.mitex.specs.Walks.{Room, Converts}
+use Rattle.mitex.specs.Walks.{Room, ConvertsElement}
 use Rattle.passes.specs.Passes.{Outside, BlocksGiven, rowNo, Stepped}
 use Rattle.passes.specs.declared.Standing.{Standing}
 
@@ -48,7 +49,7 @@ module _ {rules index rows text : List ℕ} {s : Standing} (w : BlocksGiven rule
 
       pub next-room :
           (out : List ℕ) → length out ≤ cap
-          → Room 0 (part rows (s .i) e) (part text (s .j) n) out (s .walked .at) (1 + s .i / 8) (s .walked .converter)
+          → Room 0 (part rows (s .i) e) (part text (s .j) n) out (s .walked .at) (s .i / 8) (s .walked .converter)
       next-room out k =
           let x = next-child in
           let f = w .few in
@@ -87,7 +88,7 @@ module _ {rules index rows text : List ℕ} {s : Standing} (w : BlocksGiven rule
         (is-n : n ≡ tokenSum (take (extentOf (drop (s .i) rows)) (drop (s .i) rows))) where
       pub stepped :
           {a : Walked} {out out′ : List ℕ}
-          → Converts rules index (part rows (s .i) e) (part text (s .j) n) (1 + s .i / 8) (s .walked .converter) (s .walked .at) out a out′
+          → ConvertsElement rules index (part rows (s .i) e) (part text (s .j) n) (1 + s .i / 8) (s .walked .converter) (s .walked .at) out a out′
           → Stepped rules index rows text s (w .rs) t g out (record { block = s .block + 1; i = s .i + e; j = s .j + n; walked = a }) out′
       stepped {a} {out} {out′} m =
           let x = named-element in

@@ -48,7 +48,7 @@ pub fn stand_at(rows: &[u8], block: usize, at: usize, converter: Converter) -> S
     }
 }
 
-// The next block, converted. The root is row 0, so the first block stands at row 1.
+// The next block, converted. It stands one row after those before it, since the root is row 0.
 pub fn next_block<'a>(
     out: &mut [u8],
     rows: &[u8],
@@ -68,12 +68,12 @@ pub fn next_block<'a>(
     let e = i + n.rows;
     let u = j + n.text;
     let before = s.walked;
-    let walked = mitex::convert(
+    let walked = mitex::convert_block(
         out,
         before.at,
         &rows[i..e],
         &text[j..u],
-        1 + i / 8,
+        i / 8,
         rules,
         index,
         before.converter,

@@ -20,23 +20,23 @@ returns c =
     bare-found a (bare-end argument-models (seek (isOf ClauseArgument) (rest 1 f)) (left-none (a .moved .there) (c .before .if1 .taken))) (omega arith)
     (c .model-part .ensures)
 
-past-first-requires : tie.Need-past-first-requires
-past-first-requires c κs =
+past-child-requires : tie.Need-past-child-requires
+past-child-requires c κs =
     let pre = c .before .before .before .before .pre in
     left-some (c .before .seek .ensures _ (rest 1 (pre .forest)) (some-left pre) .moved .there) (pre .few) (pre .short)
 
-abbrev start : tie.After-past-first → tie.Start
+abbrev start : tie.After-past-child → tie.Start
 start c = c .before .before .before .before .before
 
 -- past the first argument
 abbrev next :
-    (c : tie.After-past-first)
+    (c : tie.After-past-child)
     → FirstPassed (start c .args .rows .now) (start c .args .text .now) (start c .pre .begins .rest) (c .before .before .seek .result .row)
-    (c .before .before .seek .result .text) (seek (isOf ClauseArgument) (rest 1 (start c .pre .forest))) (c .past-first .result)
+    (c .before .before .seek .result .text) (seek (isOf ClauseArgument) (rest 1 (start c .pre .forest))) (c .past-child .result)
 next c =
     let given = start c .pre in
     let children = rest 1 (given .forest) in
-    c .past-first .ensures _ (seek (isOf ClauseArgument) children)
+    c .past-child .ensures _ (seek (isOf ClauseArgument) children)
     (c .before .before .seek .ensures _ children (some-left given) .moved .there)
 
 sub-is-model : tie.Need-sub-is-model
@@ -77,7 +77,7 @@ returns-2 c =
     let first = past .before .before in
     λ f sp.
     let a = first .seek .ensures [] (rest 1 f) (exact-left (omega arith) (omega arith) sp) in
-    let b = past .past-first .ensures [] (seek (isOf ClauseArgument) (rest 1 f)) (a .moved .there) in
+    let b = past .past-child .ensures [] (seek (isOf ClauseArgument) (rest 1 f)) (a .moved .there) in
     argument-found a b (found .seek2 .ensures [] (pastFirst (seek (isOf ClauseArgument) (rest 1 f))) (b .moved .there)) (past .before .if1 .left)
     (sym (told .is-model .ensures) ∙ found .before .if2 .taken) (omega arith) (c .model-part2 .ensures)
 
@@ -88,7 +88,7 @@ returns-3 c =
     let first = past .before .before in
     λ f sp.
     let a = first .seek .ensures [] (rest 1 f) (exact-left (omega arith) (omega arith) sp) in
-    let b = past .past-first .ensures [] (seek (isOf ClauseArgument) (rest 1 f)) (a .moved .there) in
+    let b = past .past-child .ensures [] (seek (isOf ClauseArgument) (rest 1 f)) (a .moved .there) in
     bare-found a
     (bare-by argument-models (seek (isOf ClauseArgument) (rest 1 f)) (λ t g q. ap isModel (b .over t g q) ∙ sym (told .is-model .ensures) ∙ c .before .if2 .left)) (omega arith)
     (c .model-part3 .ensures)
@@ -100,7 +100,7 @@ argument-model-spec =
     (λ c κs. search needs)
     (λ c κs. search needs)
     returns
-    past-first-requires
+    past-child-requires
     sub-is-model
     part-is-model-start
     part-is-model-end

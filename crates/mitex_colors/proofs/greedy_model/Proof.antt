@@ -30,8 +30,8 @@ returns-2 c =
 abbrev bracketEnd : Rest → Rest
 bracketEnd s = seek (isOf TokenRBracket) (pastFirst (seek isSolid s))
 
-past-first-requires : tie.Need-past-first-requires
-past-first-requires c κs =
+past-child-requires : tie.Need-past-child-requires
+past-child-requires c κs =
     let first = c .before .before .before in
     let pre = first .before .before .before .pre in
     left-some (first .seek .ensures _ (rest 0 (pre .forest)) (some-left pre) .moved .there) (pre .few) (pre .short)
@@ -42,16 +42,16 @@ seek-requires-2 c κs =
     let pre = first .before .before .before .pre in
     let s = rest 0 (pre .forest) in
     let a = first .seek .ensures _ s (some-left pre) in
-    left-some (c .past-first .ensures _ (seek isSolid s) (a .moved .there) .moved .there) (pre .few) (pre .short)
+    left-some (c .past-child .ensures _ (seek isSolid s) (a .moved .there) .moved .there) (pre .few) (pre .short)
 
-past-first-requires-2 : tie.Need-past-first-requires-2
-past-first-requires-2 c κs =
+past-child-requires-2 : tie.Need-past-child-requires-2
+past-child-requires-2 c κs =
     let begin = c .before in
     let first = begin .before .before .before .before in
     let pre = first .before .before .before .pre in
     let s = rest 0 (pre .forest) in
     let a = first .seek .ensures _ s (some-left pre) in
-    let b = begin .past-first .ensures _ (seek isSolid s) (a .moved .there) in
+    let b = begin .past-child .ensures _ (seek isSolid s) (a .moved .there) in
     left-some (c .seek2 .ensures _ (pastFirst (seek isSolid s)) (b .moved .there) .moved .there) (pre .few) (pre .short)
 
 seek-requires-3 : tie.Need-seek-requires-3
@@ -62,9 +62,9 @@ seek-requires-3 c κs =
     let pre = first .before .before .before .pre in
     let s = rest 0 (pre .forest) in
     let a = first .seek .ensures _ s (some-left pre) in
-    let b = begin .past-first .ensures _ (seek isSolid s) (a .moved .there) in
+    let b = begin .past-child .ensures _ (seek isSolid s) (a .moved .there) in
     let d = end .seek2 .ensures _ (pastFirst (seek isSolid s)) (b .moved .there) in
-    left-some (c .past-first2 .ensures _ (bracketEnd s) (d .moved .there) .moved .there) (pre .few) (pre .short)
+    left-some (c .past-child2 .ensures _ (bracketEnd s) (d .moved .there) .moved .there) (pre .few) (pre .short)
 
 returns-3 : tie.Need-returns-3
 returns-3 c =
@@ -76,9 +76,9 @@ returns-3 c =
     let inside = bracket .before .before in
     λ s l o.
     let a = inside .before .seek .ensures [] s l in
-    let b = begin .past-first .ensures [] (seek isSolid s) (a .moved .there) in
+    let b = begin .past-child .ensures [] (seek isSolid s) (a .moved .there) in
     let d = end .seek2 .ensures [] (pastFirst (seek isSolid s)) (b .moved .there) in
-    let e = beyond .past-first2 .ensures [] (bracketEnd s) (d .moved .there) in
+    let e = beyond .past-child2 .ensures [] (bracketEnd s) (d .moved .there) in
     held-found a b d e (behind .seek3 .ensures [] (pastFirst (bracketEnd s)) (e .moved .there)) (inside .if1 .left) (bracket .if2 .left) o (c .model-part3 .ensures)
 
 pub greedy-model-spec : {M : Type 1} → statement M
@@ -91,9 +91,9 @@ greedy-model-spec =
     (λ c. search needs)
     (λ c κs. search needs)
     returns-2
-    past-first-requires
+    past-child-requires
     seek-requires-2
-    past-first-requires-2
+    past-child-requires-2
     seek-requires-3
     (λ c κs. search needs)
     returns-3)

@@ -34,8 +34,8 @@ returns c =
     let turn = c .before .before .before in
     λ tail s l. scan-found (start turn .args .stop) (turn .before .loop .inv tail s l) (turn .loop-test .taken) (c .before .stops .ensures) (c .if1 .taken)
 
-past-first-requires : tie.Need-past-first-requires Inv-loop μ-loop
-past-first-requires c κs =
+past-child-requires : tie.Need-past-child-requires Inv-loop μ-loop
+past-child-requires c κs =
     let turn = c .before .before .before in
     left-some (here turn .moved .there) (start turn .pre .few) (start turn .pre .short)
 
@@ -44,7 +44,7 @@ loop-less c =
     let turn = c .before .before .before .before in
     let l = here turn .moved .there in
     let pre = start turn .pre in
-    let far = first-passed-far (here turn .now) l (turn .loop-test .taken) (pre .few) (pre .short) _ (c .past-first .ensures _ (here turn .now) l) in
+    let far = first-passed-far (here turn .now) l (turn .loop-test .taken) (pre .few) (pre .short) _ (c .past-child .ensures _ (here turn .now) l) in
     omega arith
 
 loop-again : tie.Need-loop-again Inv-loop μ-loop
@@ -53,7 +53,7 @@ loop-again c =
     let turn = test .before .before in
     λ tail s l.
     let w = turn .before .loop .inv tail s l in
-    scan-again (start turn .args .stop) w (turn .loop-test .taken) (test .stops .ensures) (c .before .if1 .left) _ (c .past-first .ensures tail (w .now) (w .moved .there))
+    scan-again (start turn .args .stop) w (turn .loop-test .taken) (test .stops .ensures) (c .before .if1 .left) _ (c .past-child .ensures tail (w .now) (w .moved .there))
 
 returns-2 : tie.Need-returns-2 Inv-loop μ-loop
 returns-2 c = λ tail s l. scan-end (c .before .before .before .before .args .stop) (c .before .loop .inv tail s l) (c .loop-test .left)
@@ -68,7 +68,7 @@ seek-spec =
     (λ c. search needs)
     (λ c κs. search needs)
     returns
-    past-first-requires
+    past-child-requires
     loop-less
     loop-again
     returns-2)

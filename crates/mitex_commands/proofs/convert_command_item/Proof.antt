@@ -1,9 +1,9 @@
 -- By whether there is a mark.
-use mathlib.Core.Path.{refl}
+use mathlib.Core.Path.{refl, ap}
 use native.Mathlib.Omega.{arith}
-use Rattle.mitex_meaning.specs.State.{carryOf}
-use Rattle.mitex_meaning.proofs.Holding.{went-says}
-use Rattle.mitex_meaning.proofs.Agreeing.{agrees-as, agrees-done, agrees-here}
+use Rattle.mitex_meaning.specs.State.{carryOf, stateOf}
+use Rattle.mitex_meaning.specs.declared.Progress.{Progress}
+use Rattle.mitex_meaning.proofs.Agreeing.{agrees-as, agrees-reached, agrees-halted}
 use Rattle.mitex_commands.proofs.Items.{item-refused, item-written}
 use borrow.Author.Needs.{needs}
 use Rattle.mitex_commands.proofs.convert_command_item.Statement.{statement}
@@ -13,8 +13,12 @@ returns : tie.Need-returns
 returns c =
     let at-if = c .before in
     let at-mark = at-if .before in
-    let d = at-mark .before .before .args .c in (
-      agrees-as (item-refused (d .env) (d .indent) (carryOf d) (at-mark .mark-of .ensures) (at-if .if1 .taken)) (agrees-here (omega arith) (c .refuse .ensures)),
+    let a = at-mark .before .before .args in (
+      λ l.
+          agrees-as
+          (item-refused (a .env) (a .indent) (carryOf (stateOf (a .mode) (a .env) (a .indent) (a .flag) (a .held) (a .len) l))
+          (at-mark .mark-of .ensures) (at-if .if1 .taken))
+          (agrees-halted l (omega arith) (c .halt .ensures)),
       λ z. refl,
     )
 
@@ -24,10 +28,13 @@ returns-2 c =
     let at-if = at-put .before .before in
     let at-mark = at-if .before in
     let start = at-mark .before .before in
-    let d = start .args .c in (
-      agrees-as (item-written (d .env) (d .indent) (carryOf d) (at-mark .mark-of .ensures) (at-if .if1 .left))
-          (agrees-done d (c .went .ensures) refl refl (start .pre .1) (at-put .put-item .ensures)),
-      λ z. absurd (z (went-says (c .went .ensures) .well)),
+    let a = start .args in (
+      λ l.
+          agrees-as
+          (item-written (a .env) (a .indent) (carryOf (stateOf (a .mode) (a .env) (a .indent) (a .flag) (a .held) (a .len) l))
+          (at-mark .mark-of .ensures) (at-if .if1 .left))
+          (agrees-reached l (c .reach .ensures) refl (start .pre .1) (at-put .put-item .ensures)),
+      λ z. absurd (z (ap (λ (r : Progress). r .refusal) (c .reach .ensures))),
     )
 
 pub convert-command-item-spec : {M : Type 1} → statement M

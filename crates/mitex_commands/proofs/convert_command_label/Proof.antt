@@ -3,7 +3,7 @@ use mathlib.Core.Path.{refl, sym, ap, _∙_}
 use mathlib.Core.List.{List}
 use Prim.Native.Nat.{ℕ}
 use Rattle.mitex_syntax.proofs.Trees.{all-begins}
-use Rattle.mitex_meaning.specs.State.{carryOf}
+use Rattle.mitex_meaning.specs.State.{carryOf, stateOf}
 use Rattle.mitex_meaning.specs.Commands.{labelIn}
 use Rattle.mitex_meaning.proofs.Agreeing.{agrees-as}
 use Rattle.mitex_commands.proofs.Items.{label-now, label-held, label-well}
@@ -17,31 +17,31 @@ returns c =
     let at-if = at-write .before .before in
     let at-now = at-if .before in
     let at-text = at-now .before in
-    let start = at-text .before .before .before .before in
-    let a = start .args .c in
+    let a = at-text .before .before .before .before .args in
     let s = at-text .label-text .result .now in
-    let now = at-write .write-label .ensures (start .args .row) in (
+    let carry = carryOf (stateOf (a .mode) (a .env) (a .indent) (a .flag) (a .held) (a .len) (a .label .now)) in
+    let now = at-write .write-label .ensures (a .env) (a .indent) (a .row) (a .label .now) in (
       λ f sp.
           agrees-as
-          (ap (λ (l : List ℕ). labelIn (a .env) (a .mode) l (carryOf a)) (sym (at-text .label-text .ensures f (all-begins sp)))
-          ∙ label-now (a .mode) s (carryOf a) (a .env) (at-now .writes-now .ensures) (at-if .if1 .taken))
+          (ap (λ (l : List ℕ). labelIn (a .env) (a .mode) l carry) (sym (at-text .label-text .ensures f (all-begins sp)))
+          ∙ label-now (a .mode) s carry (a .env) (at-now .writes-now .ensures) (at-if .if1 .taken))
           now,
-      λ z. absurd (z (label-well (a .mode) s (carryOf a) now)),
+      λ z. absurd (z (label-well (a .mode) s carry now)),
     )
 
 returns-2 : tie.Need-returns-2
 returns-2 c =
-    let at-if = c .before in
+    let at-if = c .before .before in
     let at-now = at-if .before in
     let at-text = at-now .before in
-    let start = at-text .before .before .before .before in
-    let a = start .args .c in
-    let s = at-text .label-text .result .now in (
+    let a = at-text .before .before .before .before .args in
+    let s = at-text .label-text .result .now in
+    let carry = carryOf (stateOf (a .mode) (a .env) (a .indent) (a .flag) (a .held) (a .len) (a .label .now)) in (
       λ f sp.
           agrees-as
-          (ap (λ (l : List ℕ). labelIn (a .env) (a .mode) l (carryOf a)) (sym (at-text .label-text .ensures f (all-begins sp)))
-          ∙ label-held (a .mode) s (carryOf a) (a .env) (at-now .writes-now .ensures) (at-if .if1 .left))
-          (c .hold-label .ensures (start .args .out .now)),
+          (ap (λ (l : List ℕ). labelIn (a .env) (a .mode) l carry) (sym (at-text .label-text .ensures f (all-begins sp)))
+          ∙ label-held (a .mode) s carry (a .env) (at-now .writes-now .ensures) (at-if .if1 .left))
+          (c .hold-label .ensures (a .mode) (a .env) (a .indent) (a .held) (a .len) (a .out .now)),
       λ z. refl,
     )
 

@@ -6,11 +6,10 @@ use Rattle.mitex_environments.proofs.drop_label.Tie as tie
 
 returns : tie.Need-returns
 returns c =
-    let c₁ = c .before in
-    let c₂ = c₁ .before .before .before in
-    let c₃ = c₂ .before .before .before .before in
-    takes-dropped (c₃ .pre .1 .0) (c₃ .pre .0 .1) (c₁ .without-label .ensures) (c .went .ensures) (c₂ .put-held .ensures)
+    let at-put = c .before .before .before in
+    let start = at-put .before .before .before .before in
+    λ m e n. takes-dropped (start .args .label .now) (start .pre .1 .0) (c .reach .ensures) (at-put .put-held .ensures)
 
 pub drop-label-spec : {M : Type 1} → statement M
 drop-label-spec =
-    tie.close (tie.spec (λ c κs. search needs) (λ c κs. search needs) (λ c κs. search needs) (λ c. search needs) returns)
+    tie.close (tie.spec (λ c κs. search needs) (λ c κs. search needs) (λ c. search needs) returns)

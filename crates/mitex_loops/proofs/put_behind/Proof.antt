@@ -2,7 +2,7 @@
 use mathlib.Core.Path.{_∙_, ap, sym}
 use Rattle.text.proofs.Writing.{wrote-as, wrote-nil}
 use Rattle.mitex_loops.proofs.Closing.{behind-mark, some-mark}
-use Rattle.mitex_loops.specs.Marks.{markOf}
+use Rattle.mitex_loops.specs.Marks.{markText}
 use borrow.Author.Needs.{needs}
 use Rattle.mitex_loops.proofs.put_behind.Statement.{statement}
 use Rattle.mitex_loops.proofs.put_behind.Tie as tie
@@ -13,7 +13,7 @@ behind-byte-requires c κs = search needs
 returns : tie.Need-returns
 returns c =
     let c₁ = c .before .before .before in
-    wrote-as (ap markOf (sym (c .if1 .taken) ∙ c .before .behind-byte .ensures) ∙ behind-mark (c₁ .args .act)) (wrote-nil _ _ (c₁ .pre .0))
+    wrote-as (ap markText (sym (c .if1 .taken) ∙ c .before .behind-byte .ensures) ∙ behind-mark (c₁ .args .act)) (wrote-nil _ _ (c₁ .pre .0))
 
 put-byte-requires : tie.Need-put-byte-requires
 put-byte-requires c κs = search needs
@@ -25,7 +25,7 @@ returns-2 : tie.Need-returns-2
 returns-2 c =
     let c₁ = c .before .before .before .before in
     let c₂ = c₁ .before in
-    wrote-as (some-mark _ (c₁ .if1 .left) ∙ ap markOf (c₂ .behind-byte .ensures) ∙ behind-mark (c₂ .before .before .args .act))
+    wrote-as (some-mark _ (c₁ .if1 .left) ∙ ap markText (c₂ .behind-byte .ensures) ∙ behind-mark (c₂ .before .before .args .act))
     (c .before .before .put-byte .ensures)
 
 pub put-behind-spec : {M : Type 1} → statement M

@@ -8,17 +8,17 @@ use lib.Seq.{length-take-le}
 use Rattle.mitex_syntax.specs.Rows.{numOf}
 use Rattle.mitex_meaning.specs.Outcome.{Context}
 use Rattle.mitex_meaning.specs.declared.LaTeXMode.the-variants.{Text}
-use Rattle.mitex_tokens.proofs.Running.{steady, rows-eight}
+use Rattle.mitex_tokens.proofs.Running.{rows-eight}
 use Rattle.mitex_tokens.proofs.Copying.{Copied, copied-start, copied-next, copied-stop, copied-row, copied-run}
 use borrow.Author.Needs.{needs}
 use Rattle.mitex_tokens.proofs.put_copied.Statement.{statement}
 use Rattle.mitex_tokens.proofs.put_copied.Tie as tie
 
 abbrev Inv-loop : tie.InvT-loop
-Inv-loop out at rows text how i₀ j₀ i j = (8 ≤ i) × (i ≤ length rows) × ((x : Context) → x .mode ≡ Text → Copied x how rows text i j)
+Inv-loop out at rows text i₀ j₀ i j = (8 ≤ i) × (i ≤ length rows) × ((x : Context) → x .mode ≡ Text → Copied x rows text i j)
 
 abbrev μ-loop : tie.MeasureT-loop
-μ-loop out at rows text how i₀ j₀ i j = length rows - i
+μ-loop out at rows text i₀ j₀ i j = length rows - i
 
 -- the function's entry
 abbrev start : tie.At-loop Inv-loop μ-loop → tie.Start Inv-loop μ-loop
@@ -39,14 +39,14 @@ row-here c =
 next :
     (c : tie.After-number2 Inv-loop μ-loop) → let l = c .before .before .before in
     let a = start l .args in
-    (x : Context) → x .mode ≡ Text → Copied x (a .how) (a .rows .now) (a .text .now) (l .loop .i + 8) (l .loop .j + c .number2 .result)
+    (x : Context) → x .mode ≡ Text → Copied x (a .rows .now) (a .text .now) (l .loop .i + 8) (l .loop .j + c .number2 .result)
 next c x t =
     let l = c .before .before .before in
     let a = start l .args in
     let p = start l .pre in
     let said = c .before .before .copied-at .ensures (c .before .if1 .taken) in
-    subst (λ (y : ℕ). Copied x (a .how) (a .rows .now) (a .text .now) (l .loop .i + 8) (l .loop .j + y)) (sym (c .number2 .ensures .0))
-    (copied-next (l .loop .inv .2 x t) (steady (a .how) (p .1 .1 .0)) t (p .1 .0 .0 .short) (said .0) (said .1) (said .2) (p .1 .0 .0 .forest)
+    subst (λ (y : ℕ). Copied x (a .rows .now) (a .text .now) (l .loop .i + 8) (l .loop .j + y)) (sym (c .number2 .ensures .0))
+    (copied-next (l .loop .inv .2 x t) t (p .1 .0 .0 .short) (said .0) (said .1) (said .2) (p .1 .0 .0 .forest)
     (p .1 .0 .0 .spells))
 
 number-requires : tie.Need-number-requires Inv-loop μ-loop
@@ -62,9 +62,9 @@ loop-holds c =
       omega arith,
       rows-eight (g .spells) (g .some),
       λ x t.
-          subst (λ (y : ℕ). Copied x (a .how) (a .rows .now) (a .text .now) 8 y) (zero-add (numOf (a .rows .now)) ∙ sym (c .number .ensures .0))
-          (copied-next (copied-start x (a .how) (a .rows .now) (a .text .now)) (steady (a .how) (s .pre .1 .1 .0)) t (g .short) (g .some) (s .pre .1 .0 .1)
-          (s .pre .1 .1 .1) (g .forest) (g .spells)),
+          subst (λ (y : ℕ). Copied x (a .rows .now) (a .text .now) 8 y) (zero-add (numOf (a .rows .now)) ∙ sym (c .number .ensures .0))
+          (copied-next (copied-start x (a .rows .now) (a .text .now)) t (g .short) (g .some) (s .pre .1 .0 .1)
+          (s .pre .1 .1) (g .forest) (g .spells)),
     )
 
 copied-at-requires : tie.Need-copied-at-requires Inv-loop μ-loop

@@ -1,4 +1,4 @@
--- `next_block`: the block at which the pass stands is an element of the rows, and what `convert` promises of it is promised here.
+-- `next_block`: the block at which the pass stands is an element of the rows, and what `convert_block` promises of it is promised here.
 use native.Mathlib.Omega.{arith}
 use borrow.Author.Needs.{needs}
 use Rattle.mitex_syntax.proofs.Trees.{ChildPart}
@@ -18,7 +18,7 @@ here :
 here c = next-child (start c .pre .0) (start c .pre .1 .0) _ _ (c .span-at .ensures .0) (c .span-at .ensures .1)
 
 -- after the two sums that end its parts
-abbrev ends : tie.After-convert-arg → tie.After-span-at
+abbrev ends : tie.After-convert-block-arg → tie.After-span-at
 ends c = let d = c .before .before in d .before .before
 
 span-at-requires : tie.Need-span-at-requires
@@ -30,14 +30,14 @@ add-e c = omega (arith, here (c .before) .end, rows-few (start (c .before) .pre 
 add-u : tie.Need-add-u
 add-u c = let d = c .before .before in omega (arith, here d .stop, text-short (start d .pre .0))
 
-part-convert-end : tie.Need-part-convert-end
-part-convert-end c = omega (arith, here (ends c) .end)
+part-convert-block-end : tie.Need-part-convert-block-end
+part-convert-block-end c = omega (arith, here (ends c) .end)
 
-part-convert-end-2 : tie.Need-part-convert-end-2
-part-convert-end-2 c = omega (arith, here (ends (c .before)) .stop)
+part-convert-block-end-2 : tie.Need-part-convert-block-end-2
+part-convert-block-end-2 c = omega (arith, here (ends (c .before)) .stop)
 
-convert-requires : tie.Need-convert-requires
-convert-requires c κs =
+convert-block-requires : tie.Need-convert-block-requires
+convert-block-requires c κs =
     let d = ends (c .before .before) in
     let w = start d .pre .0 in (
       next-room w (start d .pre .1 .0) _ _ (d .span-at .ensures .0) (d .span-at .ensures .1) (start d .args .out .now) (start d .pre .1 .2),
@@ -53,7 +53,7 @@ returns : tie.Need-returns
 returns c =
     let m = c .before .before .before in
     let d = ends (m .before .before .before) in
-    λ w t g is. stepped w t g is _ _ (d .span-at .ensures .0) (d .span-at .ensures .1) (m .convert .ensures)
+    λ w t g is. stepped w t g is _ _ (d .span-at .ensures .0) (d .span-at .ensures .1) (m .convert-block .ensures)
 
 pub next-block-spec : {M : Type 1} → statement M
 next-block-spec =
@@ -64,12 +64,12 @@ next-block-spec =
     add-u
     (λ c. search needs)
     (λ c. search needs)
-    part-convert-end
+    part-convert-block-end
     (λ c. search needs)
     (λ c. search needs)
-    part-convert-end-2
+    part-convert-block-end-2
     (λ c. search needs)
-    convert-requires
+    convert-block-requires
     add-t17
     (λ c. search needs)
     returns)
