@@ -5,27 +5,26 @@ use mathlib.Core.Bool.{Bool, false}
 use mathlib.Core.List.{List, [], _++_, append-nil}
 use Prim.Native.Nat.{ℕ, _+_, _/_, _≤_, _<_}
 use native.Mathlib.Omega.{arith}
-use lib.ListN.{length, take, length-take, length-drop}
+use lib.ListN.{length, take}
 use Rattle.text.specs.Writing.{cap, Wrote}
 use Rattle.mitex_spec.specs.Rules.{Rule}
-use Rattle.mitex_spec.specs.Index.{SomeRules}
 use Rattle.mitex_syntax.specs.Syntax.{ItemBegin}
 use Rattle.mitex_syntax.specs.Tree.{Tree, Forest, size, sizes, rowsOf, textOf}
 use Rattle.mitex_syntax.specs.Tree.Forest.{none, more}
 use Rattle.mitex_syntax.specs.Spells.{SpellsAll, Sound}
 use Rattle.mitex_syntax.specs.Views.{beginOf, offsetOf}
 use Rattle.mitex_syntax.proofs.Trees.{spells-alone}
-use Rattle.mitex_meaning.specs.Outcome.{Context, Carry, Outcome, Conv, Arm, after, andThen, closing, shift, stepOf}
+use Rattle.mitex_meaning.specs.Outcome.{Context, Carry, Outcome, Conv, after, andThen, closing, shift, stepOf}
 use Rattle.mitex_meaning.specs.Outcome.Outcome.{refused}
 use Rattle.mitex_meaning.specs.State.{contextOf, carryOf}
-use Rattle.mitex_meaning.specs.Contract.{placeOf, Agrees, haltedWith, stateIn, walkedIn, Closes}
+use Rattle.mitex_meaning.specs.Contract.{Agrees, haltedWith, stateIn, walkedIn, Closes}
 use Rattle.mitex_meaning.specs.Children.{each}
 use Rattle.mitex_meaning.specs.Conversion.{convert}
 use Rattle.mitex_meaning.specs.Texts.{leftParen, rightParen, hash, bodyBegin, blockEnd, captionBegin, captionEnd, dollarBegin, dollarEnd}
 use Rattle.mitex_meaning.specs.Groups.{children}
 use Rattle.mitex_meaning.specs.Environments.{Caption, envBegin, envEnd, plainEnv, mathEnv, lastCaption, captioned, figureEnv}
 use Rattle.mitex_meaning.specs.Environments.Caption.{absent, caption}
-use Rattle.mitex_meaning.specs.Parts.{Inside, between, partRows, partText, BeginFound, CaptionFound}
+use Rattle.mitex_meaning.specs.Parts.{Inside, partRows, partText, BeginFound, CaptionFound}
 use Rattle.mitex_meaning.specs.Parts.CaptionFound.{no-caption, bare-caption, caption-at}
 use Rattle.mitex_meaning.specs.declared.LaTeXMode.{LaTeXMode}
 use Rattle.mitex_meaning.specs.declared.LaTeXMode.the-variants.{Math}
@@ -36,15 +35,13 @@ use Rattle.mitex_meaning.specs.declared.Loop.{Loop}
 use Rattle.mitex_meaning.specs.declared.Loop.the-variants.{Plain, Named, Inside as InsideLoop, Figure as FigureLoop}
 use Rattle.mitex_meaning.specs.declared.Part.{Part}
 use Rattle.mitex_meaning.specs.declared.CaptionPart.{CaptionPart}
-use Rattle.mitex_meaning.specs.declared.Converter.{Converter}
 use Rattle.mitex_meaning.specs.declared.Place.{Place}
 use Rattle.mitex_meaning.specs.declared.Progress.{Progress}
-use Rattle.mitex_meaning.specs.declared.Walked.{Walked}
 use Rattle.mitex_meaning.proofs.Outcomes.{after-nil, after-after, closing-after, closing-andThen, andThen-same, andThen-closing, shift-shift}
 use Rattle.mitex_meaning.proofs.Loops.{each-none, each-at}
-use Rattle.mitex_meaning.proofs.Agreeing.{Good, good, agrees-as, agrees-refused, agrees-after, agrees-shift, then-done, then-refused, closes-refused}
+use Rattle.mitex_meaning.proofs.Agreeing.{agrees-as, agrees-refused, agrees-after, agrees-shift, then-done, then-refused, closes-refused}
 use Rattle.mitex_environments.specs.Captions.{isBare, captionPart, captionText, captionClose}
-use Rattle.mitex.specs.Walks.{Siblings, looping, Walks}
+use Rattle.mitex.specs.Walks.{looping, Walks}
 use Rattle.mitex.proofs.Rooms.{framed, env-in}
 use Rattle.mitex.proofs.Walking.{alone-is}
 

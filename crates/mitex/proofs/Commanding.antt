@@ -11,7 +11,7 @@ use Rattle.mitex_syntax.specs.Tree.{Forest}
 use Rattle.mitex_meaning.specs.Outcome.{Context, Carry, Conv, after, inEnv}
 use Rattle.mitex_meaning.specs.Texts.{leftParen, leftBracket, substackName}
 use Rattle.mitex_meaning.specs.Colors.{colorAlias, bodyLoop, argumentsLoop}
-use Rattle.mitex_meaning.specs.Commands.{argumentsOf, argumentsBy, stackEnv, writtenAs, command}
+use Rattle.mitex_meaning.specs.Commands.{argumentsOf, argumentsBy, stackEnv, writtenAs}
 use Rattle.mitex_meaning.specs.declared.LaTeXMode.{LaTeXMode}
 use Rattle.mitex_meaning.specs.declared.LaTeXMode.the-variants.{Text, Math}
 use Rattle.mitex_commands.specs.Leaves.{stackIn}

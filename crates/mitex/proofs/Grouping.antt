@@ -5,22 +5,19 @@ use mathlib.Core.Bool.{Bool, true, false, cond}
 use mathlib.Core.List.{List, [], _++_}
 use Prim.Native.Nat.{ℕ, _+_, _-_, _*_, _/_, _≤_}
 use native.Mathlib.Omega.{arith}
-use lib.ListN.{length, drop, length-take, length-drop}
+use lib.ListN.{length}
 use Rattle.text.specs.Writing.{cap}
 use Rattle.text.specs.Compare.{same}
-use Rattle.mitex_spec.specs.Index.{SomeRules}
-use Rattle.mitex_syntax.specs.Tree.{Forest, size, sizes}
+use Rattle.mitex_syntax.specs.Tree.{Forest, size}
 use Rattle.mitex_syntax.specs.Tree.Forest.{none, more}
 use Rattle.mitex_syntax.specs.Views.{isValid, isInline}
-use Rattle.mitex_meaning.specs.Outcome.{Context, Carry, Outcome, Conv, Arm, after, closing, shift, inMode}
+use Rattle.mitex_meaning.specs.Outcome.{Context, Carry, Outcome, Conv, after, closing, shift, inMode}
 use Rattle.mitex_meaning.specs.Outcome.Outcome.{refused}
 use Rattle.mitex_meaning.specs.Texts.{formulaBegin, formulaEnd, blankGroup, leftParen, hash}
-use Rattle.mitex_meaning.specs.Contract.{placeOf, Agrees, walkedOf, Takes}
-use Rattle.mitex_meaning.specs.Contract.Agrees.{declines, accepts}
+use Rattle.mitex_meaning.specs.Contract.{Agrees, Takes}
 use Rattle.mitex_meaning.specs.Children.{each}
 use Rattle.mitex_meaning.specs.Groups.{formula, groupEnv, curlyIn, curlyGroup, lrBegin, lrEnd, clauseLr}
 use Rattle.mitex_meaning.specs.Runs.{allBlank}
-use Rattle.mitex_meaning.specs.Parts.{between}
 use Rattle.mitex_meaning.specs.Tables.{lettersFit, tableHead}
 use Rattle.mitex_meaning.specs.Environments.{tableWith, takeLabel}
 use Rattle.mitex_meaning.specs.declared.LaTeXMode.{LaTeXMode}
@@ -29,15 +26,12 @@ use Rattle.mitex_meaning.specs.declared.LaTeXEnv.{LaTeXEnv}
 use Rattle.mitex_meaning.specs.declared.LaTeXEnv.the-variants.{Table as TableEnv}
 use Rattle.mitex_meaning.specs.declared.Loop.the-variants.{Plain, Curly, Spaced, Table}
 use Rattle.mitex_meaning.specs.declared.Place.{Place}
-use Rattle.mitex_meaning.specs.declared.Converter.{Converter}
-use Rattle.mitex_meaning.specs.declared.Progress.{Progress}
 use Rattle.mitex_meaning.specs.declared.Walked.{Walked}
-use Rattle.mitex_meaning.proofs.Agreeing.{Good, good, agrees-shift, agrees-takes}
+use Rattle.mitex_meaning.proofs.Agreeing.{agrees-shift, agrees-takes}
 use Rattle.mitex_meaning.proofs.Loops.{each-none, each-shift}
 use Rattle.mitex_meaning.proofs.Runs.{curly-blank}
 use Rattle.mitex_loops.specs.FirstChild.{behindFirst, firstSize, lrName}
 use Rattle.mitex_loops.proofs.Plainly.{group-step}
-use Rattle.mitex.specs.Walks.{Siblings, Walks}
 use Rattle.mitex.proofs.Rooms.{env-in}
 use Rattle.mitex.proofs.Environing.{letters-good}
 

@@ -1,11 +1,11 @@
 -- What commands take of their children: a Greedy argument, a colour and its body.
 use Rattle.mitex.proofs.Rooms.{between-short, between-length}
-use mathlib.Core.Path.{_≡_, refl, sym, ap, subst, _∙_}
+use mathlib.Core.Path.{_≡_, sym, ap, subst, _∙_}
 use mathlib.Core.Option.{Option}
 use mathlib.Core.List.{List, [], _++_}
 use Prim.Native.Nat.{ℕ, _+_, _*_, _-_, _/_, _≤_, _<_}
 use native.Mathlib.Omega.{arith}
-use lib.ListN.{length, take, drop, length-take, length-drop}
+use lib.ListN.{length, take, drop}
 use lib.Seq.{take-take, drop-drop}
 use Rattle.text.specs.Writing.{cap}
 use Rattle.mitex_syntax.specs.Tree.{Tree, Forest, size, sizes}
@@ -23,11 +23,6 @@ use Rattle.mitex_meaning.specs.Colors.{colored, bodyEnd}
 use Rattle.mitex_meaning.specs.Commands.{isArgument, greedyIn, greedyArgument}
 use Rattle.mitex_meaning.specs.Parts.{between, partRows, partText, Inside, GreedyStands, GreedyFound}
 use Rattle.mitex_meaning.specs.Parts.GreedyFound.{no-greedy, greedy-at}
-use Rattle.mitex_meaning.specs.Contract.{Agrees, walkedOf}
-use Rattle.mitex_meaning.specs.Contract.Agrees.{declines, accepts}
-use Rattle.mitex_meaning.specs.declared.LaTeXMode.{LaTeXMode}
-use Rattle.mitex_meaning.specs.declared.LaTeXEnv.{LaTeXEnv}
-use Rattle.mitex_meaning.specs.declared.Progress.{Progress}
 use Rattle.mitex_meaning.specs.declared.LaTeXMode.the-variants.{Text}
 use Rattle.mitex_meaning.specs.declared.Loop.{Loop}
 use Rattle.mitex_meaning.specs.declared.Loop.the-variants.{Greedy}

@@ -7,15 +7,15 @@ use mathlib.Core.Option.Option.{some}
 use mathlib.Core.List.{List, _++_, append-nil}
 use Prim.Native.Nat.{ℕ, zero, suc, _+_, _-_, _*_, _/_, _≤_, _<_}
 use native.Mathlib.Omega.{arith}
-use lib.ListN.{length, take, drop, getD, length-drop, length-append}
-use lib.Seq.{drop-drop, getD-take, getD-drop, length-take-le}
+use lib.ListN.{length, take, drop, getD, length-drop}
+use lib.Seq.{drop-drop, getD-take, getD-drop}
 use Rattle.text.specs.Writing.{cap, Wrote}
 use Rattle.text.proofs.Writing.{wrote-low, part-rest}
 use Rattle.mitex_spec.specs.Rules.{Rule}
 use Rattle.mitex_spec.specs.RuleFile.{rulesOf}
 use Rattle.mitex_spec.specs.Index.{Ready, SomeRules}
 use Rattle.mitex_syntax.specs.Tree.{Tree, Forest, size, sizes, kindOf, textOf, textsOf, rowsOfs}
-use Rattle.mitex_syntax.specs.Tree.Tree.{token, node}
+use Rattle.mitex_syntax.specs.Tree.Tree.{node}
 use Rattle.mitex_syntax.specs.Tree.Forest.{none, more}
 use Rattle.mitex_syntax.specs.Views.{childrenOf}
 use Rattle.mitex_syntax.specs.Spells.{Spells, SpellsAll, SomeTree}
@@ -321,15 +321,6 @@ module _ {rules index rows text : List ℕ} {row : ℕ} {out₀ : List ℕ} {w�
               counts = omega (arith, x .some, k .counts, number-next l (getD rows i 0) act, ap numberOf next);
               left = λ rs ready f sp level fit. next-left rs ready f sp level fit z l′ next;
             }
-
--- ---- what follows a walk
-
--- a refusal stays one, in whatever place, with whatever would be written after
-pub refused-closing :
-    {a : Walked} {x y : Place} {row at at₁ : ℕ} {out out₁ out₂ : List ℕ} (w : List ℕ) {o : Outcome} → Agrees a x row at out out₂ o
-    → (a .refusal ≡ 0 → ⊥) → Agrees a y row at₁ out₁ out₂ (closing w o)
-refused-closing w (declines g p q) z = declines g p q
-refused-closing w (accepts u ex ec l v) z = absurd (z u)
 
 -- ---- one element in a plain loop
 

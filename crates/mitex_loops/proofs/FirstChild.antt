@@ -84,11 +84,6 @@ module _ {f : Forest} {rows text : List ℕ} (sp : SpellsAll f rows text) where
 
 -- ---- what is taken of the children
 
-pub fits-first : (f : Forest) → sizes (firstOnly f) ≤ sizes f
-unfolding sizes
-fits-first none = omega arith
-fits-first (more t f) = omega arith
-
 pub fits-behind : (f : Forest) → sizes (behindFirst f) ≤ sizes f
 unfolding sizes
 fits-behind none = omega arith

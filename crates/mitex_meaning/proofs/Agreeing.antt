@@ -9,7 +9,7 @@ use Rattle.text.specs.Writing.{cap, Wrote}
 use Rattle.text.proofs.Writing.{wrote-then, wrote-low, wrote-nil}
 use Rattle.mitex_meaning.specs.Outcome.{Carry, Outcome, andThen, after, closing, shift, labelMost}
 use Rattle.mitex_meaning.specs.Outcome.Outcome.{refused, done}
-use Rattle.mitex_meaning.specs.State.{labelOf, carryOf, stateOf, placed, Carried}
+use Rattle.mitex_meaning.specs.State.{labelOf, carryOf, stateOf}
 use Rattle.mitex_meaning.specs.Contract.{placeOf, Agrees, reachedAt, haltedWith, walkedOf, Closes, wentWith, refusedWith, Takes}
 use Rattle.mitex_meaning.specs.declared.Place.{Place}
 use Rattle.mitex_meaning.specs.Contract.Agrees.{declines, accepts}
@@ -36,14 +36,6 @@ module _ {a : Walked} {x : Place} {row at : ℕ} {out out′ : List ℕ} where
       {c : Carry} {w : List ℕ} {p : ℕ} (d : Converter) → a ≡ wentWith d p → placeOf d ≡ x → carryOf d ≡ c → d .«label_len» ≤ labelMost
       → Wrote at out w p out′ → Agrees a x row at out out′ (done c w)
   agrees-done {c} {w} d g ex ec l wr = subst (λ (b : Walked). Agrees b x row at out out′ (done c w)) (sym g) (accepts refl ex ec l wr)
-
-  -- the converter went on with another carry
-  pub agrees-carried :
-      {c : Converter} {e : Carry} {w : List ℕ} {p : ℕ} (d : Converter) → a ≡ wentWith d p → Carried c e d → placeOf c ≡ x
-      → c .«label_len» ≤ labelMost → Wrote at out w p out′ → Agrees a x row at out out′ (done e w)
-  agrees-carried {c} d g m ex l wr =
-      let same : placeOf d ≡ placeOf c = λ i. record { mode = m .mode i; env = m .env i; indent = m .indent i } in
-      agrees-done d g (same ∙ ex) (m .carry) (m .short l) wr
 
   pub agrees-refused : {d : Converter} {n : ℕ} (r : ℕ) → 0 < n → a ≡ refusedWith d n (row + r) → Agrees a x row at out out′ (refused n r)
   agrees-refused {d} {n} r h e = subst (λ (b : Walked). Agrees b x row at out out′ (refused n r)) (sym e) (declines h refl refl)
@@ -72,26 +64,6 @@ module _ {row at at₁ : ℕ} {out out₁ out₂ w : List ℕ} {a : Walked} {x :
       {o : Outcome} → length out ≤ cap → Wrote at out w at₁ out₁ → Agrees a x row at₁ out₁ out₂ o → Agrees a x row at out out₂ (after w o)
   agrees-after h wr (declines g p q) = declines g p q
   agrees-after h wr (accepts u ex ec l v) = accepts u ex ec l (wrote-then h wr v)
-
--- what follows a walk: a refusal is handed on; else the converter is brought to the place x, and w is written after it
-pub record Closed (a : Walked) (x : Place) (w out : List ℕ) (r : Walked) (out′ : List ℕ) : Type 0 where
-  pub refused-on : (a .refusal ≡ 0 → ⊥) → (r ≡ a) × (out′ ≡ out)
-  pub accepted : a .refusal ≡ 0 → r .refusal ≡ 0
-  pub converter : a .refusal ≡ 0 → r .converter ≡ placed (x .mode) (x .env) (x .indent) (a .converter)
-  pub written : a .refusal ≡ 0 → Wrote (a .at) out w (r .at) out′
-
-module _ {row at : ℕ} {out out₁ out₂ w : List ℕ} {a r : Walked} {x y : Place} where
-  -- a walk in another place is closed: the converter comes back to this one
-  pub agrees-close :
-      {o : Outcome} → length out ≤ cap → Agrees a y row at out out₁ o → Closed a x w out₁ r out₂ → Agrees r x row at out out₂ (closing w o)
-  agrees-close h (declines {n} {r = k} g p q) c =
-      let z : a .refusal ≡ 0 → ⊥ = λ e. omega arith in
-      let same = c .refused-on z .0 in
-      declines {r = k} g (ap (λ (b : Walked). b .refusal) same ∙ p) (ap (λ (b : Walked). b .row) same ∙ q)
-  agrees-close h (accepts u ex ec l v) c =
-      let same = c .converter u in
-      accepts (c .accepted u) (ap placeOf same) (ap carryOf same ∙ ec) (subst (λ (z : Converter). z .«label_len» ≤ labelMost) (sym same) l)
-      (wrote-then h v (c .written u))
 
 -- ---- what follows elements
 

@@ -42,10 +42,6 @@ pub closing-nil : (p : Outcome) → closing [] p ≡ p
 closing-nil (refused n r) = refl
 closing-nil (done c v) = rw append-nil
 
-pub closing-closing : (w v : List ℕ) (p : Outcome) → closing w (closing v p) ≡ closing (v ++ w) p
-closing-closing w v (refused n r) = refl
-closing-closing w v (done c u) = rw append-assoc
-
 pub closing-after : (w v : List ℕ) (p : Outcome) → closing w (after v p) ≡ after v (closing w p)
 closing-after w v (refused n r) = refl
 closing-after w v (done c u) = rw append-assoc

@@ -68,18 +68,6 @@ unfolding beside Sound
 sounds-apart none g s = (tt, s)
 sounds-apart (more t f) g s = let r = sounds-apart f g (s .1) in ((s .0, r .0), r .1)
 
-pub spells-beside :
-    (f g : Forest) {rows text rows′ text′ : List ℕ} → SpellsAll f rows text → SpellsAll g rows′ text′
-    → SpellsAll (beside f g) (rows ++ rows′) (text ++ text′)
-spells-beside f g {rows} {text} {rows′} {text′} sp sq =
-    record {
-      rows-are =
-          ap (λ (l : List ℕ). l ++ rows′) (sp .rows-are) ∙ ap (λ (l : List ℕ). rowsOfs f ++ l) (sq .rows-are) ∙ sym (rows-beside f g);
-      text-is =
-          ap (λ (l : List ℕ). l ++ text′) (sp .text-is) ∙ ap (λ (l : List ℕ). textsOf f ++ l) (sq .text-is) ∙ sym (texts-beside f g);
-      sound = sounds-beside f g (sp .sound) (sq .sound);
-    }
-
 -- the bytes of the first ones, and those of the others
 module _ (f g : Forest) {rows text : List ℕ} (sp : SpellsAll (beside f g) rows text) where
   rows-two : rows ≡ rowsOfs f ++ rowsOfs g

@@ -5,7 +5,7 @@ ghost use lib.ListN.{length};
 ghost use Rattle.mitex_meaning.specs.Outcome.{labelMost, stepOf};
 ghost use Rattle.mitex_meaning.specs.State.{newOf, openingOf, withMode, enteredEnv, exitedEnv, withFlag, withLabel, withoutLabel};
 ghost use Rattle.text.specs.Writing.{cap};
-ghost use Rattle.mitex_meaning.specs.Contract.{reachedAt, haltedWith, Closes, wentWith, refusedWith};
+ghost use Rattle.mitex_meaning.specs.Contract.{reachedAt, haltedWith, Closes, wentWith};
 
 // The mode of the text that is written.
 pub enum LaTeXMode {
@@ -430,17 +430,5 @@ pub fn went(c: Converter, at: usize) -> Walked
         at,
         refusal: 0,
         row: 0,
-    }
-}
-
-// A walk that was refused.
-pub fn refuse(c: Converter, number: u8, row: usize) -> Walked
-    ensures { λ r. ⌜ r ≡ refusedWith c number row ⌝ }
-{
-    Walked {
-        converter: c,
-        at: 0,
-        refusal: number,
-        row,
     }
 }

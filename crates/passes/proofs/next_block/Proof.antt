@@ -68,7 +68,6 @@ next-block-spec =
     (λ c. search needs)
     (λ c. search needs)
     part-convert-block-end-2
-    (λ c. search needs)
     convert-block-requires
     add-t17
     (λ c. search needs)
