@@ -57,11 +57,11 @@ behind-in n i e l =
 
 -- ---- a Greedy argument
 
-pub greedy-missing :
+pub greedy-refused :
     {f : Forest} {rows text : List ℕ} {r : GreedyPart} → GreedyFound f rows text r → r ≡ NoGreedy → (conv : Conv) (x : Context) (c : Carry)
     → greedyArgument conv x f c ≡ refused 12 0
-greedy-missing {f} (no-greedy h) e conv x c = h (conv x) (1 + offsetBy isArgument f) c
-greedy-missing (greedy-at s) e conv x c = let z : _≡_ {A = ℕ} 0 1 = cc in absurd (omega arith)
+greedy-refused {f} (no-greedy h) e conv x c = h (conv x) (1 + offsetBy isArgument f) c
+greedy-refused (greedy-at s) e conv x c = let z : _≡_ {A = ℕ} 0 1 = cc in absurd (omega arith)
 
 -- the part that was found, of a GreedyAt
 abbrev partOf : Part → GreedyPart → Part

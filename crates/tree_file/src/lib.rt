@@ -658,7 +658,7 @@ fn is_free(k: u8) -> bool
 }
 
 // Whether it is known, or seen at once, that the characters of the text have one byte each.
-fn is_plain(s: &[u8], plain: bool) -> bool
+fn plain_text(s: &[u8], plain: bool) -> bool
     requires { ⌜ (plain ≡ true → oneByteEach (now s) ≡ true) ⌝ }
     ensures { λ r. ⌜ (r ≡ true → oneByteEach (now (s .entry)) ≡ true) ⌝ }
 {
@@ -689,7 +689,7 @@ fn sure_token(rows: &[u8], text: &[u8], up: u8, plain: bool) -> usize
     }
     let k = rows[0];
     let s = &text[..n];
-    if is_plain(s, plain) {
+    if plain_text(s, plain) {
         if is_free(k) {
             return n;
         }

@@ -76,13 +76,13 @@ returns-free c =
     let free = c .before .is-free .ensures (c .if5 .taken) in
     let some : leb 1 (length (textAt at)) ≡ true = le-leb 1 (length (textAt at)) (omega (arith, text-long at)) in
     let other : eqb (getD (rowsAt at) 0 0) TokenCommandSym ≡ false = ne-eqb (getD (rowsAt at) 0 0) TokenCommandSym (λ q. omega (arith, free .1)) in
-    stands at (rw (free .0, some, one-valid _ (plain .before .is-plain .ensures (plain .if4 .taken)))) (rw other)
+    stands at (rw (free .0, some, one-valid _ (plain .before .plain-text .ensures (plain .if4 .taken)))) (rw other)
 
 slice-aggregate-s : tie.Need-slice-aggregate-s
 slice-aggregate-s c = sym (text-long (c .before))
 
-is-plain-requires : tie.Need-is-plain-requires
-is-plain-requires c κs = text-one (c .before)
+plain-text-requires : tie.Need-plain-text-requires
+plain-text-requires c κs = text-one (c .before)
 
 token-fits-requires : tie.Need-token-fits-requires
 token-fits-requires c κs = text-one (c .before .before .before)
@@ -105,7 +105,7 @@ sure-token-spec =
     (λ c. none-sure)
     (λ c. search needs)
     slice-aggregate-s
-    is-plain-requires
+    plain-text-requires
     (λ c κs. search needs)
     returns-free
     token-fits-requires

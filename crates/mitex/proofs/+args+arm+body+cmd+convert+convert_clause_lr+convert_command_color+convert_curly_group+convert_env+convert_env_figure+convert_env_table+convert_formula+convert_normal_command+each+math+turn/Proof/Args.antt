@@ -17,7 +17,7 @@ use Rattle.mitex_meaning.specs.declared.Arguments.the-variants.{NoArguments, Gr
 use Rattle.mitex_meaning.specs.declared.Part.{Part}
 use Rattle.mitex_meaning.proofs.Agreeing.{agrees-as, agrees-shift, agrees-reached, agrees-halted, agrees-closes, good}
 use Rattle.mitex.proofs.Rooms.{siblings-forest, room-between, room-whole, framed, between-short}
-use Rattle.mitex.proofs.Taking.{greedy-missing, greedy-stands, greedy-is}
+use Rattle.mitex.proofs.Taking.{greedy-refused, greedy-stands, greedy-is}
 use borrow.Author.Needs.{needs}
 use Rattle.mitex.proofs.args.Reads as self
 use Rattle.mitex.proofs.+args+arm+body+cmd+convert+convert_clause_lr+convert_command_color+convert_curly_group+convert_env+convert_env_figure+convert_env_table+convert_formula+convert_normal_command+each+math+turn.Lts-args as lts
@@ -235,7 +235,7 @@ args-returns-2 t c =
     let start = entry t (at-told .before .before) in
     λ rs ready f sp d h. agrees-as
     (by-how t (at-told .before .before) GreedyArgument (at-told .enum-told2 .given .1) rs f d
-    ∙ greedy-missing (at-node .greedy-node .ensures f sp) (at-missing .enum-told3 .given .1) (meaning d) _ _)
+    ∙ greedy-refused (at-node .greedy-node .ensures f sp) (at-missing .enum-told3 .given .1) (meaning d) _ _)
     (agrees-halted _ (omega arith) (c .halt .ensures))
 
 -- src/lib.rt:633:1

@@ -6,8 +6,8 @@ use borrow.Author.Needs.{needs}
 use lib.ListN.{drop}
 use Rattle.utf8.specs.Utf8.{oneByteEach}
 use Rattle.utf8.proofs.Texts.{one-cons, one-end}
-use Rattle.tree_file.proofs.is_plain.Statement.{statement}
-use Rattle.tree_file.proofs.is_plain.Tie as tie
+use Rattle.tree_file.proofs.plain_text.Statement.{statement}
+use Rattle.tree_file.proofs.plain_text.Tie as tie
 
 returns : tie.Need-returns
 returns c = λ e. c .before .pre (c .if1 .taken)
@@ -21,5 +21,5 @@ returns-2 c =
 returns-3 : tie.Need-returns-3
 returns-3 c = λ e. absurd (true≢false (sym e))
 
-pub is-plain-spec : {M : Type 1} → statement M
-is-plain-spec = tie.close (tie.spec returns (λ c. search needs) returns-2 returns-3)
+pub plain-text-spec : {M : Type 1} → statement M
+plain-text-spec = tie.close (tie.spec returns (λ c. search needs) returns-2 returns-3)
