@@ -24,9 +24,9 @@ use Rattle.mitex_meaning.specs.declared.Walked.{Walked}
 
 -- ---- what is asked
 
--- plain bounds: lengths, the place, the row, the indent, the held label. The row is that of the node above, whose row of 8 bytes stands
--- before these. `slack` is 8 where the indent was not yet moved for that node: a list is two further in and its children have a row less,
--- so the indent and the rows together stay bounded.
+-- plain bounds: lengths, the place, the row, the indent, the held label. The row is the one right before these elements: the node's own
+-- where they are all its children. `slack` is 8 where the indent was not yet moved for that node: a list is two further in and its
+-- children have a row less, so the indent and the rows together stay bounded.
 pub record Room (slack : ℕ) (rows text out : List ℕ) (at row : ℕ) (c : Converter) : Type 0 where
   pub few : length rows < cap
   pub short : length text < cap
@@ -62,7 +62,7 @@ module _ (rules index rows text : List ℕ) (row : ℕ) (c : Converter) (at : �
       (rs : List Rule) → Ready rules index rs → (t : Tree) → Spells t rows text → (d : ℕ) → size t ≤ d
       → Agrees a (placeOf c) row at out out′ (convert d (contextOf rs c) t (carryOf c))
 
-  -- of the children of a node, by the row of the node and the arm that it follows
+  -- of elements side by side, by the row right before the first of them and the arm that they are walked by
   abbrev pub Walks : Arm → Type 0
   Walks arm =
       (rs : List Rule) → Ready rules index rs → (f : Forest) → SpellsAll f rows text → (d : ℕ) → sizes f ≤ d

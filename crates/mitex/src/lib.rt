@@ -1,5 +1,5 @@
-// The walk: `convert` and its helpers, which call each other as in the Rust. The rows of a node's children and their text come down as
-// parts of the tree file, with the row of the node itself. What goes along is in four parameters: the label's bytes, which are lent, and
+// The walk: `convert` and its helpers, which call each other as in the Rust. The rows of elements and their text come down as parts of
+// the tree file, with the row right before them: the node's own, where they are all its children. What goes along is in four parameters: the label's bytes, which are lent, and
 // the flag (f), whether a label is held (h) and how many bytes it has (n). Where the elements stand (x) goes down and does not come back,
 // so that nothing is left to restore. The text is written to a lent buffer as far as it falls inside.
 ghost use mathlib.Core.Path.{_≡_};
@@ -93,7 +93,7 @@ pub fn convert_block<'a>(
     walked(r, x, label)
 }
 
-// Elements side by side. Tokens go in runs; a node that only clears the flag is passed, and what is under it comes next.
+// Elements side by side. Tokens go in runs; a node that only clears the flag is entered here: its children come next.
 fn convert<'a>(
     out: &mut [u8],
     at: usize,
@@ -163,7 +163,7 @@ fn convert<'a>(
     mitex_meaning::reach(w, g, d, m)
 }
 
-// A node, by its kind, with the flag cleared.
+// A node, by its kind; the caller has cleared the flag.
 fn arm<'a>(
     out: &mut [u8],
     at: usize,
@@ -246,7 +246,7 @@ fn turn<'a>(
     mitex_loops::close_act(out, r, act)
 }
 
-// Elements side by side, by a loop. Those that the loop converts with nothing around them, and that leave it as it is, go at once.
+// Elements side by side, by a loop. Those that the loop converts with nothing around them, and that leave it as it is, go in one call.
 fn each<'a>(
     out: &mut [u8],
     at: usize,
@@ -693,7 +693,7 @@ fn args<'a>(
     }
 }
 
-// An environment, by its rule; one that ends in Text takes the held label.
+// An environment, by its rule; where it ends in Text, any but a list takes the held label.
 fn convert_env<'a>(
     out: &mut [u8],
     at: usize,

@@ -27,7 +27,7 @@ pub record OthersGiven (behind : List ℕ) : Type 0 where
 abbrev pub Decides : Loop → List ℕ → List ℕ → List ℕ → Act → Type 0
 Decides l rows text behind a = (t : Tree) (f : Forest) → Spells t rows text → behind ≡ rowsOfs f → a ≡ actOf l t f
 
--- the number of the next named argument
+-- the number of the next named argument, 0 in a loop that names none: so every loop begins
 abbrev pub numberOf : Loop → ℕ
 numberOf Plain = 0
 numberOf (Curly blank) = 0

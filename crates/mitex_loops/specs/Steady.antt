@@ -1,4 +1,4 @@
--- The first of some children on which a loop is steady, as the code counts them: by the bytes of their rows and of their text.
+-- Children at the front of some on which a loop is steady, as the code counts them: by the bytes of their rows and of their text.
 use mathlib.Core.Path.{_≡_}
 use mathlib.Core.Bool.{true}
 use Prim.Native.Nat.{ℕ, _*_, _≤_, _<_}
@@ -18,7 +18,7 @@ pub record SteadyGiven (rows : List ℕ) (i : ℕ) : Type 0 where
   pub rows-are : drop i rows ≡ rowsOfs forest
   pub short : length (textsOf forest) < cap
 
--- elements of f on which the loop is steady have so many bytes, and the others stand behind them
+-- some elements at the front of f, none perhaps, on which the loop is steady have so many bytes; that there are no more is not said
 pub record SteadyRun (l : Loop) (f : Forest) (r : Span) : Type 0 where
   pub first : Forest
   pub others : Forest

@@ -826,7 +826,7 @@ pub fn close_curly(out: &mut [u8], r: Progress, blank: bool) -> Progress
     r
 }
 
-// What a group from `\left` to `\right` ends with, by the name.
+// What the clause of `\right` ends with; one of any other name ends with nothing.
 pub fn close_lr(out: &mut [u8], r: Progress, name: &[u8]) -> Progress
     requires { ⌜ ((r .refusal ≡ 0 → r .at ≤ cap) × (length (now out) ≤ cap)) ⌝ }
     ensures { λ q. ⌜ Closes r (lrEnd (now (name .entry))) (now (out .entry)) q (now (out .exit)) ⌝ }

@@ -1,4 +1,4 @@
--- What a walk over an element promises: its answer agrees with the outcome that the definitions give.
+-- What a walk promises: its answer agrees with the outcome that the definitions give.
 use mathlib.Core.Path.{_≡_}
 use mathlib.Core.Bool.{Bool, false}
 use Prim.Native.Nat.{ℕ, _+_, _≤_, _<_}
@@ -20,7 +20,8 @@ abbrev pub placeOf : Converter → Place
 placeOf c = record { mode = c .mode; env = c .env; indent = c .indent }
 
 -- An answer agrees with an outcome: it refuses as the outcome does, at a row counted from `row`; or it gives the converter back in the
--- place x with the outcome's carry, and what `out` then holds is what it held with the text written from `at` on.
+-- place x with the outcome's carry and a label within the limit, and what `out` then holds is what it held with the text written from
+-- `at` on.
 pub data Agrees (a : Walked) (x : Place) (row at : ℕ) (out out′ : List ℕ) : Outcome → Type 0 where
   declines : {n r : ℕ} → 0 < n → a .refusal ≡ n → a .row ≡ row + r → Agrees a x row at out out′ (refused n r)
   accepts :
@@ -46,7 +47,7 @@ reachedAt at b h k = record { at = at; row = 0; len = k; refusal = 0; flag = b; 
 abbrev pub haltedWith : ℕ → ℕ → Progress
 haltedWith n row = record { at = 0; row = row; len = 0; refusal = n; flag = false; held = false }
 
--- the same as the answer of a walk that began in a place and leaves the label's array as l
+-- a Progress as the answer of a walk in that mode, environment and indent, with the label's array l
 abbrev pub walkedOf : LaTeXMode → LaTeXEnv → ℕ → List ℕ → Progress → Walked
 walkedOf m e n l r =
     record { converter = stateOf m e n (r .flag) (r .held) (r .len) l; at = r .at; refusal = r .refusal; row = r .row }

@@ -1,5 +1,5 @@
--- What a token comes to: it writes and moves the flag, and the held label stays as it is. So the code of a token is given the flag alone
--- and not the converter, whose label would be moved with it.
+-- What a token comes to: it writes and moves the flag, and the held label stays as it is. So the code of a token is given the flag, and
+-- nothing of the label.
 use mathlib.Core.Path.{_≡_}
 use mathlib.Core.Bool.{Bool}
 use mathlib.Core.List.{List}

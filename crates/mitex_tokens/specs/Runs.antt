@@ -1,5 +1,4 @@
--- Tokens that stand one behind the other, as children in a plain loop: they are worked out without the converter, whose label none of them
--- touches.
+-- Tokens that stand one after the other, as children in a plain loop: none of them touches the held label, so nothing of it is given.
 use mathlib.Core.Path.{_≡_}
 use mathlib.Core.Bool.{Bool, false}
 use mathlib.Core.List.{List}

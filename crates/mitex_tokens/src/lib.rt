@@ -458,8 +458,8 @@ fn put_part(
     ran(8, u, t.at, t.flag, 0)
 }
 
-// The tokens from the first row on, up to the first node or to the end, as children in a plain loop. No token touches the label that is
-// held, so they are worked out without the converter.
+// The tokens from the first row on, up to the first node or to the end, as children in a plain loop. No token touches the held
+// label, so nothing of it is given.
 pub fn convert_tokens(
     out: &mut [u8],
     at: usize,

@@ -92,7 +92,7 @@ shapeOf (some row) = Breaks row
 
 -- ---- the scan for shape
 
--- the kind exempts the names right under it
+-- the kind exempts the names directly under it
 abbrev pub isFrame : ℕ → Bool
 isFrame k = eqb k ItemBegin || eqb k ItemEnd
 
@@ -124,22 +124,22 @@ answerTo o = checkedAnswer (byDepth (root o))
 
 -- ---- the survey
 
--- a token stands first, whose text is the first n bytes, and it is right under a node of the kind `up`
+-- a token stands first, whose text is the first n bytes, and it keeps its shape rule under a node of the kind `up`
 pub record TokenStands (up : ℕ) (rows text : List ℕ) (n : ℕ) : Type 0 where
   pub room : n ≤ length text
   pub rows-are : rows ≡ rowsOf (token (getD rows 0 0) (take n text)) ++ drop 8 rows
   pub fits : T (tokenFits (getD rows 0 0) (take n text))
   pub right : T (symFits up (getD rows 0 0) (take n text))
 
--- a node stands first, whose rows end at byte e
+-- a node stands first; its rows, where they are all there, end at byte e
 pub record NodeStands (rows : List ℕ) (e : ℕ) : Type 0 where
   pub under : ℕ
   pub end : e ≡ 8 + 8 * under
   pub rows-are : rows ≡ getD rows 0 0 ∷ 0 ∷ 0 ∷ 0 ∷ four under (drop 8 rows)
   pub kind : T (isNode (getD rows 0 0))
 
--- the rows are those of elements side by side, no deeper than `left`, and right under a node of the kind `up`; the text begins with
--- theirs, of n bytes
+-- the rows are those of elements side by side, no deeper than `left`, and they keep the shape rules under a node of the kind `up`; the
+-- text begins with theirs, of n bytes
 pub record Surveyed (up left : ℕ) (rows text : List ℕ) (n : ℕ) : Type 0 where
   pub forest : Forest
   pub begins : Begins forest rows text
@@ -197,7 +197,7 @@ pub record Checkable (rows text : List ℕ) (row : ℕ) : Type 0 where
   pub short : length text ≤ fileMost
   pub low : row + length rows ≤ 2 * fileMost
 
--- bytes within the limits, and where `plain` is said, the characters of the text have one each
+-- bytes within the limits, and where `plain` is said, the characters of the text have one byte each
 pub record Surveyable (rows text : List ℕ) (plain : Bool) : Type 0 where
   pub few : length rows ≤ fileMost
   pub short : length text ≤ fileMost

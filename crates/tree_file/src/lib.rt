@@ -1,4 +1,4 @@
-// The check of a tree file: its layout, its depth, and the tree-shape rules.
+// The check of a tree file: its layout, its depth, and the tree-shape rules; first a survey in one pass, which accepts or says nothing.
 ghost use mathlib.Core.Path.{_≡_};
 ghost use mathlib.Core.Bool.{true};
 ghost use mathlib.Core.Option.Option.{some};
@@ -644,7 +644,7 @@ fn scan_shape(rows: &[u8], text: &[u8]) -> Shape
 
 // ---- the survey: one pass over rows and text, sure of a tree that is right
 
-// Whether a token may be of this kind, and no rule is on it: so it is of most.
+// Whether a token may be of this kind, and no rule is on it: so it is with most tokens.
 fn is_free(k: u8) -> bool
     ensures { λ r. ⌜ (r ≡ true → (isToken k ≡ true) × (k < TokenCommandSym)) ⌝ }
 {
@@ -671,7 +671,7 @@ fn plain_text(s: &[u8], plain: bool) -> bool
     false
 }
 
-// The text bytes of a token that stands first and is right under a node of the kind `up`; 0 where none is sure to.
+// The text bytes of a token that stands first and keeps its shape rule under a node of the kind `up`; 0 where that is not sure.
 fn sure_token(rows: &[u8], text: &[u8], up: u8, plain: bool) -> usize
     requires { ⌜ (8 ≤ length (now rows)) × (plain ≡ true → oneByteEach (now text) ≡ true) ⌝ }
     ensures { λ n. ⌜ (0 < n → TokenStands up (now (rows .entry)) (now (text .entry)) n) ⌝ }
