@@ -230,6 +230,9 @@ fn main() {
             seed.parse().expect("a seed"),
         ),
         ["speed", seed] => speed(seed.parse().expect("a seed")),
-        _ => eprintln!("usage: original compare CASES SEED | original speed SEED"),
+        _ => {
+            eprintln!("usage: original compare CASES SEED | original speed SEED");
+            std::process::exit(2)
+        }
     }
 }
