@@ -24,7 +24,7 @@ use Rattle.mitex_meaning.specs.Texts.{leftParen, rightParen, hash, bodyBegin, b
 use Rattle.mitex_meaning.specs.Groups.{children}
 use Rattle.mitex_meaning.specs.Environments.{Caption, envBegin, envEnd, plainEnv, mathEnv, lastCaption, captioned, figureEnv}
 use Rattle.mitex_meaning.specs.Environments.Caption.{absent, caption}
-use Rattle.mitex_meaning.specs.Parts.{Inside, partRows, partText, BeginFound, CaptionFound}
+use Rattle.mitex_meaning.specs.Parts.{LiesIn, partRows, partText, BeginFound, CaptionFound}
 use Rattle.mitex_meaning.specs.Parts.CaptionFound.{no-caption, bare-caption, caption-at}
 use Rattle.mitex_meaning.specs.declared.LaTeXMode.{LaTeXMode}
 use Rattle.mitex_meaning.specs.declared.LaTeXMode.the-variants.{Math}
@@ -32,7 +32,7 @@ use Rattle.mitex_meaning.specs.declared.LaTeXEnv.{LaTeXEnv}
 use Rattle.mitex_meaning.specs.declared.LaTeXEnv.the-variants.{None, Figure, Itemize, Enumerate, Matrix, Cases, SubStack, MathCurlyGroup}
 use Rattle.mitex_meaning.specs.declared.LaTeXEnv.the-variants.{Math as MathEnv, Table as TableEnv}
 use Rattle.mitex_meaning.specs.declared.Loop.{Loop}
-use Rattle.mitex_meaning.specs.declared.Loop.the-variants.{Plain, Named, Inside as InsideLoop, Figure as FigureLoop}
+use Rattle.mitex_meaning.specs.declared.Loop.the-variants.{Plain, Named, Inside, Figure as FigureLoop}
 use Rattle.mitex_meaning.specs.declared.Part.{Part}
 use Rattle.mitex_meaning.specs.declared.CaptionPart.{CaptionPart}
 use Rattle.mitex_meaning.specs.declared.Place.{Place}
@@ -73,7 +73,7 @@ pub plain-walks :
     {label′ : List ℕ} {r q : Progress} (v : LaTeXEnv) (step : ℕ) (w : List ℕ) → step ≡ stepOf v → length out ≤ cap → length out₁ ≡ length out
     → Wrote at out (envBegin v w) p out₁
     → Walks rules index rows text row (stateIn (placeIn (x .mode) v step x) f h n label) p out₁ (walkedIn (placeIn (x .mode) v step x) label′ r) out₂
-    (looping InsideLoop) → Closes r (envEnd v) out₂ q out₃
+    (looping Inside) → Closes r (envEnd v) out₂ q out₃
     → Walks rules index rows text row (stateIn x f h n label) at out (walkedIn x label′ q) out₃ (plainEnv v w)
 plain-walks x f h n label v step w is room same begun m closed rs ready g sp d fit =
     agrees-as
@@ -81,7 +81,7 @@ plain-walks x f h n label v step w is room same begun m closed rs ready g sp d f
     (λ (s : ℕ).
     after (envBegin v w)
     (closing (envEnd v)
-    (each (convert d (contextIn rs (x .mode) v s x)) 1 InsideLoop g (carryOf (stateIn x f h n label)))))
+    (each (convert d (contextIn rs (x .mode) v s x)) 1 Inside g (carryOf (stateIn x f h n label)))))
     (sym is))
     (framed room same begun (m rs ready g sp d fit) closed)
 
@@ -124,7 +124,7 @@ pub math-is :
     mathEnv v w conv (record { rules = rs; mode = x .mode; env = x .env; indent = x .indent }) f c
     ≡ after (dollarBegin (x .mode) ++ (w ++ leftParen))
     (closing (rightParen ++ dollarEnd (x .mode))
-    (andThen (shift (p .i / 8) (each (conv y) 1 (Named 0) (beginOf f) c)) (λ c′. each (conv y) 1 InsideLoop f c′)))
+    (andThen (shift (p .i / 8) (each (conv y) 1 (Named 0) (beginOf f) c)) (λ c′. each (conv y) 1 Inside f c′)))
 math-is {f} p b rs x v step is w conv c =
     let before = dollarBegin (x .mode) ++ (w ++ leftParen) in
     let behind = rightParen ++ dollarEnd (x .mode) in
@@ -134,9 +134,9 @@ math-is {f} p b rs x v step is w conv c =
     after before
     (closing behind
     (andThen (shift (1 + offsetOf ItemBegin f) (each (conv (contextIn rs Math v s x)) 1 (Named 0) (beginOf f) c))
-    (λ c′. each (conv (contextIn rs Math v s x)) 1 InsideLoop f c′))))
+    (λ c′. each (conv (contextIn rs Math v s x)) 1 Inside f c′))))
     (sym is)
-    ∙ ap (λ (o : Outcome). after before (closing behind (andThen o (λ c′. each (conv y) 1 InsideLoop f c′))))
+    ∙ ap (λ (o : Outcome). after before (closing behind (andThen o (λ c′. each (conv y) 1 Inside f c′))))
     (begin-row p b (conv y) (Named 0) c)
 
 module _ {rules index rows text : List ℕ} {row at p : ℕ} {out out₁ out₂ : List ℕ} (x : Place) (f h : Bool) (n : ℕ) (label : List ℕ)
@@ -151,19 +151,19 @@ module _ {rules index rows text : List ℕ} {row at p : ℕ} {out out₁ out₂ 
       let b = found g sp in
       let c = carryOf (stateIn x f h n label) in
       agrees-as (math-is part b rs x v step is w (convert d) c)
-      (two-refused (part .i / 8) (rightParen ++ dollarEnd (x .mode)) (λ c′. each (convert d (contextIn rs Math v step x)) 1 InsideLoop g c′) room same
+      (two-refused (part .i / 8) (rightParen ++ dollarEnd (x .mode)) (λ c′. each (convert d (contextIn rs Math v step x)) 1 Inside g c′) room same
       begun (m rs ready (beginOf g) (b .spells) d (omega (arith, b .fits))) z)
 
   pub math-walks :
       {label₂ out₃ out₄ : List ℕ} {r q : Progress} → a .refusal ≡ 0
       → Walks rules index rows text row (stateIn (placeIn Math v step x) (a .flag) (a .held) (a .len) label₁) (a .at) out₂
-      (walkedIn (placeIn Math v step x) label₂ r) out₃ (looping InsideLoop) → Closes r (rightParen ++ dollarEnd (x .mode)) out₃ q out₄
+      (walkedIn (placeIn Math v step x) label₂ r) out₃ (looping Inside) → Closes r (rightParen ++ dollarEnd (x .mode)) out₃ q out₄
       → Walks rules index rows text row (stateIn x f h n label) at out (walkedIn x label₂ q) out₄ (mathEnv v w)
   math-walks z m′ closed rs ready g sp d fit =
       let b = found g sp in
       let c = carryOf (stateIn x f h n label) in
       agrees-as (math-is part b rs x v step is w (convert d) c)
-      (two-done (part .i / 8) (rightParen ++ dollarEnd (x .mode)) (λ c′. each (convert d (contextIn rs Math v step x)) 1 InsideLoop g c′) room same
+      (two-done (part .i / 8) (rightParen ++ dollarEnd (x .mode)) (λ c′. each (convert d (contextIn rs Math v step x)) 1 Inside g c′) room same
       begun (m rs ready (beginOf g) (b .spells) d (omega (arith, b .fits))) z (m′ rs ready g sp d fit) closed)
 
 -- ---- figures: the caption, if there is one, and then the children
@@ -192,7 +192,7 @@ captionFirst k p g f w conv x c =
 pub record Captioned (f : Forest) (rows text : List ℕ) (k : CaptionPart) (p : Part) : Type 0 where
   pub forest : Forest
   pub spells : SpellsAll forest (partRows p rows) (partText p text)
-  pub inside : Inside rows text p
+  pub inside : LiesIn rows text p
   pub fits : sizes forest ≤ sizes f
   pub is : (w : List ℕ) (conv : Conv) (x : Context) (c : Carry) → figureEnv w conv x f c ≡ captionFirst k p forest f w conv x c
 

@@ -15,7 +15,7 @@ use Rattle.mitex_syntax.proofs.Places.{some-forest}
 use Rattle.mitex_meaning.specs.Outcome.{Arm, Context, Outcome, after, closing, inEnv, stepOf, labelMost}
 use Rattle.mitex_meaning.specs.Contract.{placeOf, Agrees, walkedOf, walkedIn, Closes}
 use Rattle.mitex_meaning.specs.Contract.Agrees.{declines, accepts}
-use Rattle.mitex_meaning.specs.Parts.{Inside, between}
+use Rattle.mitex_meaning.specs.Parts.{LiesIn, between}
 use Rattle.mitex_meaning.specs.declared.LaTeXMode.{LaTeXMode}
 use Rattle.mitex_meaning.specs.declared.LaTeXEnv.{LaTeXEnv}
 use Rattle.mitex_meaning.specs.declared.Part.{Part}
@@ -77,7 +77,7 @@ between-length i e l h k = simp (length-take, length-drop) (omega arith)
 
 -- a part of a node's children, walked at most two further in: those before it stand between the node and its first element
 pub room-between :
-    {at row : ℕ} {rows text out : List ℕ} {c : Converter} → Room 8 rows text out at row c → (p : Part) → Inside rows text p → (d : Converter)
+    {at row : ℕ} {rows text out : List ℕ} {c : Converter} → Room 8 rows text out at row c → (p : Part) → LiesIn rows text p → (d : Converter)
     → d .indent ≤ c .indent + 2 → d .«label_len» ≤ labelMost → {at′ : ℕ} {out′ : List ℕ} → length out′ ≡ length out → at′ ≤ cap
     → Room 0 (between (p .i) (p .e) rows) (between (p .j) (p .u) text) out′ at′ (row + p .i / 8) d
 room-between {row = row} {rows = rows} {text = text} r p s d hd l e q =

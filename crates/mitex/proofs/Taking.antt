@@ -21,7 +21,7 @@ use Rattle.mitex_meaning.specs.Texts.{leftParen, rightParen, black, colorEnd}
 use Rattle.mitex_meaning.specs.Children.{each}
 use Rattle.mitex_meaning.specs.Colors.{colored, bodyEnd}
 use Rattle.mitex_meaning.specs.Commands.{isArgument, greedyIn, greedyArgument}
-use Rattle.mitex_meaning.specs.Parts.{between, partRows, partText, Inside, GreedyStands, GreedyFound}
+use Rattle.mitex_meaning.specs.Parts.{between, partRows, partText, LiesIn, GreedyStands, GreedyFound}
 use Rattle.mitex_meaning.specs.Parts.GreedyFound.{no-greedy, greedy-at}
 use Rattle.mitex_meaning.specs.declared.LaTeXMode.the-variants.{Text}
 use Rattle.mitex_meaning.specs.declared.Loop.{Loop}
@@ -102,15 +102,15 @@ pub record Halved (f : Forest) (rows text : List ℕ) (p : Part) (s : Span) : Ty
   pub behind : SpellsAll others (partRows (behindPart p s) rows) (partText (behindPart p s) text)
   pub fits : size tree + sizes others ≡ sizes f
 
-module _ {f : Forest} {rows text : List ℕ} {p : Part} {s : Span} (d : Inside rows text p) (h : Halved f rows text p s) where
-  pub first-inside : Inside rows text (firstPart p s)
+module _ {f : Forest} {rows text : List ℕ} {p : Part} {s : Span} (d : LiesIn rows text p) (h : Halved f rows text p s) where
+  pub first-inside : LiesIn rows text (firstPart p s)
   first-inside =
       record { low = omega arith; high = omega (arith, h .low, d .high); begun = omega arith; stop = omega (arith, h .begun, d .stop) }
 
-  pub behind-inside : Inside rows text (behindPart p s)
+  pub behind-inside : LiesIn rows text (behindPart p s)
   behind-inside = record { low = h .low; high = d .high; begun = h .begun; stop = d .stop }
 
-module _ {f : Forest} {rows text : List ℕ} {p : Part} (d : Inside rows text p) (sp : SpellsAll f (partRows p rows) (partText p text))
+module _ {f : Forest} {rows text : List ℕ} {p : Part} (d : LiesIn rows text p) (sp : SpellsAll f (partRows p rows) (partText p text))
     (some : p .i ≡ p .e → ⊥) (few : length rows < cap) (short : length text < cap) where
   abbrev at-first : ElementAt f (partRows p rows) (partText p text) 0 0
   at-first =

@@ -148,8 +148,8 @@ fn convert<'a>(
         let u = j + span.text;
         let b = &rows[i + 8..e];
         let s = &text[j..u];
-        let own = row + 1 + i / 8;
-        let r = arm(out, w, b, s, own, rules, index, label, x, false, d, m, kind);
+        let its = row + 1 + i / 8;
+        let r = arm(out, w, b, s, its, rules, index, label, x, false, d, m, kind);
         if r.refusal != 0 {
             return r;
         }

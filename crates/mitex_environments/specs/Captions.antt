@@ -13,7 +13,7 @@ use Rattle.mitex_syntax.specs.Spells.{Spells, SomeTree}
 use Rattle.mitex_meaning.specs.Texts.{bodyBegin, captionBegin, captionEnd}
 use Rattle.mitex_meaning.specs.Environments.{Caption, isCaption, captionAt}
 use Rattle.mitex_meaning.specs.Environments.Caption.{absent, bare, caption}
-use Rattle.mitex_meaning.specs.Parts.{between, partRows, partText, Inside}
+use Rattle.mitex_meaning.specs.Parts.{between, partRows, partText, LiesIn}
 use Rattle.mitex_meaning.specs.declared.Part.{Part}
 use Rattle.mitex_meaning.specs.declared.CaptionPart.{CaptionPart}
 use Rattle.mitex_meaning.specs.declared.CaptionPart.the-variants.{NoCaption, BareCaption, CaptionAt}
@@ -38,7 +38,7 @@ pub record ArgumentAt (w : Caption) (n : ℕ) (rows text : List ℕ) (p : Part) 
   pub below : ℕ
   pub is : w ≡ caption (1 + below) tree
   pub spells : Spells tree (partRows p rows) (partText p text)
-  pub inside : Inside rows text p
+  pub inside : LiesIn rows text p
   pub row : p .i ≡ 8 * below
   pub fits : size tree ≤ n
 

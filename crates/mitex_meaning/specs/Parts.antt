@@ -37,7 +37,7 @@ partRows p rows = between (p .i) (p .e) rows
 abbrev pub partText : Part → List ℕ → List ℕ
 partText p text = between (p .j) (p .u) text
 
-pub record Inside (rows text : List ℕ) (p : Part) : Type 0 where
+pub record LiesIn (rows text : List ℕ) (p : Part) : Type 0 where
   pub low : p .i ≤ p .e
   pub high : p .e ≤ length rows
   pub begun : p .j ≤ p .u
@@ -49,7 +49,7 @@ pub record GreedyStands (f : Forest) (rows text : List ℕ) (p : Part) : Type 0 
   pub forest : Forest
   pub is : firstBy isArgument f ≡ some (node kind forest)
   pub spells : SpellsAll forest (partRows p rows) (partText p text)
-  pub inside : Inside rows text p
+  pub inside : LiesIn rows text p
   pub row : p .i ≡ 8 * (1 + offsetBy isArgument f)
   pub fits : sizes forest < sizes f
 
@@ -69,7 +69,7 @@ pub record ModelFound (m : Model) (f : Forest) (rows text : List ℕ) (p : Model
   pub some-text : p .from ≤ p .to
   pub stop : p .to ≤ length text
   pub spells : SpellsAll (m .behind .elements) (partRows (p .rest) rows) (partText (p .rest) text)
-  pub inside : Inside rows text (p .rest)
+  pub inside : LiesIn rows text (p .rest)
   pub row : 8 * m .behind .rows ≡ 8 + p .rest .i
   pub fits : sizes (m .behind .elements) ≤ sizes f
 
@@ -79,7 +79,7 @@ pub record CaptionStands (f : Forest) (rows text : List ℕ) (p : Part) : Type 0
   pub below : ℕ
   pub is : lastCaption 1 f ≡ caption (1 + below) tree
   pub spells : Spells tree (partRows p rows) (partText p text)
-  pub inside : Inside rows text p
+  pub inside : LiesIn rows text p
   pub row : p .i ≡ 8 * below
   pub fits : size tree ≤ sizes f
 
@@ -91,7 +91,7 @@ pub data CaptionFound (f : Forest) (rows text : List ℕ) : CaptionPart → Type
 -- the children of an environment's first ItemBegin, and how a loop over them counts its rows
 pub record BeginFound (f : Forest) (rows text : List ℕ) (p : Part) : Type 0 where
   pub spells : SpellsAll (beginOf f) (partRows p rows) (partText p text)
-  pub inside : Inside rows text p
+  pub inside : LiesIn rows text p
   pub row :
       (conv : Tree → Carry → Outcome) (l : Loop) (c : Carry) → shift (1 + offsetOf ItemBegin f) (each conv 1 l (beginOf f) c) ≡ shift (1 + p .i / 8) (each conv 0 l (beginOf f) c)
   pub fits : sizes (beginOf f) ≤ sizes f

@@ -25,7 +25,7 @@ use Rattle.tree_file.specs.Depth.{depth, depths, depthMost}
 use Rattle.tree_file.specs.Shape.{symFits, nodeFits, Shaped, ShapedAll}
 use Rattle.tree_file.specs.Parts.{bytesOf, textsIn, LinesFit, shapeOf, answerTo, TokenStands, NodeStands, Surveyed, SurveySays, Surveyable}
 use Rattle.tree_file.specs.declared.Survey.{Survey}
-use Rattle.tree_file.specs.declared.Survey.the-variants.{Takes}
+use Rattle.tree_file.specs.declared.Survey.the-variants.{Covers}
 use Rattle.tree_file.specs.declared.Shape.the-variants.{Right}
 use Rattle.tree_file.specs.declared.Checked.the-variants.{Whole}
 use Rattle.tree_file.proofs.Grow.{linesOfs, grow-complete, length-liness}
@@ -203,7 +203,7 @@ module _ {up left : ℕ} {rows text : List ℕ} {plain : Bool} {l t : List ℕ} 
     pub under-asks : Surveyable (take (e - 8) (drop 8 l)) t plain
     under-asks = let few = s .asks .few in record { few = omega (arith, under-length); short = s .asks .short; one-each = s .asks .one-each }
 
-    module _ {a : Survey} {n : ℕ} (says : SurveySays (getD l 0 0) (left - 1) (take (e - 8) (drop 8 l)) t a) (told : a ≡ Takes n) where
+    module _ {a : Survey} {n : ℕ} (says : SurveySays (getD l 0 0) (left - 1) (take (e - 8) (drop 8 l)) t a) (told : a ≡ Covers n) where
       under-right : Surveyed (getD l 0 0) (left - 1) (take (e - 8) (drop 8 l)) t n
       under-right = subst (SurveySays (getD l 0 0) (left - 1) (take (e - 8) (drop 8 l)) t) told says
 

@@ -35,7 +35,7 @@ use Rattle.tree_file.specs.declared.Pass.the-variants.{Broke, Past}
 use Rattle.tree_file.specs.declared.Shape.{Shape}
 use Rattle.tree_file.specs.declared.Shape.the-variants.{Right, Breaks}
 use Rattle.tree_file.specs.declared.Survey.{Survey}
-use Rattle.tree_file.specs.declared.Survey.the-variants.{Unsure, Takes}
+use Rattle.tree_file.specs.declared.Survey.the-variants.{Unsure, Covers}
 
 -- ---- rows that were read
 
@@ -150,7 +150,7 @@ pub record Surveyed (up left : ℕ) (rows text : List ℕ) (n : ℕ) : Type 0 wh
 -- an answer that is not sure says nothing
 abbrev pub SurveySays : ℕ → ℕ → List ℕ → List ℕ → Survey → Type 0
 SurveySays up left rows text Unsure = Unit {0}
-SurveySays up left rows text (Takes n) = Surveyed up left rows text n
+SurveySays up left rows text (Covers n) = Surveyed up left rows text n
 
 -- ---- what is asked
 

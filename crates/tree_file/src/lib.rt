@@ -93,7 +93,7 @@ pub enum Pass {
 // How many bytes of text elements side by side take, where each of them is right; nothing is said of others.
 pub enum Survey {
     Unsure,
-    Takes(usize),
+    Covers(usize),
 }
 
 // The answer: where the rows start, how many they are, and how many the blocks are; or a refusal and its row.
@@ -753,7 +753,7 @@ fn survey_rows(rows: &[u8], text: &[u8], up: u8, left: usize, plain: bool) -> Su
         }
         match survey_rows(&l[8..end], t, l[0], left - 1, plain) {
             Survey::Unsure => return Survey::Unsure,
-            Survey::Takes(m) => {
+            Survey::Covers(m) => {
                 if !ruled_fits(l[0], &l[8..end], t) {
                     return Survey::Unsure;
                 }
@@ -765,7 +765,7 @@ fn survey_rows(rows: &[u8], text: &[u8], up: u8, left: usize, plain: bool) -> Su
     if 0 < l.len() {
         return Survey::Unsure;
     }
-    Survey::Takes(text.len() - t.len())
+    Survey::Covers(text.len() - t.len())
 }
 
 // Whether the rows and the text are sure to be those of elements that are right.
@@ -776,7 +776,7 @@ fn survey_all(rows: &[u8], text: &[u8]) -> bool
     let plain = utf8::one_byte_each(text);
     match survey_rows(rows, text, NO_KIND, DEPTH_MOST, plain) {
         Survey::Unsure => false,
-        Survey::Takes(n) => n == text.len(),
+        Survey::Covers(n) => n == text.len(),
     }
 }
 

@@ -11,7 +11,7 @@ use Rattle.mitex_meaning.specs.State.{contextOf, carryOf}
 use Rattle.mitex_meaning.specs.Contract.{stateIn}
 use Rattle.mitex_meaning.specs.Conversion.{convert as meaning}
 use Rattle.mitex_meaning.specs.Commands.{argumentsBy}
-use Rattle.mitex_meaning.specs.Parts.{Inside, GreedyStands}
+use Rattle.mitex_meaning.specs.Parts.{LiesIn, GreedyStands}
 use Rattle.mitex_meaning.specs.declared.Arguments.{Arguments}
 use Rattle.mitex_meaning.specs.declared.Arguments.the-variants.{NoArguments, GreedyArgument, MathArguments, TextArguments}
 use Rattle.mitex_meaning.specs.declared.Part.{Part}
@@ -45,7 +45,7 @@ stands-here :
     SpellsAll f (a .rows .now) (a .text .now) → GreedyStands f (a .rows .now) (a .text .now) (part-here t c)
 stands-here t c f sp = greedy-stands (c .before .before .greedy-node .ensures f sp) (part-here t c) (c .found .given .1)
 
-inside-here : (t : ℕ) (c : Greed t) → let a = greedy-entry t c .args in Inside (a .rows .now) (a .text .now) (part-here t c)
+inside-here : (t : ℕ) (c : Greed t) → let a = greedy-entry t c .args in LiesIn (a .rows .now) (a .text .now) (part-here t c)
 inside-here t c = let g = greedy-entry t c .pre .1 .1 .1 in stands-here t c (g .forest) (g .spells) .inside
 
 -- what the arguments come to, by how they are taken

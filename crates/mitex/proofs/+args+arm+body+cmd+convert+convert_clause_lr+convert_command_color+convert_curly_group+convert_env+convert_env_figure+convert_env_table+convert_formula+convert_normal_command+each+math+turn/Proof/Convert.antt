@@ -289,13 +289,13 @@ convert-part-s-end-2 t c =
     let here = c .before .before .before in
     omega (arith, child-here t here .stop)
 
-convert-add-own : (t : ℕ) → lts.Need-add-own (calls t) (pre-at t) self.Post convert-Inv-loop convert-μ-loop
-convert-add-own t c =
+convert-add-its : (t : ℕ) → lts.Need-add-its (calls t) (pre-at t) self.Post convert-Inv-loop convert-μ-loop
+convert-add-its t c =
     let here = c .before .before .before .before in
     omega (arith, head t here .loop .inv .room .low)
 
-convert-add-own-2 : (t : ℕ) → lts.Need-add-own-2 (calls t) (pre-at t) self.Post convert-Inv-loop convert-μ-loop
-convert-add-own-2 t c =
+convert-add-its-2 : (t : ℕ) → lts.Need-add-its-2 (calls t) (pre-at t) self.Post convert-Inv-loop convert-μ-loop
+convert-add-its-2 t c =
     let here = c .before .before .before .before in
     let inv = head t here .loop .inv in
     omega (arith, inv .stands .high, inv .room .low)
@@ -403,8 +403,8 @@ convert-closed t =
     (λ c. omega arith)
     (λ c. omega arith)
     (convert-part-s-end-2 t)
-    (convert-add-own t)
-    (convert-add-own-2 t)
+    (convert-add-its t)
+    (convert-add-its-2 t)
     (convert-arm-requires t)
     (convert-same-length-2 t)
     (convert-returns-2 t)

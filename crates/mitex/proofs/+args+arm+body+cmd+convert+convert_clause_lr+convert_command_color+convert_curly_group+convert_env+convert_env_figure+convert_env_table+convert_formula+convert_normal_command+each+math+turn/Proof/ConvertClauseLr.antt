@@ -6,7 +6,7 @@ use lib.ListN.{length}
 use Rattle.text.proofs.Writing.{wrote-low}
 use Rattle.mitex_meaning.specs.State.{contextOf, carryOf}
 use Rattle.mitex_meaning.specs.Contract.{stateIn}
-use Rattle.mitex_meaning.specs.Parts.{Inside, between}
+use Rattle.mitex_meaning.specs.Parts.{LiesIn, between}
 use Rattle.mitex_meaning.specs.Conversion.{convert as meaning}
 use Rattle.mitex_meaning.specs.declared.Loop.the-variants.{Spaced}
 use Rattle.mitex_meaning.specs.declared.Part.{Part}
@@ -37,7 +37,7 @@ behind t c =
     let a = entry t c .args in
     record { i = c .first-span .result .rows; e = length (a .rows .now); j = c .first-span .result .text; u = length (a .text .now) }
 
-inside : (t : ℕ) (c : Measured t) → let a = entry t c .args in Inside (a .rows .now) (a .text .now) (behind t c)
+inside : (t : ℕ) (c : Measured t) → let a = entry t c .args in LiesIn (a .rows .now) (a .text .now) (behind t c)
 inside t c =
     let ends = c .first-span .ensures .0 in
     record { low = ends .0; high = omega arith; begun = ends .1; stop = omega arith }

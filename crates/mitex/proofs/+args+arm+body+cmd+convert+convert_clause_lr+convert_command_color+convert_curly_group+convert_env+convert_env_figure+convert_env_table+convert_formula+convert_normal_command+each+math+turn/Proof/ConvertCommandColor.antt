@@ -19,7 +19,7 @@ use Rattle.mitex_meaning.specs.Texts.{leftParen, leftBracket, colorEnd}
 use Rattle.mitex_meaning.specs.Children.{each}
 use Rattle.mitex_meaning.specs.Colors.{Model, colored, colorAlias, bodyEnd}
 use Rattle.mitex_meaning.specs.Conversion.{convert as meaning}
-use Rattle.mitex_meaning.specs.Parts.{Inside, ModelFound}
+use Rattle.mitex_meaning.specs.Parts.{LiesIn, ModelFound}
 use Rattle.mitex_meaning.specs.declared.LaTeXMode.the-variants.{Text}
 use Rattle.mitex_meaning.specs.declared.Part.{Part}
 use Rattle.mitex_meaning.specs.declared.Place.{Place}
@@ -118,7 +118,7 @@ head-here t c rs ready m f found =
     (c .put-color-head .ensures (entry t c .args .name .now))
 
 -- the part behind the model that was given
-inside-here : (t : ℕ) (c : Headed t) → let a = entry t c .args in Inside (a .rows .now) (a .text .now) (part-here t c)
+inside-here : (t : ℕ) (c : Headed t) → let a = entry t c .args in LiesIn (a .rows .now) (a .text .now) (part-here t c)
 inside-here t c = entry t c .pre .1 .1 .1 .1 .found .inside
 
 -- it has no element where it has no row
@@ -149,12 +149,12 @@ given-here t c = let g = entry t (headed t c) .pre .1 .1 .1 .1 in halved-here t 
 -- both stand inside
 inside-first :
     (t : ℕ) (c : Spanned t) → let a = entry t (headed t c) .args in
-    Inside (a .rows .now) (a .text .now) (firstPart (part-here t (headed t c)) (c .span-at .result))
+    LiesIn (a .rows .now) (a .text .now) (firstPart (part-here t (headed t c)) (c .span-at .result))
 inside-first t c = first-inside (inside-here t (headed t c)) (given-here t c)
 
 inside-behind :
     (t : ℕ) (c : Spanned t) → let a = entry t (headed t c) .args in
-    Inside (a .rows .now) (a .text .now) (behindPart (part-here t (headed t c)) (c .span-at .result))
+    LiesIn (a .rows .now) (a .text .now) (behindPart (part-here t (headed t c)) (c .span-at .result))
 inside-behind t c = behind-inside (inside-here t (headed t c)) (given-here t c)
 
 -- the answer of the colour with its end, and where that stands in what was written
