@@ -1,5 +1,5 @@
 /*
- * Zaldrume: LaTeX trees to Typst, block by block, and edits of an open document.
+ * Zaldrume: LaTeX trees to Typst, block by block, and changes of an open document.
  * The functions of the static library libzaldrume.a (x86-64 Linux, the C calling convention).
  *
  * How things pass
@@ -19,11 +19,17 @@
  *    3 the tree file breaks its layout              11 \item stands outside of a list
  *    4 a row lies deeper than 64                    12 an argument is missing
  *    5 a row breaks a rule on the tree's shape      13 a column letter is not l, c, r or |
- *    6 (edit) no such block, or kept does not fit   14 a label to be held is over 120 bytes
+ *    6 (changes) no such place, or no fit           14 a label to be held is over 120 bytes
  *    7 an element that cannot be converted          15 text or ledger is too short
  *    8 a formula's ends do not match
  *
  *   A ledger has 128 bytes for each block; there are at most 512.
+ *
+ *   The changes are edit, insert and remove. Each is refused with 6 where there is no such block or
+ *   position, where kept is more than text_size, or where the ledger does not fit: it has a row for
+ *   each block of the document before the change, and the last row's length is kept, which is 0 where
+ *   there are no rows. That document has as many blocks as tree for an edit, one less for an insertion,
+ *   one more for a removal.
  */
 #ifndef ZALDRUME_H
 #define ZALDRUME_H
@@ -59,6 +65,35 @@ uint8_t zaldrume_edit(uint8_t mode,
                       uint8_t *text, size_t text_size,
                       uint8_t *ledger, size_t ledger_size,
                       size_t *place, int64_t *growth, size_t *count);
+
+/*
+ * Puts one block in. tree is the new document, position the new block's number in it: the blocks from
+ * there on come after it, and the count of blocks before the call puts it at the end. The new block is
+ * converted, and those after it until the carry is the one that stood there. ledger needs a row for
+ * each block of tree: without a place for the row put in it is too short (15). 6 is also a tree
+ * without blocks. All else is as in zaldrume_edit; *count is at least 1.
+ */
+uint8_t zaldrume_insert(uint8_t mode,
+                        const uint8_t *rules, size_t rules_size,
+                        const uint8_t *tree, size_t tree_size,
+                        size_t position, size_t kept,
+                        uint8_t *text, size_t text_size,
+                        uint8_t *ledger, size_t ledger_size,
+                        size_t *place, int64_t *growth, size_t *count);
+
+/*
+ * Takes one block out. tree is the new document, block the number that the block had before. Blocks
+ * after it are converted until the carry is the kept one, so *count may be 0, and a label that lands
+ * elsewhere may make the text longer. The row left over after the last one is 0. All else is as in
+ * zaldrume_edit.
+ */
+uint8_t zaldrume_remove(uint8_t mode,
+                        const uint8_t *rules, size_t rules_size,
+                        const uint8_t *tree, size_t tree_size,
+                        size_t block, size_t kept,
+                        uint8_t *text, size_t text_size,
+                        uint8_t *ledger, size_t ledger_size,
+                        size_t *place, int64_t *growth, size_t *count);
 
 #ifdef __cplusplus
 }

@@ -1,10 +1,10 @@
 #!/usr/bin/env python3
 """Packs cases for the program `cases`: writes its standard input, crates/cases/stdin.
 
-usage: tools/pack_cases.py VECTORS
+usage: tools/pack_cases.py VECTORS ...
 
-VECTORS is a folder of cases. A conversion has `rules.bin` and `tree.bin` (one that is missing counts as empty), `stdin` (its first byte
-names the mode) and `expected` (what the program writes). A run of edits has `rules.bin`, `script.txt` and, for each call i, `tree-i.bin`
+VECTORS are folders of cases. A conversion has `rules.bin` and `tree.bin` (one that is missing counts as empty), `stdin` (its first byte
+names the mode) and `expected` (what the program writes). A run of changes has `rules.bin`, `script.txt` and, for each call i, `tree-i.bin`
 and both whole buffers after it, `text-i.bin` and `ledger-i.bin`; they start as `text-before.bin` and `ledger-before.bin` where the
 script has a conversion, else as `text-0.bin` and `ledger-0.bin`.
 
@@ -16,9 +16,10 @@ length (4 bytes) and so many bytes.
     4        how long the text buffer and the ledger are (4 bytes each); both are filled with one byte, and so is what is due in them
     5, 6     the text buffer, or the ledger, begins with these bytes, and so does what is due in it
     7, 8     what is due in the text buffer, or in the ledger, begins with these bytes
-    9        a call and its answer, ten numbers (4 bytes each): 0 convert or 1 edit; mode; block; kept length; refusal (0: accepted);
-             its row, or the text's length; growth, as two numbers of which the second is taken from the first; count of blocks (in a
-             conversion all, in an edit those converted again); bytes at the front of the ledger that the case does not name
+    9        a call and its answer, numbers (4 bytes each): 0 convert, 1 edit, 2 insertion or 3 removal; mode; block or position, and kept
+             length (8 bytes each); refusal (0: accepted); its row, or the text's length; growth, as two numbers of which the second is
+             taken from the first; count of blocks (in a conversion all, in a change those converted again); bytes at the front of the
+             ledger that the case does not name
 
 After a call both buffers must be as is due, whole. The vectors do not name the ledger of a conversion. So each that is accepted is
 followed by edits of its first and last block to the tree that is there: these must accept the ledger, convert one block again, and
@@ -32,7 +33,8 @@ from pathlib import Path
 PACKED = Path(__file__).resolve().parent.parent / "crates" / "cases" / "stdin"
 
 NAME, RULES, TREE, SIZES, TEXT, LEDGER, TEXT_DUE, LEDGER_DUE, CALL = range(1, 10)
-CONVERT, EDIT = 0, 1
+CONVERT, EDIT, INSERT, REMOVE = range(4)
+KINDS = {"convert": CONVERT, "edit": EDIT, "insert": INSERT, "remove": REMOVE}
 BUFFER = 65536
 ROW_SIZE = 128
 
@@ -47,7 +49,8 @@ def numbers(*given):
 
 def call(kind, mode, block, kept, answer, free=0):
     number, first, growth, count = answer
-    return part(CALL, numbers(kind, mode, block, kept, number, first, max(growth, 0), max(-growth, 0), count, free))
+    asked = numbers(kind, mode) + struct.pack("<QQ", block, kept)
+    return part(CALL, asked + numbers(number, first, max(growth, 0), max(-growth, 0), count, free))
 
 
 def read(case, name):
@@ -79,7 +82,7 @@ def conversion(case):
     return parts + [call(EDIT, mode, block, size, (0, size, 0, 1)) for block in sorted({0, blocks - 1}) if blocks]
 
 
-def edits(case):
+def changes(case):
     lines = [line.split() for line in (case / "script.txt").read_text().splitlines()]
     mode, calls = int(lines[0][1]), lines[1:]
     start = "before" if calls[0][0] == "convert" else "0"
@@ -92,7 +95,7 @@ def edits(case):
         for tag, name in ((TEXT_DUE, "text"), (LEDGER_DUE, "ledger")):
             data = read(case, f"{name}-{i}.bin")
             if data != due[name]:
-                parts.append(part(tag, data))
+                parts.append(part(tag, data[: 1 + max(j for j, byte in enumerate(data) if byte != due[name][j])]))
                 due[name] = data
         given = [int(n) for n in said[1:]]
         if said[0] == "refused":
@@ -100,17 +103,17 @@ def edits(case):
         else:
             answer = (0, given[0], 0, given[1]) if kind == "convert" else (0, given[0], given[1], given[2])
         block, kept = (0, 0) if kind == "convert" else (int(words[3]), int(words[5]))
-        parts.append(call(CONVERT if kind == "convert" else EDIT, mode, block, kept, answer))
+        parts.append(call(KINDS[kind], mode, block, kept, answer))
     return parts
 
 
 def main():
-    if len(sys.argv) != 2:
+    if len(sys.argv) < 2:
         sys.exit(__doc__)
     packed = []
-    for case in sorted(Path(sys.argv[1]).iterdir()):
+    for case in (case for folder in sys.argv[1:] for case in sorted(Path(folder).iterdir())):
         if case.is_dir():
-            parts = edits(case) if (case / "script.txt").exists() else conversion(case)
+            parts = changes(case) if (case / "script.txt").exists() else conversion(case)
             data = part(NAME, case.name.encode()) + b"".join(parts)
             packed.append(numbers(len(data)) + data)
     PACKED.write_bytes(b"".join(packed))

@@ -4,10 +4,10 @@
     tools/run_vectors.py FOLDER [--programs target/bin]
 
 A conversion is a folder with `stdin` and `expected`, and `rules.bin` and `tree.bin` (one that is missing is a missing file): `program`
-is run in a copy of it. A run of edits is a folder with `script.txt`, `rules.bin` and, for call i, `tree-i.bin` and both whole buffers
+is run in a copy of it. A run of changes is a folder with `script.txt`, `rules.bin` and, for call i, `tree-i.bin` and both whole buffers
 after it, `text-i.bin` and `ledger-i.bin`; they start as `text-before.bin` and `ledger-before.bin` where the script begins with a
-conversion, else as `text-0.bin` and `ledger-0.bin`. Each edit is made by `edit_program` on the buffers as the call before left them; a
-run's conversion starts it, and its buffers are those that the vector has after it.
+conversion, else as `text-0.bin` and `ledger-0.bin`. Each edit is made by `edit_program` on the buffers as the call before left them. No
+program makes the other calls of a run, which are conversions, insertions and removals: the buffers after one are those of the vector.
 
 The last line is `N cases, M calls, F failed`; the exit status is 0 where none failed.
 """
@@ -46,17 +46,24 @@ def edit_expected(case, words):
     return line.encode() + b"".join((case / f"{name}-{words[1]}.bin").read_bytes() for name in ("text", "ledger"))
 
 
+def take_buffers(case, call, folder):
+    """Both buffers as the vector has them after a call."""
+    for name in ("text", "ledger"):
+        shutil.copyfile(case / f"{name}-{call}.bin", folder / f"{name}.bin")
+
+
 def edits_fail(program, case, folder):
     mode, calls = calls_of(case)
+    letter = {0: "t", 1: "m"}.get(mode, "?")
     shutil.copyfile(case / "rules.bin", folder / "rules.bin")
-    for name in ("text", "ledger"):
-        shutil.copyfile(case / f"{name}-0.bin", folder / f"{name}.bin")
+    take_buffers(case, 0, folder)
     failures = []
     for words in calls:
         if words[0] != "edit":
+            take_buffers(case, words[1], folder)
             continue
         shutil.copyfile(case / f"tree-{words[1]}.bin", folder / "tree.bin")
-        got = ran(program, folder, f"{'tm'[mode]} {words[3]} {words[5]}\n".encode())
+        got = ran(program, folder, f"{letter} {words[3]} {words[5]}\n".encode())
         if got != edit_expected(case, words):
             failures.append(f"call {words[1]} writes something else")
         sizes = [(folder / f"{name}.bin").stat().st_size for name in ("text", "ledger")]

@@ -1,4 +1,4 @@
-//! How long Convert and Edit take, beside the reference on the same inputs: `cargo bench --offline`.
+//! How long conversions and changes take, beside the reference on the same inputs: `cargo bench --offline`.
 //!
 //! `ZALDRUME_SEED` is the seed of the documents (7 where it is not set). Every time is the least mean of a few calls, over rounds in
 //! which all that a table has take turns.
@@ -6,13 +6,13 @@
 use std::hint::black_box;
 
 use reference::constructs::{
-    curly, documents, environment, formula, label, least_means, rules, word, Document,
+    curly, documents, environment, formula, label, least_means, rules, word, Document, CALLS,
 };
 use reference::hostile;
 use reference::made::{node, token, Random};
 use reference::Kind::*;
-use reference::{BLOCKS_MOST, FILE_MOST, ROW_SIZE};
-use zaldrume::raw;
+use reference::{Refused, BLOCKS_MOST, FILE_MOST, ROW_SIZE};
+use zaldrume::raw::{self, Answer};
 
 fn micro(nanos: f64) -> String {
     format!("{:.1}", nanos / 1000.0)
@@ -30,6 +30,36 @@ fn columns<const N: usize>(cases: usize, mut call: impl FnMut(usize, usize)) -> 
     let case = |i| std::array::from_fn(|column| means[column * cases + i]);
     (0..cases).map(case).collect()
 }
+
+type Library = fn(u8, &[u8], &[u8], usize, usize, &mut [u8], &mut [u8]) -> Answer;
+
+type Reference =
+    fn(u8, &[u8], &[u8], usize, usize, &mut [u8], &mut [u8]) -> Result<reference::Edited, Refused>;
+
+/// A change of one block, by the library and by the reference.
+#[derive(Clone, Copy)]
+struct Change {
+    library: Library,
+    reference: Reference,
+}
+
+const EDIT: Change = Change {
+    library: raw::edit,
+    reference: reference::edit,
+};
+
+const INSERT: Change = Change {
+    library: raw::insert,
+    reference: reference::insert,
+};
+
+const REMOVE: Change = Change {
+    library: raw::remove,
+    reference: reference::remove,
+};
+
+/// [`Buffers::library`] or [`Buffers::reference`].
+type By = fn(&mut Buffers, Change, &[u8], &[u8], usize, usize) -> (usize, usize);
 
 #[derive(Clone)]
 struct Buffers {
@@ -64,23 +94,32 @@ impl Buffers {
         assert_eq!(black_box(answer).number, 6);
     }
 
-    /// The text's length, and how many blocks were converted again.
-    fn edit(&mut self, rules: &[u8], tree: &[u8], block: usize, kept: usize) -> (usize, usize) {
+    /// A change by the library: the text's length, and how many blocks were converted.
+    fn library(
+        &mut self,
+        change: Change,
+        rules: &[u8],
+        tree: &[u8],
+        at: usize,
+        kept: usize,
+    ) -> (usize, usize) {
         let Buffers { text, ledger } = self;
-        let answer = raw::edit(0, rules, tree, block, kept, text, ledger);
+        let answer = (change.library)(0, rules, tree, at, kept, text, ledger);
         assert_eq!(answer.number, 0, "refused at {}", answer.place);
         (answer.place, answer.count)
     }
 
-    fn reference_edit(
+    /// The same by the reference.
+    fn reference(
         &mut self,
+        change: Change,
         rules: &[u8],
         tree: &[u8],
-        block: usize,
+        at: usize,
         kept: usize,
     ) -> (usize, usize) {
         let Buffers { text, ledger } = self;
-        let done = reference::edit(0, rules, tree, block, kept, text, ledger).expect("accepted");
+        let done = (change.reference)(0, rules, tree, at, kept, text, ledger).expect("accepted");
         (done.length, done.count)
     }
 
@@ -185,22 +224,18 @@ impl Open {
         };
         let mut theirs = ours.clone();
         for _ in 0..2 {
-            ours.edit(rules, edit, Buffers::edit);
-            theirs.edit(rules, edit, Buffers::reference_edit);
+            ours.edit(rules, edit, Buffers::library);
+            theirs.edit(rules, edit, Buffers::reference);
             ours.buffers.assert_same(&theirs.buffers);
         }
         ours
     }
 
-    fn edit(
-        &mut self,
-        rules: &[u8],
-        edit: &Edit,
-        call: impl Fn(&mut Buffers, &[u8], &[u8], usize, usize) -> (usize, usize),
-    ) {
+    fn edit(&mut self, rules: &[u8], edit: &Edit, by: By) {
         self.turn = 1 - self.turn;
         let (rules, tree) = (black_box(rules), black_box(&edit.trees[self.turn]));
-        (self.kept, self.count) = call(&mut self.buffers, rules, tree, edit.block, self.kept);
+        let answer = by(&mut self.buffers, EDIT, rules, tree, edit.block, self.kept);
+        (self.kept, self.count) = answer;
     }
 }
 
@@ -230,13 +265,17 @@ fn edit_of_label(words: &Document) -> Edit {
     }
 }
 
+/// A document in 512 blocks.
+fn in_most_blocks<'a>(documents: &'a [Document], name: &str) -> &'a Document {
+    let is_wanted =
+        |document: &&Document| document.name == name && document.blocks.len() == BLOCKS_MOST;
+    documents.iter().find(is_wanted).expect("such a document")
+}
+
 /// Edits of some documents in 512 blocks; those of one document stand apart.
 fn edits_of(documents: &[Document]) -> Vec<Edit> {
-    let chosen = ["words", "commands", "tables", "labels", "mixture"].map(|name| {
-        let is_wanted =
-            |document: &&Document| document.name == name && document.blocks.len() == BLOCKS_MOST;
-        documents.iter().find(is_wanted).expect("such a document")
-    });
+    let chosen = ["words", "commands", "tables", "labels", "mixture"]
+        .map(|name| in_most_blocks(documents, name));
     let mut edits = Vec::new();
     for (place, block) in [("first", 0), ("middle", 256), ("last", 511)] {
         let edit = |document| edit_of_word(document, place, block);
@@ -260,8 +299,8 @@ fn edits(documents: &[Document]) {
     let means = columns(edits.len(), |column, i| {
         let tree = black_box(&edits[i].trees[1]);
         match column {
-            0 => ours[i].edit(&rules, &edits[i], Buffers::edit),
-            1 => theirs[i].edit(&rules, &edits[i], Buffers::reference_edit),
+            0 => ours[i].edit(&rules, &edits[i], Buffers::library),
+            1 => theirs[i].edit(&rules, &edits[i], Buffers::reference),
             2 => assert!(whole.convert(black_box(&rules), tree) > 0),
             _ => whole.check(black_box(&rules), tree),
         }
@@ -276,6 +315,132 @@ fn edits(documents: &[Document]) {
             library / reference,
             micro(start),
             library / start,
+            micro(checks),
+        );
+    }
+}
+
+/// As many blocks as a turn has calls, put in one after the other and taken out again: the tree with none of them, with one, with all.
+struct Growth {
+    place: &'static str,
+    first: usize,
+    trees: [Vec<u8>; CALLS + 1],
+}
+
+impl Growth {
+    fn new(document: &Document, place: &'static str, first: usize) -> Self {
+        let tree = |there| {
+            let mut blocks = document.blocks.clone();
+            blocks.drain(first + there..first + CALLS);
+            Document::new(document.name, blocks).tree
+        };
+        Growth {
+            place,
+            first,
+            trees: std::array::from_fn(tree),
+        }
+    }
+}
+
+/// A document in which some of these blocks are there.
+#[derive(Clone)]
+struct Growing {
+    buffers: Buffers,
+    kept: usize,
+    there: usize,
+    // the most blocks that an insertion and a removal converted
+    counts: [usize; 2],
+}
+
+impl Growing {
+    /// The document without them, after library and reference put them in and took them out.
+    fn new(rules: &[u8], growth: &Growth) -> Self {
+        let mut buffers = Buffers::new(2 * FILE_MOST);
+        let kept = buffers.convert(rules, &growth.trees[0]);
+        let mut ours = Growing {
+            buffers,
+            kept,
+            there: 0,
+            counts: [0; 2],
+        };
+        let mut theirs = ours.clone();
+        for step in [Growing::insert, Growing::remove] {
+            for _ in 0..CALLS {
+                step(&mut ours, rules, growth, Buffers::library);
+                step(&mut theirs, rules, growth, Buffers::reference);
+                ours.buffers.assert_same(&theirs.buffers);
+            }
+        }
+        ours
+    }
+
+    fn insert(&mut self, rules: &[u8], growth: &Growth, by: By) {
+        let at = growth.first + self.there;
+        self.there += 1;
+        let count = self.change(INSERT, rules, growth, at, by);
+        self.counts[0] = self.counts[0].max(count);
+    }
+
+    fn remove(&mut self, rules: &[u8], growth: &Growth, by: By) {
+        self.there -= 1;
+        let at = growth.first + self.there;
+        let count = self.change(REMOVE, rules, growth, at, by);
+        self.counts[1] = self.counts[1].max(count);
+    }
+
+    fn change(
+        &mut self,
+        change: Change,
+        rules: &[u8],
+        growth: &Growth,
+        at: usize,
+        by: By,
+    ) -> usize {
+        let (rules, tree) = (black_box(rules), black_box(&growth.trees[self.there]));
+        let (kept, count) = by(&mut self.buffers, change, rules, tree, at, self.kept);
+        self.kept = kept;
+        count
+    }
+}
+
+/// The mixture with 1,000 rules. A turn of insertions comes before one of removals.
+fn insertions(documents: &[Document]) {
+    title(
+        "A block put into 509 to 511 and taken out again",
+        "| place | blocks converted, at most | put in µs | put in / checks | blocks converted, at most | taken out µs | taken out / checks | converting from the start µs | checks alone µs |",
+    );
+    let rules = rules(1_000);
+    let mixture = in_most_blocks(documents, "mixture");
+    let places = [
+        ("first", 0),
+        ("middle", BLOCKS_MOST / 2),
+        ("last", BLOCKS_MOST - CALLS),
+    ];
+    let growths = places.map(|(place, first)| Growth::new(mixture, place, first));
+    let mut open = growths
+        .each_ref()
+        .map(|growth| Growing::new(&rules, growth));
+    let mut whole = Buffers::new(2 * FILE_MOST);
+    let means = columns(growths.len(), |column, i| {
+        let growth = &growths[i];
+        let full = black_box(&growth.trees[CALLS]);
+        match column {
+            0 => open[i].insert(&rules, growth, Buffers::library),
+            1 => open[i].remove(&rules, growth, Buffers::library),
+            2 => assert!(whole.convert(black_box(&rules), full) > 0),
+            _ => whole.check(black_box(&rules), full),
+        }
+    });
+    for (i, [put, taken, start, checks]) in means.into_iter().enumerate() {
+        let [put_count, taken_count] = open[i].counts;
+        println!(
+            "| {} | {put_count} | {} | {:.2} | {taken_count} | {} | {:.2} | {} | {} |",
+            growths[i].place,
+            micro(put),
+            put / checks,
+            micro(taken),
+            taken / checks,
+            micro(start),
             micro(checks),
         );
     }
@@ -312,5 +477,6 @@ fn main() {
     by_construct(&documents);
     by_rules(&documents);
     edits(&documents);
+    insertions(&documents);
     hostile();
 }

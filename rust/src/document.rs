@@ -1,12 +1,20 @@
 use std::ops::Range;
 
-use crate::{convert, edit, file, Converted, Edited, Mode, Refusal, BLOCKS_MOST, ROW_SIZE};
+use crate::file::{self, TreeFile};
+use crate::{convert, edit, insert, remove};
+use crate::{Converted, Edited, Mode, Refusal, BLOCKS_MOST, ROW_SIZE};
+
+/// The refusal for kept parts that do not fit.
+const NO_FIT: u8 = 6;
 
 /// The refusal for a buffer that is too short.
 const TOO_SHORT: u8 = 15;
 
 /// A text buffer counts as at most so many bytes.
 const TEXT_MOST: usize = u32::MAX as usize;
+
+/// [`edit`], [`insert`] or [`remove`].
+type Change = fn(Mode, &[u8], &[u8], usize, usize, &mut [u8], &mut [u8]) -> Result<Edited, Refusal>;
 
 /// An open document that owns its text and its ledger.
 ///
@@ -32,16 +40,21 @@ const TEXT_MOST: usize = u32::MAX as usize;
 ///
 /// let second = document.blocks().nth(1).unwrap();
 /// assert_eq!(&document.text()[second.range], b"2\n");
+///
+/// document.insert(&lines(&["one", "2", "and", "three"]), 2)?;
+/// document.remove(&lines(&["2", "and", "three"]), 0)?;
+/// assert_eq!(document.text(), b"2\nand\nthree\n");
 /// # Ok::<(), zaldrume::Refusal>(())
 /// ```
 #[derive(Debug, Clone)]
 pub struct Document {
     mode: Mode,
     rules: Vec<u8>,
+    // the buffer, of which the first `length` bytes are the text
     text: Vec<u8>,
     length: usize,
+    // a row for each block and no byte more
     ledger: Vec<u8>,
-    blocks: usize,
 }
 
 impl Document {
@@ -63,7 +76,64 @@ impl Document {
             text,
             length,
             ledger,
-            blocks,
+        })
+    }
+
+    /// A document from the parts that were kept of one, without converting it: its text is the first
+    /// `length` bytes of `text`, and the first rows of `ledger` are those of its `blocks`, as a call
+    /// leaves both buffers.
+    ///
+    /// The caller promises that these bytes are those of a document with this mode and this rule
+    /// file, as [`text`](Self::text) and [`ledger`](Self::ledger) give them. Changes then go on from
+    /// that document: what cannot be seen from the parts alone, such as a text of another document of
+    /// the same lengths, is not found out.
+    ///
+    /// ```
+    /// use zaldrume::file::{Kind, RuleFile, TreeFile};
+    /// use zaldrume::{Document, Mode};
+    ///
+    /// let rules = RuleFile::new().build().unwrap();
+    /// let words = |words: &[&str]| {
+    ///     let mut tree = TreeFile::new();
+    ///     words.iter().for_each(|word| tree.token(Kind::TokenWord, word));
+    ///     tree.build().unwrap()
+    /// };
+    /// let document = Document::open(Mode::Text, &rules, &words(&["one", "two"]))?;
+    /// let stored = (document.mode() as u8, document.text().to_vec(), document.ledger().to_vec());
+    ///
+    /// let (mode, text, ledger) = stored;
+    /// let (mode, length) = (Mode::try_from(mode)?, text.len());
+    /// let mut document = Document::from_parts(mode, &rules, text, length, ledger, 2)?;
+    /// document.remove(&words(&["two"]), 0)?;
+    /// assert_eq!(document.text(), b"two");
+    /// # Ok::<(), zaldrume::Refusal>(())
+    /// ```
+    ///
+    /// # Errors
+    ///
+    /// 2 where the rule file breaks its layout; 6 where there are more than [`BLOCKS_MOST`] blocks, the
+    /// text or the ledger is shorter than is said, or the rows do not fit the text's length.
+    pub fn from_parts(
+        mode: Mode,
+        rules: &[u8],
+        text: Vec<u8>,
+        length: usize,
+        mut ledger: Vec<u8>,
+        blocks: usize,
+    ) -> Result<Self, Refusal> {
+        check_rules(mode, rules)?;
+        let whole =
+            length <= text.len() && blocks <= BLOCKS_MOST && blocks * ROW_SIZE <= ledger.len();
+        if !whole || !rows_fit(&ledger[..blocks * ROW_SIZE], length) {
+            return Err(Refusal::new(NO_FIT, 0));
+        }
+        ledger.truncate(blocks * ROW_SIZE);
+        Ok(Document {
+            mode,
+            rules: rules.to_vec(),
+            text,
+            length,
+            ledger,
         })
     }
 
@@ -74,24 +144,110 @@ impl Document {
     /// Any refusal but 1 and 15, and 6 where the tree has another count of blocks; the document
     /// then is as it was.
     pub fn edit(&mut self, tree: &[u8], block: usize) -> Result<Edited, Refusal> {
-        // with another count no block is the one that is meant
-        let block = match file::count_blocks(tree) {
-            Some(count) if count == self.blocks => block,
-            _ => usize::MAX,
+        self.change(edit, tree, block, Some(self.count()))
+    }
+
+    /// Takes a new tree, which is the last accepted one with one block more: block `position` of it,
+    /// from 0 to the count of blocks that there were.
+    ///
+    /// ```
+    /// use zaldrume::file::{Kind, RuleFile, TreeFile};
+    /// use zaldrume::{Document, Mode};
+    ///
+    /// let rules = RuleFile::new().build().unwrap();
+    /// let words = |words: &[&str]| {
+    ///     let mut tree = TreeFile::new();
+    ///     words.iter().for_each(|word| tree.token(Kind::TokenWord, word));
+    ///     tree.build().unwrap()
+    /// };
+    /// let mut document = Document::open(Mode::Text, &rules, &words(&["one", "two"]))?;
+    /// let inserted = document.insert(&words(&["one", "two", "three"]), 2)?;
+    /// assert_eq!((inserted.growth, inserted.count), (5, 1));
+    /// assert_eq!(document.text(), b"onetwothree");
+    /// # Ok::<(), zaldrume::Refusal>(())
+    /// ```
+    ///
+    /// # Errors
+    ///
+    /// Any refusal but 1 and 15, and 6 where the tree does not have one block more; the document
+    /// then is as it was.
+    pub fn insert(&mut self, tree: &[u8], position: usize) -> Result<Edited, Refusal> {
+        self.change(insert, tree, position, Some(self.count() + 1))
+    }
+
+    /// Takes a new tree, which is the last accepted one without its block `block`, counted from 0.
+    ///
+    /// ```
+    /// use zaldrume::file::{Kind, RuleFile, TreeFile};
+    /// use zaldrume::{Document, Mode};
+    ///
+    /// let rules = RuleFile::new().build().unwrap();
+    /// let words = |words: &[&str]| {
+    ///     let mut tree = TreeFile::new();
+    ///     words.iter().for_each(|word| tree.token(Kind::TokenWord, word));
+    ///     tree.build().unwrap()
+    /// };
+    /// let mut document = Document::open(Mode::Text, &rules, &words(&["one", "two"]))?;
+    /// let removed = document.remove(&words(&["one"]), 1)?;
+    /// assert_eq!((removed.growth, removed.count), (-3, 0));
+    /// assert_eq!(document.text(), b"one");
+    /// # Ok::<(), zaldrume::Refusal>(())
+    /// ```
+    ///
+    /// # Errors
+    ///
+    /// Any refusal but 1 and 15, and 6 where the tree does not have one block less; the document
+    /// then is as it was.
+    pub fn remove(&mut self, tree: &[u8], block: usize) -> Result<Edited, Refusal> {
+        self.change(remove, tree, block, self.count().checked_sub(1))
+    }
+
+    /// A change at a block or a position, after which there are `after` blocks.
+    fn change(
+        &mut self,
+        call: Change,
+        tree: &[u8],
+        at: usize,
+        after: Option<usize>,
+    ) -> Result<Edited, Refusal> {
+        let before = self.count();
+        // with another count no place is the one that is meant
+        let (at, after) = match after {
+            Some(after) if file::count_blocks(tree) == Some(after) => (at, after),
+            _ => (usize::MAX, before),
         };
-        let edited = with_room(&mut self.text, |text| {
-            edit(
+        // room for a row that is put in
+        self.ledger.resize(before.max(after) * ROW_SIZE, 0);
+        let answer = with_room(&mut self.text, |text| {
+            call(
                 self.mode,
                 &self.rules,
                 tree,
-                block,
+                at,
                 self.length,
                 text,
                 &mut self.ledger,
             )
-        })?;
-        self.length = edited.length;
-        Ok(edited)
+        });
+        self.length = answer.map_or(self.length, |edited| edited.length);
+        let rows = answer.map_or(before, |_| after);
+        self.ledger.truncate(rows * ROW_SIZE);
+        answer
+    }
+
+    /// How many blocks there are.
+    fn count(&self) -> usize {
+        self.ledger.len() / ROW_SIZE
+    }
+
+    /// What the document was read as.
+    pub fn mode(&self) -> Mode {
+        self.mode
+    }
+
+    /// The rule file.
+    pub fn rules(&self) -> &[u8] {
+        &self.rules
     }
 
     /// The Typst text.
@@ -99,10 +255,15 @@ impl Document {
         &self.text[..self.length]
     }
 
+    /// The ledger: a row of [`ROW_SIZE`] bytes for each block.
+    pub fn ledger(&self) -> &[u8] {
+        &self.ledger
+    }
+
     /// What each block came to, in order.
     pub fn blocks(&self) -> Blocks<'_> {
         Blocks {
-            rows: self.ledger.chunks_exact(ROW_SIZE).take(self.blocks),
+            rows: self.ledger.chunks_exact(ROW_SIZE),
             start: 0,
         }
     }
@@ -123,6 +284,45 @@ fn with_room<T>(
     }
 }
 
+/// Refuses a rule file as a conversion of the empty document does.
+fn check_rules(mode: Mode, rules: &[u8]) -> Result<(), Refusal> {
+    let empty = TreeFile::new().build().expect("a short file");
+    convert(mode, rules, &empty, &mut [], &mut []).map(|_| ())
+}
+
+/// Whether rows fit a text of this length.
+fn rows_fit(ledger: &[u8], length: usize) -> bool {
+    let mut rows = ledger.chunks_exact(ROW_SIZE);
+    let last = rows.try_fold(0, |last, row| {
+        let end = Row::parse(row)?.end;
+        (last <= end).then_some(end)
+    });
+    last == Some(length)
+}
+
+/// A ledger row.
+struct Row<'a> {
+    end: usize,
+    flag: bool,
+    label: Option<&'a [u8]>,
+}
+
+impl<'a> Row<'a> {
+    /// Nothing where the bytes are not laid out as a row.
+    fn parse(row: &'a [u8]) -> Option<Self> {
+        let (head, rest) = row.split_first_chunk::<8>()?;
+        let [a, b, c, d, flag, held, size, zero] = *head;
+        let (label, padding) = rest.split_at_checked(usize::from(size))?;
+        let is_carry = flag <= 1 && held <= 1 && (held == 1 || size == 0);
+        let is_row = is_carry && zero == 0 && padding.iter().all(|&byte| byte == 0);
+        is_row.then_some(Row {
+            end: u32::from_le_bytes([a, b, c, d]) as usize,
+            flag: flag == 1,
+            label: (held == 1).then_some(label),
+        })
+    }
+}
+
 /// A block of a document, as its ledger row has it.
 #[derive(Debug, Clone, PartialEq, Eq)]
 pub struct Block<'a> {
@@ -137,7 +337,7 @@ pub struct Block<'a> {
 /// The blocks of a document, from [`Document::blocks`].
 #[derive(Debug, Clone)]
 pub struct Blocks<'a> {
-    rows: std::iter::Take<std::slice::ChunksExact<'a, u8>>,
+    rows: std::slice::ChunksExact<'a, u8>,
     start: usize,
 }
 
@@ -145,15 +345,12 @@ impl<'a> Iterator for Blocks<'a> {
     type Item = Block<'a>;
 
     fn next(&mut self) -> Option<Block<'a>> {
-        let (head, label) = self.rows.next()?.split_first_chunk::<8>()?;
-        let [a, b, c, d, flag, held, size, _] = *head;
-        let end = u32::from_le_bytes([a, b, c, d]) as usize;
-        let range = self.start..end;
-        self.start = end;
+        let Row { end, flag, label } = Row::parse(self.rows.next()?)?;
+        let start = std::mem::replace(&mut self.start, end);
         Some(Block {
-            range,
-            flag: flag == 1,
-            label: (held == 1).then(|| &label[..usize::from(size)]),
+            range: start..end,
+            flag,
+            label,
         })
     }
 

@@ -1,31 +1,37 @@
 //! LaTeX trees to Typst, block by block, by a proved static library.
 //!
 //! A caller's parser hands over a document as a *tree file* and the commands it knows as a *rule
-//! file* ([`file`] builds both). [`convert`] and [`edit`] work on the caller's buffers: the Typst
-//! text, and a *ledger* that has a row of [`ROW_SIZE`] bytes for each block. [`Document`] owns the
-//! buffers and keeps them up to date.
+//! file* ([`mod@file`] builds both). [`convert`], [`edit`], [`insert`] and [`remove`] work on the
+//! caller's buffers: the Typst text, and a *ledger* that has a row of [`ROW_SIZE`] bytes for each
+//! block. [`Document`] owns the buffers and keeps them up to date.
 //!
 //! ```
 //! use zaldrume::file::{Kind, RuleFile, TreeFile};
 //! use zaldrume::{Document, Mode};
 //!
 //! let rules = RuleFile::new().build().unwrap();
-//! let formula = |text| {
+//! let formulas = |texts: &[&str]| {
 //!     let mut tree = TreeFile::new();
-//!     tree.start(Kind::ItemFormula);
-//!     tree.token(Kind::TokenDollar, "$");
-//!     tree.token(Kind::TokenWord, text);
-//!     tree.token(Kind::TokenDollar, "$");
-//!     tree.finish();
+//!     for text in texts {
+//!         tree.start(Kind::ItemFormula);
+//!         tree.token(Kind::TokenDollar, "$");
+//!         tree.token(Kind::TokenWord, text);
+//!         tree.token(Kind::TokenDollar, "$");
+//!         tree.finish();
+//!     }
 //!     tree.build().unwrap()
 //! };
 //!
-//! let mut document = Document::open(Mode::Text, &rules, &formula("x"))?;
+//! let mut document = Document::open(Mode::Text, &rules, &formulas(&["x"]))?;
 //! assert_eq!(document.text(), b"#math.equation(block: false, $x $);");
 //!
-//! let edited = document.edit(&formula("xy"), 0)?;
+//! let edited = document.edit(&formulas(&["xy"]), 0)?;
 //! assert_eq!((edited.growth, edited.count), (2, 1));
 //! assert_eq!(document.text(), b"#math.equation(block: false, $x y $);");
+//!
+//! document.insert(&formulas(&["xy", "z"]), 1)?;
+//! document.remove(&formulas(&["z"]), 0)?;
+//! assert_eq!(document.text(), b"#math.equation(block: false, $z $);");
 //! # Ok::<(), zaldrume::Refusal>(())
 //! ```
 //!
@@ -91,14 +97,15 @@ pub struct Converted {
     pub blocks: usize,
 }
 
-/// What an accepted [`edit`] gives.
+/// What an accepted [`edit`], [`insert`] or [`remove`] gives.
 #[derive(Debug, Clone, Copy, PartialEq, Eq, Hash)]
 pub struct Edited {
     /// How many bytes of the text buffer hold the text now.
     pub length: usize,
     /// The new length less the old.
     pub growth: i64,
-    /// How many blocks were converted again, the named one first.
+    /// How many blocks were converted: in an edit the named one and those after it, in an
+    /// insertion the new one and those after it, in a removal those after the one taken out.
     pub count: usize,
 }
 
@@ -180,6 +187,96 @@ pub fn edit(
     ledger: &mut [u8],
 ) -> Result<Edited, Refusal> {
     let answer = raw::edit(mode as u8, rules, tree, block, kept, text, ledger);
+    edited(answer)
+}
+
+/// Puts one block in before a position, and converts those after it until nothing more can change.
+///
+/// `tree` is the whole new document: the kept one with one block more, which is block `position` of
+/// it (0 to the count of blocks that there were). `kept`, text and ledger are as for [`edit`], and
+/// the ledger needs room for one row more.
+///
+/// ```
+/// use zaldrume::file::{Kind, RuleFile, TreeFile};
+/// use zaldrume::{convert, insert, Mode, ROW_SIZE};
+///
+/// let rules = RuleFile::new().build().unwrap();
+/// let words = |words: &[&str]| {
+///     let mut tree = TreeFile::new();
+///     words.iter().for_each(|word| tree.token(Kind::TokenWord, word));
+///     tree.build().unwrap()
+/// };
+/// let mut text = [0; 16];
+/// let mut ledger = [0; 3 * ROW_SIZE];
+/// let kept = convert(Mode::Text, &rules, &words(&["one", "two"]), &mut text, &mut ledger)?.length;
+///
+/// let tree = words(&["one", "and", "two"]);
+/// let inserted = insert(Mode::Text, &rules, &tree, 1, kept, &mut text, &mut ledger)?;
+/// assert_eq!((inserted.length, inserted.growth, inserted.count), (9, 3, 1));
+/// assert_eq!(&text[..inserted.length], b"oneandtwo");
+/// # Ok::<(), zaldrume::Refusal>(())
+/// ```
+///
+/// # Errors
+///
+/// Any refusal but 1; the buffers then are as they were. A position that is not there is 6, a ledger
+/// without room for the new row 15.
+pub fn insert(
+    mode: Mode,
+    rules: &[u8],
+    tree: &[u8],
+    position: usize,
+    kept: usize,
+    text: &mut [u8],
+    ledger: &mut [u8],
+) -> Result<Edited, Refusal> {
+    let answer = raw::insert(mode as u8, rules, tree, position, kept, text, ledger);
+    edited(answer)
+}
+
+/// Takes one block out, and converts those after it until nothing more can change.
+///
+/// `tree` is the whole new document: the kept one without its block `block`, counted from 0.
+/// `kept`, text and ledger are as for [`edit`]. The row that is left over at the end is zeros.
+///
+/// ```
+/// use zaldrume::file::{Kind, RuleFile, TreeFile};
+/// use zaldrume::{convert, remove, Mode, ROW_SIZE};
+///
+/// let rules = RuleFile::new().build().unwrap();
+/// let words = |words: &[&str]| {
+///     let mut tree = TreeFile::new();
+///     words.iter().for_each(|word| tree.token(Kind::TokenWord, word));
+///     tree.build().unwrap()
+/// };
+/// let mut text = [0; 16];
+/// let mut ledger = [0; 2 * ROW_SIZE];
+/// let kept = convert(Mode::Text, &rules, &words(&["one", "two"]), &mut text, &mut ledger)?.length;
+///
+/// let removed = remove(Mode::Text, &rules, &words(&["two"]), 0, kept, &mut text, &mut ledger)?;
+/// assert_eq!((removed.length, removed.growth, removed.count), (3, -3, 0));
+/// assert_eq!(&text[..removed.length], b"two");
+/// # Ok::<(), zaldrume::Refusal>(())
+/// ```
+///
+/// # Errors
+///
+/// Any refusal but 1; the buffers then are as they were. A block that is not there is 6. A label
+/// that lands elsewhere can make the text longer, so 15 is among them.
+pub fn remove(
+    mode: Mode,
+    rules: &[u8],
+    tree: &[u8],
+    block: usize,
+    kept: usize,
+    text: &mut [u8],
+    ledger: &mut [u8],
+) -> Result<Edited, Refusal> {
+    let answer = raw::remove(mode as u8, rules, tree, block, kept, text, ledger);
+    edited(answer)
+}
+
+fn edited(answer: raw::Answer) -> Result<Edited, Refusal> {
     accepted(answer)?;
     Ok(Edited {
         length: answer.place,

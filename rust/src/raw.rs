@@ -1,4 +1,4 @@
-//! The two calls on plain numbers, as `include/zaldrume.h` has them.
+//! The four calls on plain numbers, as `include/zaldrume.h` has them.
 //!
 //! A slice passes as its first byte's address and its length. The static library asks that no
 //! address is null, that each part holds as many bytes as is said, and that the buffers overlap
@@ -34,24 +34,50 @@ mod boundary {
             growth: *mut i64,
             count: *mut usize,
         ) -> u8;
-
-        pub fn zaldrume_edit(
-            mode: u8,
-            rules: *const u8,
-            rules_size: usize,
-            tree: *const u8,
-            tree_size: usize,
-            block: usize,
-            kept: usize,
-            text: *mut u8,
-            text_size: usize,
-            ledger: *mut u8,
-            ledger_size: usize,
-            place: *mut usize,
-            growth: *mut i64,
-            count: *mut usize,
-        ) -> u8;
     }
+
+    /// The changes pass alike: `at` is a block's number or a position.
+    macro_rules! changes {
+        ($($name:ident),*) => {
+            extern "C" {
+                $(pub fn $name(
+                    mode: u8,
+                    rules: *const u8,
+                    rules_size: usize,
+                    tree: *const u8,
+                    tree_size: usize,
+                    at: usize,
+                    kept: usize,
+                    text: *mut u8,
+                    text_size: usize,
+                    ledger: *mut u8,
+                    ledger_size: usize,
+                    place: *mut usize,
+                    growth: *mut i64,
+                    count: *mut usize,
+                ) -> u8;)*
+            }
+        };
+    }
+
+    changes!(zaldrume_edit, zaldrume_insert, zaldrume_remove);
+
+    pub type Change = unsafe extern "C" fn(
+        u8,
+        *const u8,
+        usize,
+        *const u8,
+        usize,
+        usize,
+        usize,
+        *mut u8,
+        usize,
+        *mut u8,
+        usize,
+        *mut usize,
+        *mut i64,
+        *mut usize,
+    ) -> u8;
 }
 
 /// Convert. A mode other than 0 (text) and 1 (math) is refusal 1.
@@ -78,26 +104,28 @@ pub fn convert(mode: u8, rules: &[u8], tree: &[u8], text: &mut [u8], ledger: &mu
     answer
 }
 
-/// Edit of one block. A mode other than 0 (text) and 1 (math) is refusal 1.
-pub fn edit(
+/// A change at a block or a position.
+#[allow(clippy::too_many_arguments)]
+fn change(
+    call: boundary::Change,
     mode: u8,
     rules: &[u8],
     tree: &[u8],
-    block: usize,
+    at: usize,
     kept: usize,
     text: &mut [u8],
     ledger: &mut [u8],
 ) -> Answer {
     let mut answer = Answer::default();
-    // SAFETY: as in `convert`.
+    // SAFETY: as in `convert`; `call` is one of the library's three changes.
     answer.number = unsafe {
-        boundary::zaldrume_edit(
+        call(
             mode,
             rules.as_ptr(),
             rules.len(),
             tree.as_ptr(),
             tree.len(),
-            block,
+            at,
             kept,
             text.as_mut_ptr(),
             text.len(),
@@ -109,4 +137,46 @@ pub fn edit(
         )
     };
     answer
+}
+
+/// Edit of one block. A mode other than 0 (text) and 1 (math) is refusal 1.
+pub fn edit(
+    mode: u8,
+    rules: &[u8],
+    tree: &[u8],
+    block: usize,
+    kept: usize,
+    text: &mut [u8],
+    ledger: &mut [u8],
+) -> Answer {
+    let call = boundary::zaldrume_edit;
+    change(call, mode, rules, tree, block, kept, text, ledger)
+}
+
+/// One block put in before a position. A mode other than 0 (text) and 1 (math) is refusal 1.
+pub fn insert(
+    mode: u8,
+    rules: &[u8],
+    tree: &[u8],
+    position: usize,
+    kept: usize,
+    text: &mut [u8],
+    ledger: &mut [u8],
+) -> Answer {
+    let call = boundary::zaldrume_insert;
+    change(call, mode, rules, tree, position, kept, text, ledger)
+}
+
+/// One block taken out. A mode other than 0 (text) and 1 (math) is refusal 1.
+pub fn remove(
+    mode: u8,
+    rules: &[u8],
+    tree: &[u8],
+    block: usize,
+    kept: usize,
+    text: &mut [u8],
+    ledger: &mut [u8],
+) -> Answer {
+    let call = boundary::zaldrume_remove;
+    change(call, mode, rules, tree, block, kept, text, ledger)
 }

@@ -19,7 +19,7 @@ fn setting(name: &str, usual: u64) -> u64 {
     }
 }
 
-/// Runs the cases of a test, `share` of them in a hundred, and prints how often each number was answered.
+/// Runs the cases of a test, `share` of them in a hundred, and prints how often each call answered each number.
 fn each_case(name: &str, share: u64, case: impl Fn(&mut Maker, &mut Tally)) {
     let count = (setting("ZALDRUME_CASES", 1000) * share).div_ceil(100);
     let first = setting("ZALDRUME_SEED", 1);
@@ -37,7 +37,7 @@ fn each_case(name: &str, share: u64, case: impl Fn(&mut Maker, &mut Tally)) {
 #[derive(Default)]
 struct Tally {
     seed: u64,
-    answers: BTreeMap<u8, usize>,
+    answers: BTreeMap<&'static str, BTreeMap<u8, usize>>,
 }
 
 /// The two buffers that a call is lent.
@@ -57,6 +57,101 @@ impl Buffers {
         ledger.iter_mut().step_by(5).for_each(|byte| *byte = a);
         Buffers { text, ledger }
     }
+
+    fn assert_same(&self, other: &Buffers, what: &str, seed: u64) {
+        assert!(self.text == other.text, "{what}: text, seed {seed}");
+        assert!(self.ledger == other.ledger, "{what}: ledger, seed {seed}");
+    }
+}
+
+/// A change of a document by one block.
+#[derive(Debug, Clone, Copy, PartialEq, Eq)]
+enum Change {
+    Edit,
+    Insert,
+    Remove,
+}
+
+impl Change {
+    const ALL: [Change; 3] = [Change::Edit, Change::Insert, Change::Remove];
+
+    fn name(self) -> &'static str {
+        match self {
+            Change::Edit => "edit",
+            Change::Insert => "insert",
+            Change::Remove => "remove",
+        }
+    }
+
+    /// How many places it may be made at, in a document of so many blocks.
+    fn places(self, blocks: usize) -> usize {
+        match self {
+            Change::Insert => blocks + 1,
+            Change::Edit | Change::Remove => blocks,
+        }
+    }
+
+    /// Makes it, with a block to put there.
+    fn make(self, blocks: &mut Vec<Made>, at: usize, new: Made) {
+        match self {
+            Change::Edit => blocks[at] = new,
+            Change::Insert => blocks.insert(at, new),
+            Change::Remove => drop(blocks.remove(at)),
+        }
+    }
+}
+
+/// A call that changes a document.
+#[derive(Clone, Copy)]
+struct Call<'a> {
+    change: Change,
+    mode: u8,
+    rules: &'a [u8],
+    tree: &'a [u8],
+    at: usize,
+    kept: usize,
+}
+
+impl Call<'_> {
+    fn library(self, Buffers { text, ledger }: &mut Buffers) -> Answer {
+        let call = match self.change {
+            Change::Edit => raw::edit,
+            Change::Insert => raw::insert,
+            Change::Remove => raw::remove,
+        };
+        let Call {
+            mode,
+            rules,
+            tree,
+            at,
+            kept,
+            ..
+        } = self;
+        call(mode, rules, tree, at, kept, text, ledger)
+    }
+
+    fn reference(self, Buffers { text, ledger }: &mut Buffers) -> Answer {
+        let call = match self.change {
+            Change::Edit => reference::edit,
+            Change::Insert => reference::insert,
+            Change::Remove => reference::remove,
+        };
+        let Call {
+            mode,
+            rules,
+            tree,
+            at,
+            kept,
+            ..
+        } = self;
+        let answer = call(mode, rules, tree, at, kept, text, ledger);
+        told(answer.map(|done| Answer {
+            number: 0,
+            place: done.length,
+            growth: done.growth,
+            count: done.count,
+        }))
+    }
 }
 
 fn told(result: Result<Answer, reference::Refused>) -> Answer {
@@ -70,25 +165,19 @@ fn told(result: Result<Answer, reference::Refused>) -> Answer {
 impl Tally {
     fn compare(
         &mut self,
+        name: &'static str,
         library: (Answer, &Buffers),
         reference: (Answer, &Buffers),
         before: &Buffers,
     ) {
         let seed = self.seed;
-        assert_eq!(library.0, reference.0, "answer, seed {seed}");
-        assert!(library.1.text == reference.1.text, "text, seed {seed}");
-        assert!(
-            library.1.ledger == reference.1.ledger,
-            "ledger, seed {seed}"
-        );
+        assert_eq!(library.0, reference.0, "{name}: answer, seed {seed}");
+        library.1.assert_same(reference.1, name, seed);
         if library.0.number != 0 {
-            assert!(library.1.text == before.text, "refused, text, seed {seed}");
-            assert!(
-                library.1.ledger == before.ledger,
-                "refused, ledger, seed {seed}"
-            );
+            library.1.assert_same(before, "refused", seed);
         }
-        *self.answers.entry(library.0.number).or_default() += 1;
+        let answers = self.answers.entry(name).or_default();
+        *answers.entry(library.0.number).or_default() += 1;
     }
 
     fn convert(&mut self, mode: u8, rules: &[u8], tree: &[u8], buffers: &mut Buffers) -> Answer {
@@ -102,32 +191,21 @@ impl Tally {
             growth: 0,
             count: done.blocks,
         }));
-        self.compare((ours, buffers), (theirs, &other), &before);
+        self.compare("convert", (ours, buffers), (theirs, &other), &before);
         ours
     }
 
-    fn edit(
-        &mut self,
-        mode: u8,
-        rules: &[u8],
-        tree: &[u8],
-        block: usize,
-        kept: usize,
-        buffers: &mut Buffers,
-    ) -> Answer {
+    fn change(&mut self, call: Call, buffers: &mut Buffers) -> Answer {
         let before = buffers.clone();
         let mut other = buffers.clone();
-        let Buffers { text, ledger } = buffers;
-        let ours = raw::edit(mode, rules, tree, block, kept, text, ledger);
-        let Buffers { text, ledger } = &mut other;
-        let theirs = reference::edit(mode, rules, tree, block, kept, text, ledger);
-        let theirs = told(theirs.map(|done| Answer {
-            number: 0,
-            place: done.length,
-            growth: done.growth,
-            count: done.count,
-        }));
-        self.compare((ours, buffers), (theirs, &other), &before);
+        let ours = call.library(buffers);
+        let theirs = call.reference(&mut other);
+        self.compare(
+            call.change.name(),
+            (ours, buffers),
+            (theirs, &other),
+            &before,
+        );
         ours
     }
 }
@@ -231,11 +309,21 @@ fn any_bytes() {
         let mode = any_mode(maker);
         tally.convert(mode, &rules, &tree, &mut buffers);
         let kept = maker.random.below(200);
-        tally.edit(mode, &rules, &tree, d, kept, &mut buffers);
+        for change in Change::ALL {
+            let call = Call {
+                change,
+                mode,
+                rules: &rules,
+                tree: &tree,
+                at: d,
+                kept,
+            };
+            tally.change(call, &mut buffers);
+        }
     });
 }
 
-/// A document that is edited, and its buffers.
+/// A document that is changed, and its buffers.
 struct Run {
     mode: u8,
     rules: Vec<u8>,
@@ -246,27 +334,50 @@ struct Run {
     sound: bool,
 }
 
+/// What a caller wants: a change at a place, and the blocks after it.
+struct Wish {
+    change: Change,
+    at: usize,
+    blocks: Vec<Made>,
+}
+
 impl Run {
-    /// An edit as a caller makes it: one block replaced.
-    fn step(&mut self, maker: &mut Maker, tally: &mut Tally) {
-        let block = maker.random.below(self.blocks.len());
-        let mut blocks = self.blocks.clone();
-        blocks[block] = match maker.random.below(4) {
-            0 => maker.random.pick(&self.blocks).clone(),
+    fn wish(&self, maker: &mut Maker) -> Wish {
+        let count = self.blocks.len();
+        let change = match count {
+            0 => Change::Insert,
+            _ => *maker.random.pick(&Change::ALL),
+        };
+        let places = change.places(count);
+        let at = match maker.random.chance(300) {
+            true => *maker.random.pick(&[0, places - 1]),
+            false => maker.random.below(places),
+        };
+        let new = match maker.random.below(4) {
+            0 if count > 0 => maker.random.pick(&self.blocks).clone(),
             _ => {
                 let depth = maker.random.below(4);
                 maker.block(depth)
             }
         };
+        let mut blocks = self.blocks.clone();
+        change.make(&mut blocks, at, new);
+        Wish { change, at, blocks }
+    }
+
+    /// A change as a caller makes it.
+    fn step(&mut self, maker: &mut Maker, tally: &mut Tally) {
+        let Wish { change, at, blocks } = self.wish(maker);
         let tree = tree_file(&blocks);
-        let answer = tally.edit(
-            self.mode,
-            &self.rules,
-            &tree,
-            block,
-            self.kept,
-            &mut self.buffers,
-        );
+        let call = Call {
+            change,
+            mode: self.mode,
+            rules: &self.rules,
+            tree: &tree,
+            at,
+            kept: self.kept,
+        };
+        let answer = tally.change(call, &mut self.buffers);
         if self.sound {
             self.compare_from_start(tally, &tree, answer);
         }
@@ -276,15 +387,15 @@ impl Run {
         }
     }
 
-    /// The third demand: an edit answers as a conversion from the start, and leaves what that leaves.
-    fn compare_from_start(&self, tally: &Tally, tree: &[u8], edited: Answer) {
+    /// The third demand: a change answers as a conversion from the start, and leaves what that leaves.
+    fn compare_from_start(&self, tally: &Tally, tree: &[u8], changed: Answer) {
         let seed = tally.seed;
         let mut text = vec![0; self.buffers.text.len()];
         let mut ledger = vec![0; self.buffers.ledger.len()];
         let whole = raw::convert(self.mode, &self.rules, tree, &mut text, &mut ledger);
         assert_eq!(
             (whole.number, whole.place),
-            (edited.number, edited.place),
+            (changed.number, changed.place),
             "from the start, seed {seed}"
         );
         if whole.number == 0 {
@@ -298,7 +409,7 @@ impl Run {
                 "from the start, ledger, seed {seed}"
             );
             assert_eq!(
-                edited.growth,
+                changed.growth,
                 whole.place as i64 - self.kept as i64,
                 "growth, seed {seed}"
             );
@@ -307,20 +418,24 @@ impl Run {
 
     /// A call that is wrong in some way.
     fn wrong_step(&mut self, maker: &mut Maker, tally: &mut Tally) {
+        let Wish {
+            mut change,
+            mut at,
+            mut blocks,
+        } = self.wish(maker);
         let mut mode = self.mode;
         let mut rules = self.rules.clone();
-        let mut blocks = self.blocks.clone();
-        let mut block = maker.random.below(blocks.len());
         let mut kept = self.kept;
-        let mut tree = tree_file(&blocks);
-        match maker.random.below(8) {
+        let mut damaged = false;
+        match maker.random.below(10) {
             0 => mode = maker.random.number() as u8,
             1 => maker.damage(&mut rules),
-            2 => maker.damage(&mut tree),
+            2 => damaged = true,
             3 => {
-                block = *maker
+                let places = change.places(self.blocks.len());
+                at = *maker
                     .random
-                    .pick(&[blocks.len(), blocks.len() + 1, usize::MAX, 1 << 32])
+                    .pick(&[places, places + 1, usize::MAX, 1 << 32])
             }
             4 => {
                 kept = *maker.random.pick(&[
@@ -331,47 +446,82 @@ impl Run {
                     self.buffers.text.len() + 1,
                 ])
             }
-            5 => {
-                blocks.push(maker.block(2));
-                tree = tree_file(&blocks);
-            }
-            6 => {
-                blocks.pop();
-                tree = tree_file(&blocks);
-            }
-            _ => {
-                let row = maker.random.below(self.blocks.len());
-                let most = *maker.random.pick(&[8, ROW_SIZE]);
-                let at = row * ROW_SIZE + maker.random.below(most);
-                self.buffers.ledger[at] = *maker.random.pick(&[0, 1, 2, 120, 121, 255]);
-                self.sound = false;
-            }
+            5 => blocks.push(maker.block(2)),
+            6 => drop(blocks.pop()),
+            7 => blocks = self.blocks.clone(),
+            8 => change = *maker.random.pick(&Change::ALL),
+            _ => self.damage_ledger(maker),
         }
-        let answer = tally.edit(mode, &rules, &tree, block, kept, &mut self.buffers);
+        let mut tree = tree_file(&blocks);
+        if damaged {
+            maker.damage(&mut tree);
+        }
+        let call = Call {
+            change,
+            mode,
+            rules: &rules,
+            tree: &tree,
+            at,
+            kept,
+        };
+        let answer = tally.change(call, &mut self.buffers);
         if answer.number == 0 {
             self.kept = answer.place;
             self.sound = false;
-            if !blocks.is_empty() {
-                self.blocks = blocks;
-            }
+            self.blocks = blocks;
+        }
+    }
+
+    /// Another byte in a row.
+    fn damage_ledger(&mut self, maker: &mut Maker) {
+        let row = maker.random.below(self.blocks.len().max(1));
+        let most = *maker.random.pick(&[8, ROW_SIZE]);
+        let at = row * ROW_SIZE + maker.random.below(most);
+        if let Some(byte) = self.buffers.ledger.get_mut(at) {
+            *byte = *maker.random.pick(&[0, 1, 2, 120, 121, 255]);
+            self.sound = false;
+        }
+    }
+
+    /// Leaves little room after text and rows, or none.
+    fn cut(&mut self, maker: &mut Maker) {
+        let Buffers { text, ledger } = &mut self.buffers;
+        text.truncate(self.kept + maker.random.below(30));
+        ledger.truncate(self.blocks.len() * ROW_SIZE + maker.random.below(2 * ROW_SIZE));
+    }
+}
+
+/// A few blocks, at times many, or about as many as there may be.
+fn any_blocks(maker: &mut Maker, few: usize) -> Vec<Made> {
+    match maker.random.below(100) {
+        0 => {
+            (maker.odd, maker.clean) = (0, true);
+            let count = BLOCKS_MOST - 2 + maker.random.below(4);
+            maker.blocks(count, 0)
+        }
+        1..=4 => {
+            let count = maker.random.below(200);
+            maker.blocks(count, 2)
+        }
+        _ => {
+            let count = maker.random.below(few);
+            maker.blocks(count, 3)
         }
     }
 }
 
 #[test]
-fn runs_of_edits() {
-    each_case("runs of edits", 100, |maker, tally| {
+fn runs_of_changes() {
+    each_case("runs of changes", 100, |maker, tally| {
         let mode = maker.random.below(2) as u8;
-        let rules = maker.rules();
         maker.odd = maker.odd.min(5);
-        let count = 1 + match maker.random.chance(50) {
-            true => maker.random.below(200),
-            false => maker.random.below(12),
-        };
-        let blocks = maker.blocks(count, 3);
-        let extra = maker.random.below(3) * ROW_SIZE;
+        let blocks = any_blocks(maker, 13);
+        let rules = maker.rules();
+        let extra = *maker
+            .random
+            .pick(&[0, ROW_SIZE - 1, 2 * ROW_SIZE, 16 * ROW_SIZE]);
         let size = *maker.random.pick(&[1_000, 10_000, 100_000]);
-        let mut buffers = Buffers::any(maker, size, count * ROW_SIZE + extra);
+        let mut buffers = Buffers::any(maker, size, blocks.len() * ROW_SIZE + extra);
         let answer = tally.convert(mode, &rules, &tree_file(&blocks), &mut buffers);
         if answer.number != 0 {
             return;
@@ -384,10 +534,11 @@ fn runs_of_edits() {
             buffers,
             sound: true,
         };
-        for _ in 0..12 {
-            match maker.random.chance(150) {
-                true => run.wrong_step(maker, tally),
-                false => run.step(maker, tally),
+        for _ in 0..16 {
+            match maker.random.below(100) {
+                0..=14 => run.wrong_step(maker, tally),
+                15 => run.cut(maker),
+                _ => run.step(maker, tally),
             }
         }
     });
@@ -397,13 +548,16 @@ fn runs_of_edits() {
 fn ledgers_from_nowhere() {
     each_case("ledgers from nowhere", 200, |maker, tally| {
         let mode = maker.random.below(2) as u8;
+        let blocks = any_blocks(maker, 11);
         let rules = maker.rules();
-        let count = 1 + maker.random.below(10);
-        let blocks = maker.blocks(count, 2);
-        let kept = maker.random.below(400);
+        let kept = match blocks.len() {
+            0 if maker.random.chance(800) => 0,
+            _ => maker.random.below(400),
+        };
         let spare = *maker.random.pick(&[0, 3, 100, 2_000]);
         let text = maker.random.bytes(kept + spare);
-        let mut ledger = maker.ledger(count, kept);
+        let mut ledger = maker.ledger(blocks.len(), kept);
+        let spare = *maker.random.pick(&[0, ROW_SIZE - 1, ROW_SIZE, 2_000]);
         ledger.extend(maker.random.bytes(spare));
         let mut run = Run {
             mode,

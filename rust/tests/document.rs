@@ -1,7 +1,10 @@
 //! What a [`Document`] keeps, and what the refusals say.
 
 use zaldrume::file::{Class, Kind, RuleFile, TreeFile};
-use zaldrume::{convert, Document, Mode};
+use zaldrume::{convert, Document, Edited, Mode, Refusal, BLOCKS_MOST, ROW_SIZE};
+
+/// [`Document::edit`], [`Document::insert`] or [`Document::remove`].
+type Change = fn(&mut Document, &[u8], usize) -> Result<Edited, Refusal>;
 
 fn rules() -> Vec<u8> {
     RuleFile::new()
@@ -51,34 +54,100 @@ fn finds_room() {
         document.text(),
         ["a", &"long ".repeat(2_000)].concat().as_bytes()
     );
+    let inserted = document.insert(&tree(&["\\long", "a", "\\long"]), 0);
+    assert_eq!(inserted.unwrap().growth, 10_000);
+    assert_eq!(document.text().len(), 20_001);
 }
 
 #[test]
-fn refused_edits_leave_it_alone() {
+fn blocks_are_put_in_and_taken_out() {
+    let mut document = Document::open(Mode::Text, &rules(), &tree(&["b"])).unwrap();
+    for (words, position) in [
+        (&["a", "b"][..], 0),
+        (&["a", "b", "dd"], 2),
+        (&["a", "b", "ccc", "dd"], 2),
+    ] {
+        let inserted = document.insert(&tree(words), position).unwrap();
+        assert_eq!(inserted.growth, words[position].len() as i64);
+        assert_eq!(inserted.count, 1);
+        assert_eq!(document.text(), words.concat().as_bytes());
+    }
+    let ranges: Vec<_> = document.blocks().map(|block| block.range).collect();
+    assert_eq!(ranges, [0..1, 1..2, 2..5, 5..7]);
+
+    for (words, block, growth) in [
+        (&["a", "ccc", "dd"][..], 1, -1),
+        (&["a", "ccc"], 2, -2),
+        (&["ccc"], 0, -1),
+    ] {
+        let removed = document.remove(&tree(words), block).unwrap();
+        assert_eq!((removed.growth, removed.count), (growth, 0));
+        assert_eq!(document.text(), words.concat().as_bytes());
+        assert_eq!(document.ledger().len(), words.len() * ROW_SIZE);
+    }
+}
+
+#[test]
+fn from_no_block_to_the_most_and_back() {
+    let mut document = Document::open(Mode::Math, &rules(), &tree(&[])).unwrap();
+    let words = vec!["a"; BLOCKS_MOST];
+    for count in 1..=BLOCKS_MOST {
+        document.insert(&tree(&words[..count]), 0).unwrap();
+    }
+    assert_eq!(document.text(), "a ".repeat(BLOCKS_MOST).as_bytes());
+    let one_more = tree(&vec!["a"; BLOCKS_MOST + 1]);
+    assert_eq!(document.insert(&one_more, 0).unwrap_err().number(), 3);
+    for count in (0..BLOCKS_MOST).rev() {
+        document.remove(&tree(&words[..count]), count).unwrap();
+    }
+    assert_eq!(document.text(), b"");
+    assert_eq!(document.remove(&tree(&[]), 0).unwrap_err().number(), 6);
+}
+
+/// What a document is seen to keep.
+fn parts(document: &Document) -> (&[u8], &[u8]) {
+    (document.text(), document.ledger())
+}
+
+#[test]
+fn refused_changes_leave_it_alone() {
     let mut document = Document::open(Mode::Text, &rules(), &tree(&["a", "b"])).unwrap();
     let before = document.clone();
-    let cases: [(&[&str], usize, u8, usize); 4] = [
-        (&["a", "\\none"], 1, 9, 2),
-        (&["a", "b"], 2, 6, 0),
-        (&["a"], 0, 6, 0),
-        (&["a", "b", "c"], 0, 6, 0),
+    let cases: [(Change, &[&str], usize, u8, usize); 12] = [
+        (Document::edit, &["a", "\\none"], 1, 9, 2),
+        (Document::edit, &["a", "b"], 2, 6, 0),
+        (Document::edit, &["a"], 0, 6, 0),
+        (Document::edit, &["a", "b", "c"], 0, 6, 0),
+        (Document::insert, &["\\none", "a", "b"], 0, 9, 1),
+        (Document::insert, &["a", "b", "c"], 3, 6, 0),
+        (Document::insert, &["a", "b"], 0, 6, 0),
+        (Document::insert, &[], 0, 6, 0),
+        (Document::insert, &["a", "b", "c", "d"], 0, 6, 0),
+        (Document::remove, &["a"], 2, 6, 0),
+        (Document::remove, &["a", "b"], 0, 6, 0),
+        (Document::remove, &[], 0, 6, 0),
     ];
-    for (words, block, number, row) in cases {
-        let refusal = document.edit(&tree(words), block).unwrap_err();
+    for (change, words, at, number, row) in cases {
+        let refusal = change(&mut document, &tree(words), at).unwrap_err();
         assert_eq!(
             (refusal.number(), refusal.row()),
             (number, row),
-            "{words:?}"
+            "{words:?} at {at}"
+        );
+        assert_eq!(parts(&document), parts(&before));
+    }
+    for change in [Document::edit, Document::insert, Document::remove] {
+        assert_eq!(
+            change(&mut document, b"no tree", 0).unwrap_err().number(),
+            3
         );
     }
-    assert_eq!(document.edit(b"no tree", 0).unwrap_err().number(), 3);
-    assert_eq!(document.text(), before.text());
+    assert_eq!(parts(&document), parts(&before));
     assert!(document.blocks().eq(before.blocks()));
 }
 
-#[test]
-fn labels_are_held() {
-    let mut tree = TreeFile::new();
+/// `${\label{e}}$`: the label is held.
+fn add_label(tree: &mut TreeFile) {
     tree.start(Kind::ItemFormula);
     tree.token(Kind::TokenDollar, "$");
     tree.start(Kind::ItemCurly);
@@ -91,15 +160,134 @@ fn labels_are_held() {
     tree.finish();
     tree.token(Kind::TokenDollar, "$");
     tree.finish();
+}
+
+/// An empty `quote`, which takes a label that is held.
+fn add_quote(tree: &mut TreeFile) {
     tree.start(Kind::ItemEnv);
     tree.start(Kind::ItemBegin);
     tree.token(Kind::TokenCommandSym, "quote");
     tree.finish();
     tree.finish();
-    let document = Document::open(Mode::Text, &rules(), &tree.build().unwrap()).unwrap();
+}
+
+type Add = fn(&mut TreeFile);
+
+/// A document of such blocks.
+fn built(blocks: &[Add]) -> Vec<u8> {
+    let mut tree = TreeFile::new();
+    blocks.iter().for_each(|add| add(&mut tree));
+    tree.build().expect("a short file")
+}
+
+#[test]
+fn labels_are_held() {
+    let tree = built(&[add_label, add_quote]);
+    let document = Document::open(Mode::Text, &rules(), &tree).unwrap();
     let labels: Vec<_> = document.blocks().map(|block| block.label).collect();
     assert_eq!(labels, [Some(&b"e"[..]), None]);
     assert!(document.text().ends_with(b"#quote[];<e>"));
+}
+
+#[test]
+fn a_label_goes_where_blocks_let_it() {
+    let one = built(&[add_label, add_quote]);
+    let two = built(&[add_label, add_quote, add_quote]);
+    let mut document = Document::open(Mode::Text, &rules(), &one).unwrap();
+
+    // the new quote takes the label from the one after it
+    let inserted = document.insert(&two, 1).unwrap();
+    assert_eq!((inserted.growth, inserted.count), (9, 2));
+    assert!(document.text().ends_with(b"#quote[];<e>#quote[];"));
+
+    // the label goes back, and with its formula it goes away
+    let removed = document.remove(&one, 1).unwrap();
+    assert_eq!((removed.growth, removed.count), (-9, 1));
+    let removed = document.remove(&built(&[add_quote]), 0).unwrap();
+    assert_eq!(removed.count, 1);
+    assert_eq!(document.text(), b"#quote[];");
+}
+
+/// A document that went out of the program and came back.
+fn reloaded(document: &Document) -> Document {
+    let (text, ledger) = parts(document);
+    let (length, blocks) = (text.len(), document.blocks().count());
+    // buffers may be longer than what they hold
+    let (text, ledger) = ([text, b"any"].concat(), [ledger, b"bytes"].concat());
+    Document::from_parts(
+        document.mode(),
+        document.rules(),
+        text,
+        length,
+        ledger,
+        blocks,
+    )
+    .unwrap()
+}
+
+#[test]
+fn parts_are_stored_and_reloaded() {
+    let start = built(&[add_label, add_quote]);
+    let mut kept = Document::open(Mode::Text, &rules(), &start).unwrap();
+    let mut other = reloaded(&kept);
+    let changes: [(Change, &[Add], usize); 5] = [
+        (Document::insert, &[add_label, add_quote, add_label], 2),
+        (Document::edit, &[add_label, add_label, add_label], 1),
+        (Document::remove, &[add_label, add_label], 0),
+        (Document::remove, &[add_label], 1),
+        (Document::remove, &[], 0),
+    ];
+    for (change, blocks, at) in changes {
+        let tree = built(blocks);
+        let answer = change(&mut kept, &tree, at);
+        assert!(answer.is_ok());
+        assert_eq!(change(&mut other, &tree, at), answer);
+        assert_eq!(parts(&other), parts(&kept));
+        assert!(other.blocks().eq(kept.blocks()));
+        other = reloaded(&other);
+    }
+}
+
+#[test]
+fn parts_that_do_not_fit() {
+    let tree = built(&[add_label, add_quote]);
+    let document = Document::open(Mode::Text, &rules(), &tree).unwrap();
+    let number_of = |rules: &[u8], text: &[u8], length: usize, ledger: &[u8], blocks: usize| {
+        let parts = (text.to_vec(), ledger.to_vec());
+        let document = Document::from_parts(Mode::Text, rules, parts.0, length, parts.1, blocks);
+        document.map_or_else(|refusal| refusal.number(), |_| 0)
+    };
+    let number = |rules: &[u8], text: &[u8], ledger: &[u8]| {
+        number_of(rules, text, text.len(), ledger, ledger.len() / ROW_SIZE)
+    };
+    let (text, ledger) = parts(&document);
+    assert_eq!(number(&rules(), text, ledger), 0);
+    assert_eq!(number(b"no rules", text, ledger), 2);
+    assert_eq!(number(&rules(), &text[1..], ledger), 6);
+    assert_eq!(number(&rules(), text, &ledger[..ROW_SIZE]), 6);
+    assert_eq!(number_of(&rules(), text, text.len() + 1, ledger, 2), 6);
+    assert_eq!(number_of(&rules(), text, text.len(), ledger, 3), 6);
+    assert_eq!(number_of(&rules(), text, text.len(), ledger, usize::MAX), 6);
+    assert_eq!(number(&rules(), b"", b""), 0);
+    assert_eq!(number(&rules(), b"a", b""), 6);
+    let many = vec![0; (BLOCKS_MOST + 1) * ROW_SIZE];
+    assert_eq!(number(&rules(), b"", &many[ROW_SIZE..]), 0);
+    assert_eq!(number(&rules(), b"", &many), 6);
+    // a length over the next one, marks, the label's length, and bytes that are to be zero
+    for (at, byte) in [
+        (3, 1),
+        (4, 2),
+        (5, 0),
+        (5, 2),
+        (6, 121),
+        (6, 0),
+        (7, 1),
+        (127, 1),
+    ] {
+        let mut damaged = ledger.to_vec();
+        damaged[at] = byte;
+        assert_eq!(number(&rules(), text, &damaged), 6, "byte {at}: {byte}");
+    }
 }
 
 #[test]

@@ -1,8 +1,9 @@
-//! Library and reference against a folder of vectors, which `ZALDRUME_VECTORS` names; without it
-//! nothing is compared.
+//! Library and reference against folders of vectors, which `ZALDRUME_VECTORS` names, with colons
+//! between them; without it nothing is compared.
 //!
-//! A conversion case has `rules.bin`, `tree.bin`, `stdin` and `expected`; an edit case `rules.bin`,
-//! `script.txt` and, for each call, its tree and both buffers after it.
+//! A conversion case has `rules.bin`, `tree.bin`, `stdin` and `expected`; a run of changes (edits,
+//! insertions, removals) `rules.bin`, `script.txt` and, for each call, its tree and both buffers
+//! after it.
 
 use std::fs;
 use std::path::{Path, PathBuf};
@@ -44,20 +45,32 @@ impl Under {
         }
     }
 
-    /// What an edit answers: length, growth and count, or number and row.
+    /// What a change answers, by its word in a script: length, growth and count, or number and row.
     #[allow(clippy::too_many_arguments)]
-    fn edit(
+    fn change(
         self,
+        word: &str,
         mode: u8,
         rules: &[u8],
         tree: &[u8],
-        block: usize,
+        at: usize,
         kept: usize,
         text: &mut [u8],
         ledger: &mut [u8],
     ) -> Result<(usize, i64, usize), (u8, usize)> {
+        let library = match word {
+            "edit" => raw::edit,
+            "insert" => raw::insert,
+            "remove" => raw::remove,
+            _ => panic!("no such call: {word}"),
+        };
+        let reference = match word {
+            "edit" => reference::edit,
+            "insert" => reference::insert,
+            _ => reference::remove,
+        };
         match self {
-            Under::Library => match raw::edit(mode, rules, tree, block, kept, text, ledger) {
+            Under::Library => match library(mode, rules, tree, at, kept, text, ledger) {
                 Answer {
                     number: 0,
                     place,
@@ -66,7 +79,7 @@ impl Under {
                 } => Ok((place, growth, count)),
                 Answer { number, place, .. } => Err((number, place)),
             },
-            Under::Reference => reference::edit(mode, rules, tree, block, kept, text, ledger)
+            Under::Reference => reference(mode, rules, tree, at, kept, text, ledger)
                 .map(|done| (done.length, done.growth, done.count))
                 .map_err(|refused| (refused.number, refused.row)),
         }
@@ -74,16 +87,18 @@ impl Under {
 }
 
 fn cases(named: impl Fn(&Path) -> bool) -> Vec<PathBuf> {
-    let Some(folder) = std::env::var_os("ZALDRUME_VECTORS") else {
+    let Some(folders) = std::env::var_os("ZALDRUME_VECTORS") else {
         println!("ZALDRUME_VECTORS is not set: nothing is compared");
         return Vec::new();
     };
-    let entries = fs::read_dir(folder).expect("the folder of vectors opens");
-    let mut found: Vec<_> = entries
+    let entries =
+        |folder| fs::read_dir(folder).unwrap_or_else(|e| panic!("a folder of vectors: {e}"));
+    let mut found: Vec<_> = std::env::split_paths(&folders)
+        .flat_map(entries)
         .map(|entry| entry.expect("an entry").path())
         .filter(|path| named(path))
         .collect();
-    assert!(!found.is_empty(), "the folder has no such case");
+    assert!(!found.is_empty(), "the folders have no such case");
     found.sort();
     println!("{} cases", found.len());
     found
@@ -123,7 +138,7 @@ fn conversions() {
 }
 
 #[test]
-fn edits() {
+fn changes() {
     for case in cases(|path| path.join("script.txt").is_file()) {
         for under in Under::BOTH {
             replay(&case, under);
@@ -155,8 +170,9 @@ fn replay(case: &Path, under: Under) {
             "convert" => under
                 .convert(mode, &rules, &tree, &mut text, &mut ledger)
                 .map(|(length, blocks)| format!("ok {length} {blocks}")),
-            _ => under
-                .edit(
+            word => under
+                .change(
+                    word,
                     mode,
                     &rules,
                     &tree,

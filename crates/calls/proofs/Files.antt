@@ -1,5 +1,5 @@
 -- What the checks of the files leave is what a call begins with (`begins`). A refusal of theirs is that of the call (`converts-shut`,
--- `edits-shut`); else the call is about the document that the rows and the text spell (`document`, `opened-converts`, `opened-edits`).
+-- `alters-shut`); else the call is about the document that the rows and the text spell (`document`, `opened-converts`, `opened-changes`).
 use mathlib.Core.Path.{_≡_, refl, sym, ap, subst, _∙_}
 use mathlib.Core.Option.{Option}
 use mathlib.Core.Option.Option.{none as nothing, some}
@@ -22,16 +22,19 @@ use Rattle.mitex_meaning.specs.declared.LaTeXMode.{LaTeXMode}
 use Rattle.mitex_meaning.specs.declared.LaTeXMode.the-variants.{Text, Math}
 use Rattle.edit_meaning.specs.Walk.{BlockConverter, CheckedFile}
 use Rattle.edit_meaning.specs.Walk.CheckedFile.{bad, good}
-use Rattle.edit_meaning.specs.Edit.{Result, settle, fromCheck, conversion, convertDocument, editChecked, edit}
+use Rattle.edit_meaning.specs.Edit.{Result, settle, fromCheck, conversion, convertDocument}
 use Rattle.edit_meaning.specs.Edit.Answer.{refused}
-use Rattle.edit_meaning.specs.Calls.{Gives, Converts, Edits}
+use Rattle.edit_meaning.specs.Calls.{Gives, Converts}
+use Rattle.edit_meaning.specs.Changes.{Kind, changeChecked, change}
+use Rattle.edit_meaning.specs.ChangeCalls.{Alters}
 use Rattle.manuscript.specs.Manuscript.{modeOf, listed, byTree, byRules, byMode, manuscript, blocksIn}
 use Rattle.manuscript.proofs.Manuscript.{opened-as}
-use Rattle.calls.specs.Calls.{answerOfConvert, answerOfEdit, openTree, openRules, opened, FilesOpen, CallBegins, blockRows, Document, ConvertsBlocks, EditsBlocks}
+use Rattle.calls.specs.Calls.{answerOfConvert, answerOfEdit, openTree, openRules, opened, FilesOpen, CallBegins, blockRows, Document, ConvertsBlocks, kindBy, ChangesBlocks}
 use Rattle.calls.specs.declared.Converted.{Converted}
 use Rattle.calls.specs.declared.Converted.the-variants.{Refused as NotConverted}
 use Rattle.calls.specs.declared.Edited.{Edited}
 use Rattle.calls.specs.declared.Edited.the-variants.{Refused as NotEdited}
+use Rattle.calls.specs.declared.Way.{Way}
 use Rattle.calls.specs.declared.Opened.{Opened}
 use Rattle.calls.specs.declared.Opened.the-variants.{Shut, Open}
 
@@ -166,16 +169,16 @@ module _ {mode : ℕ} {file tree index : List ℕ} {m : LaTeXMode} {start n : �
               (sym (opened-call (λ 𝓒 v. settle (fromCheck 𝓒 v) out ledger))) (g document);
         }
 
-    pub opened-edits :
-        (r : Edited) {k kept : ℕ} {out ledger out′ ledger′ : List ℕ}
-        → EditsBlocks file index rows (take start tree) m n k kept out ledger r out′ ledger′
-        → Edits (manuscript mode file) tree k kept out ledger (answerOfEdit r) out′ ledger′
-    unfolding edit
-    opened-edits r {k} {kept} {out} {ledger} {out′} {ledger′} g =
+    pub opened-changes :
+        (r : Edited) (way : Way) (k : ℕ) {kept : ℕ} {out ledger out′ ledger′ : List ℕ}
+        → ChangesBlocks file index rows (take start tree) m n way k kept out ledger r out′ ledger′
+        → Alters (manuscript mode file) tree (kindBy way k) kept out ledger (answerOfEdit r) out′ ledger′
+    unfolding change
+    opened-changes r way k {kept} {out} {ledger} {out′} {ledger′} g =
         record {
           gives =
               subst (λ (x : Result). Gives x (answerOfEdit r) out′ ledger′)
-              (sym (opened-call (λ 𝓒 v. editChecked 𝓒 v k kept out ledger))) (g document);
+              (sym (opened-call (λ 𝓒 v. changeChecked 𝓒 v (kindBy way k) kept out ledger))) (g document);
         }
 
 -- ---- refused by the checks
@@ -191,13 +194,13 @@ module _ (mode : ℕ) (file tree : List ℕ) {n row : ℕ} (shut : (manuscript m
             (record { answer = refl; bytes = refl; rows = refl });
       }
 
-  pub edits-shut :
-      {k kept : ℕ} {out ledger : List ℕ} → Edits (manuscript mode file) tree k kept out ledger (answerOfEdit (NotEdited n row)) out ledger
-  unfolding edit
-  edits-shut {k} {kept} {out} {ledger} =
+  pub alters-shut :
+      {k : Kind} {kept : ℕ} {out ledger : List ℕ} → Alters (manuscript mode file) tree k kept out ledger (answerOfEdit (NotEdited n row)) out ledger
+  unfolding change
+  alters-shut {k} {kept} {out} {ledger} =
       record {
         gives =
             subst (λ (x : Result). Gives x (refused n row) out ledger)
-            (sym (ap (λ x. editChecked (manuscript mode file) x k kept out ledger) shut))
+            (sym (ap (λ x. changeChecked (manuscript mode file) x k kept out ledger) shut))
             (record { answer = refl; bytes = refl; rows = refl });
       }

@@ -52,14 +52,14 @@ module _ {v : Walk} {ps : List Piece} (out ledger : List ℕ) (is : v ≡ pieces
   unfolding settle
   settle-done e ea en eo el = rw (is, e) (record { answer = λ i. converted (ea i) (en i); bytes = eo; rows = el })
 
--- a place, the length as far as a row can say it, has room where the length has
-room-for : (a l size : ℕ) → a ≡ min cap l → roomForText a size ≡ roomForText l size
+-- a length as far as a row can say it has room where the length has
+pub room-for : (a b size : ℕ) → min cap a ≡ min cap b → roomForText a size ≡ roomForText b size
 unfolding roomForText
-room-for a l size e = go (leb a (min size textMost)) refl
+room-for a b size e = go (leb a (min size textMost)) refl
   where
-    go : (b : Bool) → leb a (min size textMost) ≡ b → leb a (min size textMost) ≡ leb l (min size textMost)
-    go true q = q ∙ sym (le-leb l (min size textMost) (omega (arith, leb-true a (min size textMost) q)))
-    go false q = q ∙ sym (lt-leb l (min size textMost) (omega (arith, leb-false a (min size textMost) q)))
+    go : (x : Bool) → leb a (min size textMost) ≡ x → leb a (min size textMost) ≡ leb b (min size textMost)
+    go true q = q ∙ sym (le-leb b (min size textMost) (omega (arith, leb-true a (min size textMost) q)))
+    go false q = q ∙ sym (lt-leb b (min size textMost) (omega (arith, leb-false a (min size textMost) q)))
 
 -- a text written over a lent part as long as itself
 pub part-put :
@@ -97,7 +97,7 @@ pub record DraftPassed {rules index rows text : List ℕ} {n : ℕ} (w : Documen
 module _ {rules index rows text : List ℕ} {n : ℕ} (w : Document rules index rows text n) where
   pub draft-passed :
       {m : LaTeXMode} {c : Converter} {from r : Standing} → Stood (w .blocks) rows text 0 0 c from → Carried (newOf m) startCarry c
-      → Measures rules index rows text from n false [] r → DraftPassed w m from r
+      → Measures rules index rows text from n n false [] r → DraftPassed w m from r
   draft-passed {c = c} {from} {r} st car me =
       record {
         converter = c;
@@ -129,7 +129,7 @@ module _ {rules index rows text : List ℕ} {n : ℕ} (w : Document rules index 
         unfolding room
         room-is =
             let l = length (written (measured .ps)) in
-            let e : r .walked .at ≡ min cap l = omega (arith, measured .place, p .stood .went .next) in
+            let e : min cap (r .walked .at) ≡ min cap l = omega (arith, measured .place, p .stood .went .next) in
             is ∙ (λ i. room-for (r .walked .at) l (length out) e i && leb (rowSize * sym many i) (length ledger))
 
         pub settled-no-room : b ≡ false → Gives (settle (documentWalk w m) out ledger) (refused 15 0) out ledger

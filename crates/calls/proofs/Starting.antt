@@ -1,4 +1,4 @@
--- What Convert and Edit begin with: `stand_at` may be called, the pass that stands before block k of a document is given all blocks that
+-- What Convert and the changes begin with: `stand_at` may be called, the pass that stands before block k of a document is given all blocks that
 -- are left (`blocks-begin`), and its walk is that of the document from block k on (`begins-as`).
 use mathlib.Core.Path.{_≡_, ap, _∙_}
 use mathlib.Core.Bool.{Bool}
@@ -66,6 +66,9 @@ module _ {rules index rows text : List ℕ} {n : ℕ} (w : Document rules index 
           few = w .most;
         }
 
+    pub begins-carry : carryOf (from .walked .converter) ≡ d
+    begins-carry = ap carryOf (st .went .gives) ∙ car .carry
+
     pub begins-as :
         (low : at ≤ cap) (h : k ≤ n) (edits : Bool) (ds : List Carry)
         → walkBy (converterOf (blocks-begin low h .given)) edits (carryOf (from .walked .converter)) (rowNo from) (listed (st .left)) ds
@@ -73,5 +76,4 @@ module _ {rules index rows text : List ℕ} {n : ℕ} (w : Document rules index 
     begins-as low h edits ds =
         let e = st .went .gives in
         let mode : from .walked .converter .mode ≡ m = ap (λ x. x .mode) e ∙ car .mode in
-        let carry : carryOf (from .walked .converter) ≡ d = ap carryOf e ∙ car .carry in
-        λ i. walkBy (blocksIn (mode i) (w .rs)) edits (carry i) (st .row i) (st .are i) ds
+        λ i. walkBy (blocksIn (mode i) (w .rs)) edits (begins-carry i) (st .row i) (st .are i) ds

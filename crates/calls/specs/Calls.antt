@@ -1,11 +1,12 @@
--- What Convert and Edit answer, and what their parts are given and promise.
+-- What Convert and the changes of one block answer, and what their parts are given and promise.
 use mathlib.Core.Path.{_≡_}
-use mathlib.Core.Bool.{true}
+use mathlib.Core.Bool.{true, _&&_, cond}
 use mathlib.Core.Option.{Option}
 use mathlib.Core.Option.Option.{none as nothing, some}
-use mathlib.Core.List.{List}
-use Prim.Native.Nat.{ℕ, _+_, _*_, _-_, _≤_, min}
+use mathlib.Core.List.{List, [], _∷_}
+use Prim.Native.Nat.{ℕ, suc, _+_, _*_, _-_, _≤_, _<_, min}
 use lib.ListN.{length, take, drop}
+use lib.Dec.{ltb}
 use Rattle.text.specs.Numbers.{Bytes}
 use Rattle.text.specs.Writing.{cap}
 use Rattle.text.specs.Trailer.{fileMost}
@@ -21,15 +22,17 @@ use Rattle.mitex_meaning.specs.State.{newOf, carryOf, Carried}
 use Rattle.mitex_meaning.specs.Conversion.{startCarry}
 use Rattle.mitex_meaning.specs.declared.LaTeXMode.{LaTeXMode}
 use Rattle.mitex_meaning.specs.declared.Converter.{Converter}
-use Rattle.ledger.specs.Ledger.{rowSize, decodeRows, encodeRows, fits, Piece, written, rowsFrom}
-use Rattle.edit_meaning.specs.Walk.{walk}
+use Rattle.ledger.specs.Ledger.{rowSize, decodeRows, encodeRows, fits, sameCarry, Piece, written, rowsFrom}
+use Rattle.edit_meaning.specs.Walk.{walk, walkUntil}
+use Rattle.edit_meaning.specs.Walk.Walk.{pieces}
 use Rattle.edit_meaning.specs.Walk.CheckedFile.{bad, good}
-use Rattle.edit_meaning.specs.Edit.{Answer, settle, endBefore, carryBefore, textAfter, ledgerAfter, write, editChecked}
+use Rattle.edit_meaning.specs.Edit.{Answer, settle, endBefore, carryBefore}
 use Rattle.edit_meaning.specs.Edit.Answer.{refused, converted, edited}
 use Rattle.edit_meaning.specs.Calls.{Gives}
+use Rattle.edit_meaning.specs.Changes.{Kind, Stretch, textOver, ledgerOver, frontOver, exchange, changeChecked}
+use Rattle.edit_meaning.specs.Changes.Kind.{replace, putIn, takeOut}
 use Rattle.manuscript.specs.Manuscript.{modeOf, listed, manuscript, blocksIn}
-use Rattle.passes.specs.Passes.{BlocksGiven, Pieced, converterOf, WrotePieces}
-use Rattle.passes.specs.Passes.{FirstPieces}
+use Rattle.passes.specs.Passes.{BlocksGiven, BlocksUpTo, Pieced, FirstPieces, rowNo, converterOf, WrotePieces, carriesOn, keptBlock, Came}
 use Rattle.passes.specs.declared.Standing.{Standing}
 use Rattle.calls.specs.declared.Converted.{Converted}
 use Rattle.calls.specs.declared.Converted.the-variants.{Refused as NotConverted, Done as WasConverted}
@@ -37,6 +40,8 @@ use Rattle.calls.specs.declared.Edited.{Edited}
 use Rattle.calls.specs.declared.Edited.the-variants.{Refused as NotEdited, Done as WasEdited}
 use Rattle.calls.specs.declared.Opened.{Opened}
 use Rattle.calls.specs.declared.Opened.the-variants.{Shut, Open}
+use Rattle.calls.specs.declared.Way.{Way}
+use Rattle.calls.specs.declared.Way.the-variants.{Replace, PutIn, TakeOut}
 
 -- ---- answers
 
@@ -114,7 +119,12 @@ ConvertsBlocks rules index rows text m n out ledger r out′ ledger′ =
     (w : Document rules index rows text n)
     → Gives (settle (walk (blocksIn m (w .rs)) startCarry 1 (listed (w .blocks))) out ledger) (answerOfConvert r) out′ ledger′
 
--- ---- Edit
+-- ---- a change of one block
+
+abbrev pub kindBy : Way → ℕ → Kind
+kindBy Replace k = replace k
+kindBy PutIn k = putIn k
+kindBy TakeOut k = takeOut k
 
 -- where a block begins, and the converter that it begins with, in a ledger of n rows or more
 abbrev pub EndsBefore : (ledger : List ℕ) (k : ℕ) (r : ℕ) → Type 0
@@ -123,42 +133,71 @@ EndsBefore ledger k r = (n : ℕ) → k ≤ n → r ≡ endBefore k (decodeRows 
 abbrev pub CarriesBefore : (ledger : List ℕ) (k : ℕ) (m : LaTeXMode) (r : Converter) → Type 0
 CarriesBefore ledger k m r = (n : ℕ) → k ≤ n → Carried (newOf m) (carryBefore k (decodeRows n ledger)) r
 
--- the blocks from a standing on were measured up to another: their pieces, and a ledger of n rows that fits the kept text
-pub record Measured (rules index rows text : List ℕ) (n kept : ℕ) (from m : Standing) (out ledger : List ℕ) : Type 0 where
+-- The blocks from a standing on were measured up to another, of n blocks where there were `was`: their pieces, and a ledger of the kept
+-- blocks that fits the kept text.
+pub record Measured (rules index rows text : List ℕ) (was n kept : ℕ) (from m : Standing) (out ledger : List ℕ) : Type 0 where
   pub given : BlocksGiven rules index rows text from
   pub qs : List Piece
   pub are : FirstPieces (converterOf given) (carryOf (from .walked .converter)) (listed (given .blocks)) qs
   pub many : m .block ≡ from .block + length qs
   pub end : m .walked .at ≡ min cap (from .walked .at + length (written qs))
-  pub begins : from .walked .at ≡ endBefore (from .block) (decodeRows n ledger)
+  pub begins : from .walked .at ≡ endBefore (from .block) (decodeRows was ledger)
   pub within : m .block ≤ n
+  pub near : n ≤ m .block + was
+  pub later : from .block ≤ keptBlock (m .block) n was
   pub most : n ≤ blocksMost
-  pub fitting : fits n kept ledger ≡ true
+  pub old-most : was ≤ blocksMost + 1
+  pub fitting : fits was kept ledger ≡ true
   pub inside : kept ≤ length out
 
 -- where the kept text of the blocks measured ends
-abbrev pub oldEnd : ℕ → Standing → List ℕ → ℕ
-oldEnd n m ledger = endBefore (m .block) (decodeRows n ledger)
+abbrev pub oldEnd : ℕ → ℕ → Standing → List ℕ → ℕ
+oldEnd was n m ledger = endBefore (keptBlock (m .block) n was) (decodeRows was ledger)
 
--- both buffers overwritten, where the new text has room
-pub record Overwrote (n kept : ℕ) (from m : Standing) (qs : List Piece) (out ledger out′ ledger′ : List ℕ) : Type 0 where
+-- both buffers have room: q is the first kept block after those measured, `old` where it begins
+pub record Roomy (was n kept : ℕ) (m : Standing) (q old : ℕ) (out ledger : List ℕ) : Type 0 where
+  pub starts : q ≡ keptBlock (m .block) n was
+  pub ends : old ≡ oldEnd was n m ledger
+  pub text : m .walked .at + (kept - old) ≤ length out
+  pub small : m .walked .at + (kept - old) < cap
+  pub rows : rowSize * n ≤ length ledger
+
+-- the blocks measured in the place of the kept ones
+abbrev pub stretchOf : ℕ → ℕ → Standing → Standing → List Piece → Stretch
+stretchOf was n from m qs = record { block = from .block; gone = keptBlock (m .block) n was - from .block; come = qs }
+
+-- both buffers overwritten, where they have room
+pub record Overwrote (was n kept : ℕ) (from m : Standing) (qs : List Piece) (out ledger out′ ledger′ : List ℕ) : Type 0 where
   pub text :
       out′
-      ≡ textAfter (from .walked .at) (oldEnd n m ledger) kept (m .walked .at + (kept - oldEnd n m ledger)) (written qs) out
-  pub rows : ledger′ ≡ ledgerAfter n (from .block) (from .walked .at) (oldEnd n m ledger) (m .walked .at) qs ledger
+      ≡ frontOver (textOver kept (decodeRows was ledger) (stretchOf was n from m qs ∷ []) out) (m .walked .at + (kept - oldEnd was n m ledger))
+      kept out
+  pub rows :
+      ledger′
+      ≡ frontOver (ledgerOver was (decodeRows was ledger) (stretchOf was n from m qs ∷ []) ledger) (rowSize * n) (rowSize * was) ledger
 
-abbrev pub Overwrites : (rules index rows text : List ℕ) (n kept : ℕ) (from m : Standing) (out ledger out′ ledger′ : List ℕ) → Type 0
-Overwrites rules index rows text n kept from m out ledger out′ ledger′ =
-    (w : Measured rules index rows text n kept from m out ledger) → Overwrote n kept from m (w .qs) out ledger out′ ledger′
+abbrev pub Overwrites : (rules index rows text : List ℕ) (was n kept : ℕ) (from m : Standing) (out ledger out′ ledger′ : List ℕ) → Type 0
+Overwrites rules index rows text was n kept from m out ledger out′ ledger′ =
+    (w : Measured rules index rows text was n kept from m out ledger) → Overwrote was n kept from m (w .qs) out ledger out′ ledger′
 
 abbrev pub Splices :
-    (rules index rows text : List ℕ) (n kept : ℕ) (from m : Standing) (out ledger : List ℕ) (r : Edited) (out′ ledger′ : List ℕ) → Type 0
-Splices rules index rows text n kept from m out ledger r out′ ledger′ =
-    (w : Measured rules index rows text n kept from m out ledger)
-    → Gives (write n (from .block) kept (decodeRows n ledger) (w .qs) out ledger) (answerOfEdit r) out′ ledger′
+    (rules index rows text : List ℕ) (was n kept : ℕ) (from m : Standing) (out ledger : List ℕ) (r : Edited) (out′ ledger′ : List ℕ) → Type 0
+Splices rules index rows text was n kept from m out ledger r out′ ledger′ =
+    (w : Measured rules index rows text was n kept from m out ledger)
+    → Gives (exchange was kept (decodeRows was ledger) (stretchOf was n from m (w .qs) ∷ []) out ledger) (answerOfEdit r) out′ ledger′
 
-abbrev pub EditsBlocks :
-    (rules index rows text : List ℕ) (m : LaTeXMode) (n k kept : ℕ) (out ledger : List ℕ) (r : Edited) (out′ ledger′ : List ℕ) → Type 0
-EditsBlocks rules index rows text m n k kept out ledger r out′ ledger′ =
+-- the measuring pass of a change: where a block was taken out, nothing is converted if the carry before it is that of its kept row
+abbrev pub MeasuresAgain : (rules index rows text : List ℕ) (from : Standing) (n was : ℕ) (kept : List ℕ) (r : Standing) → Type 0
+MeasuresAgain rules index rows text from n was kept r =
+    (w : BlocksUpTo rules index rows text from n)
+    → Came from r
+    (cond (ltb n was && sameCarry (carryOf (from .walked .converter)) (carryBefore (suc (from .block)) (decodeRows was kept))) (pieces [])
+    (walkUntil (converterOf (w .given)) (carryOf (from .walked .converter)) (rowNo from) (listed (w .given .blocks))
+    (carriesOn (keptBlock (suc (from .block)) n was) (decodeRows was kept))))
+
+abbrev pub ChangesBlocks :
+    (rules index rows text : List ℕ) (m : LaTeXMode) (n : ℕ) (way : Way) (k kept : ℕ) (out ledger : List ℕ) (r : Edited)
+    (out′ ledger′ : List ℕ) → Type 0
+ChangesBlocks rules index rows text m n way k kept out ledger r out′ ledger′ =
     (w : Document rules index rows text n)
-    → Gives (editChecked (blocksIn m (w .rs)) (good (listed (w .blocks))) k kept out ledger) (answerOfEdit r) out′ ledger′
+    → Gives (changeChecked (blocksIn m (w .rs)) (good (listed (w .blocks))) (kindBy way k) kept out ledger) (answerOfEdit r) out′ ledger′

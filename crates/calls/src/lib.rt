@@ -1,4 +1,5 @@
-// Convert and Edit, for any caller with any bytes: the files are checked, the blocks measured, and only then any lent byte is written.
+// Convert, and the three changes of one block, for any caller with any bytes: the files are checked, the blocks measured, and only then any
+// lent byte is written.
 use ledger::ROW_SIZE;
 use mitex_meaning::Converter;
 use mitex_meaning::LaTeXMode;
@@ -8,22 +9,29 @@ use tree_file::BLOCKS_MOST;
 use tree_file::Checked;
 ghost use mathlib.Core.Path.{_≡_};
 ghost use mathlib.Core.Bool.{true, _&&_};
-ghost use Prim.Native.Nat.{_+_, _*_, _-_, _≤_, _<_, min};
-ghost use lib.ListN.{length, replicate};
+ghost use Prim.Native.Nat.{ℕ, suc, _+_, _*_, _-_, _≤_, _<_, min};
+ghost use lib.ListN.{length, take, drop, replicate};
 ghost use lib.Seq.{sets};
-ghost use lib.Dec.{leb};
+ghost use lib.Dec.{leb, ltb};
 ghost use Rattle.text.specs.Writing.{cap};
 ghost use Rattle.mitex_spec.specs.RuleFile.{rulesOf};
 ghost use Rattle.mitex_spec.specs.Index.{indexSize};
+ghost use Rattle.tree_file.specs.Layout.{blocksMost};
 ghost use Rattle.tree_file.specs.Check.{checkTree, checkedAnswer};
-ghost use Rattle.ledger.specs.Ledger.{rowSize, HasRow, RowFits};
-ghost use Rattle.edit_meaning.specs.Edit.{textMost, roomForText, editFits};
+ghost use Rattle.mitex_meaning.specs.Outcome.{labelMost};
+ghost use Rattle.mitex_meaning.specs.State.{carryOf};
+ghost use Rattle.ledger.specs.Ledger.{rowSize, HasRow, RowFits, decodeRows, sameCarry};
+ghost use Rattle.edit_meaning.specs.Edit.{textMost, roomForText, carryBefore};
 ghost use Rattle.edit_meaning.specs.Run.{sizeAfter};
-ghost use Rattle.edit_meaning.specs.Calls.{Converts, Edits, Runs, Demanded};
+ghost use Rattle.edit_meaning.specs.Calls.{Converts, Edits};
+ghost use Rattle.edit_meaning.specs.Changes.{namedThere, oldCount, changeFits};
+ghost use Rattle.edit_meaning.specs.Changes.Kind.{putIn, takeOut};
+ghost use Rattle.edit_meaning.specs.ChangeCalls.{Alters, RunsChanges, DemandedChanges};
+ghost use Rattle.passes.specs.Passes.{BlocksUpTo};
 ghost use Rattle.manuscript.specs.Manuscript.{modeOf, manuscript};
 ghost use Rattle.calls.specs.Calls.{answerOfConvert, answerOfEdit, openTree, opened, CallBegins, blockRows, Document, Draft};
-ghost use Rattle.calls.specs.Calls.{Delivers, ConvertsBlocks, EndsBefore, CarriesBefore, Measured, oldEnd, Overwrites, Splices, EditsBlocks};
-ghost use Rattle.calls.specs.Three.{threeEdits, threeAnswers};
+ghost use Rattle.calls.specs.Calls.{Delivers, ConvertsBlocks, kindBy, EndsBefore, CarriesBefore, Measured, Roomy, Overwrites, Splices, MeasuresAgain, ChangesBlocks};
+ghost use Rattle.calls.specs.Three.{threeChanges, threeAnswers};
 
 // A text buffer counts as at most so many bytes.
 const TEXT_MOST: usize = 4294967295;
@@ -57,7 +65,14 @@ pub enum Converted {
     Done { length: usize, blocks: usize },
 }
 
-// Edit's answer: a refusal's number and row, or the new length, the growth, and the count of blocks converted again.
+// What a call does to one block.
+pub enum Way {
+    Replace,
+    PutIn,
+    TakeOut,
+}
+
+// The answer of a change: a refusal's number and row, or the new length, the growth, and the count of blocks converted again.
 pub enum Edited {
     Refused {
         number: u8,
@@ -70,7 +85,7 @@ pub enum Edited {
     },
 }
 
-// What three edits in a row answered, and the text's length after them.
+// What three changes in a row answered, and the text's length after them.
 pub struct Three {
     pub first: Edited,
     pub second: Edited,
@@ -139,7 +154,7 @@ fn block_rows(tree: &[u8], start: usize) -> &[u8]
     &tree[from..end]
 }
 
-// ---- what Convert and Edit share
+// ---- what Convert and the changes share
 
 // The text buffer as far as it counts.
 fn text_room(out: &[u8]) -> usize
@@ -150,8 +165,6 @@ fn text_room(out: &[u8]) -> usize
     }
     out.len()
 }
-
-// ---- Convert
 
 // Whether the buffers have room for a text of so many bytes and a row for each of so many blocks.
 fn has_room(out: &[u8], ledger: &[u8], at: usize, blocks: usize) -> bool
@@ -165,6 +178,8 @@ fn has_room(out: &[u8], ledger: &[u8], at: usize, blocks: usize) -> bool
     }
     true
 }
+
+// ---- Convert
 
 // The draft's text and rows, where the draft is long enough for the text; else the blocks are converted once more.
 fn deliver<'a>(
@@ -387,7 +402,7 @@ pub fn convert_math<'a>(
     convert(1, rules, tree, text, ledger)
 }
 
-// ---- Edit
+// ---- a change of one block
 
 // Where block `k` begins, by the row before it.
 fn end_before(ledger: &[u8], k: usize) -> usize
@@ -411,17 +426,53 @@ fn carry_before(ledger: &[u8], k: usize, mode: LaTeXMode) -> Converter
     ledger::row_carry(ledger, k - 1, Converter::opening(mode))
 }
 
-// Refusal 6: whether the block exists, the kept text is in the buffer, and the ledger fits.
-fn edit_fits(blocks: usize, block: usize, kept: usize, text: &[u8], ledger: &[u8]) -> bool
-    ensures { λ r. ⌜ r ≡ editFits blocks block kept (now (text .entry)) (now (ledger .entry)) ⌝ }
+// How many blocks the document had before.
+fn old_count(way: Way, blocks: usize) -> usize
+    requires { ⌜ blocks ≤ blocksMost ⌝ }
+    ensures { λ r. ⌜ ((k : ℕ) → r ≡ oldCount (kindBy way k) blocks) ⌝ }
 {
-    if blocks <= block {
+    match way {
+        Way::Replace => blocks,
+        Way::PutIn => {
+            if blocks == 0 {
+                return 0;
+            }
+            blocks - 1
+        }
+        Way::TakeOut => blocks + 1,
+    }
+}
+
+// Whether the block to replace or to take out, or the position before which one is put in, is there.
+fn named_there(way: Way, blocks: usize, block: usize) -> bool
+    ensures { λ r. ⌜ r ≡ namedThere (kindBy way block) blocks ⌝ }
+{
+    match way {
+        Way::Replace => block < blocks,
+        Way::PutIn => block < blocks,
+        Way::TakeOut => block <= blocks,
+    }
+}
+
+// Refusal 6: whether what is named is there, the kept text is in the buffer, and the ledger fits the blocks that there were.
+fn change_fits(
+    way: Way,
+    blocks: usize,
+    block: usize,
+    kept: usize,
+    text: &[u8],
+    ledger: &[u8],
+) -> bool
+    requires { ⌜ blocks ≤ blocksMost ⌝ }
+    ensures { λ r. ⌜ r ≡ changeFits (kindBy way block) blocks kept (now (text .entry)) (now (ledger .entry)) ⌝ }
+{
+    if !named_there(way, blocks, block) {
         return false;
     }
     if text.len() < kept {
         return false;
     }
-    ledger::ledger_fits(ledger, blocks, kept)
+    ledger::ledger_fits(ledger, old_count(way, blocks), kept)
 }
 
 // Zeros from `from` up to `to`, where that is after it.
@@ -436,23 +487,39 @@ fn clear_between(out: &mut [u8], from: usize, to: usize)
     }
 }
 
-// The tail moved, the blocks that were measured written before it, zeros where the text shrank; then the rows after them moved.
+// The rows from `q` on up to `was`, moved to the place of row `to`.
+fn shift_rows(ledger: &mut [u8], q: usize, to: usize, was: usize)
+    requires { ⌜ (q ≤ was) × (rowSize * was ≤ length (now ledger)) × (rowSize * (to + (was - q)) ≤ length (now ledger)) ⌝ }
+    ensures { λ _. ⌜ now (ledger .exit) ≡ sets (now (ledger .entry)) (rowSize * to)
+        (take (rowSize * was - rowSize * q) (drop (rowSize * q) (now (ledger .entry)))) ⌝ }
+{
+    if q == to {
+        return;
+    }
+    let old = ROW_SIZE * q;
+    text::move_bytes(ledger, old, ROW_SIZE * to, ROW_SIZE * was - old);
+}
+
+// Both tails moved: the kept text from `old` on, and the kept rows from `q` on, which get their new lengths. The blocks that were measured
+// are written before them, and zeros where text or rows shrank.
 fn overwrite<'a>(
     rows: &[u8],
     text: &'a [u8],
     rules: &'a [u8],
     index: &[u32],
+    was: usize,
     blocks: usize,
     kept: usize,
     from: Standing,
     m: Standing,
+    q: usize,
     old: usize,
     out: &mut [u8],
     ledger: &mut [u8],
 )
-    requires { ⌜ Measured (now rules) (now index) (now rows) (now text) blocks kept from m (now out) (now ledger) ⌝ }
-    requires { ⌜ (old ≡ oldEnd blocks m (now ledger)) × (m .walked .at + (kept - old) ≤ length (now out)) × (m .walked .at + (kept - old) < cap) ⌝ }
-    ensures { λ _. ⌜ Overwrites (now (rules .entry)) (now (index .entry)) (now (rows .entry)) (now (text .entry)) blocks kept from m
+    requires { ⌜ Measured (now rules) (now index) (now rows) (now text) was blocks kept from m (now out) (now ledger) ⌝ }
+    requires { ⌜ Roomy was blocks kept m q old (now out) (now ledger) ⌝ }
+    ensures { λ _. ⌜ Overwrites (now (rules .entry)) (now (index .entry)) (now (rows .entry)) (now (text .entry)) was blocks kept from m
         (now (out .entry)) (now (ledger .entry)) (now (out .exit)) (now (ledger .exit)) ⌝ }
 {
     let walked = m.walked;
@@ -460,17 +527,21 @@ fn overwrite<'a>(
     let tail = kept - old;
     let to = m.block;
     text::move_bytes(out, old, at, tail);
+    ledger::move_rows(ledger, q, was, old, at);
+    shift_rows(ledger, q, to, was);
     passes::write_blocks(&mut out[..at], ledger, rows, text, rules, index, from, to);
     clear_between(out, at + tail, kept);
-    ledger::move_rows(ledger, to, blocks, old, at);
+    clear_between(ledger, ROW_SIZE * blocks, ROW_SIZE * was);
 }
 
-// The blocks that were measured, in the place of the kept ones, where there is room for the new text.
+// The blocks that were measured, in the place of the kept ones, where there is room for the new text and its rows. After both
+// as many kept blocks are left as new ones.
 fn splice<'a>(
     rows: &[u8],
     text: &'a [u8],
     rules: &'a [u8],
     index: &[u32],
+    was: usize,
     blocks: usize,
     kept: usize,
     from: Standing,
@@ -478,14 +549,15 @@ fn splice<'a>(
     out: &mut [u8],
     ledger: &mut [u8],
 ) -> Edited
-    requires { ⌜ Measured (now rules) (now index) (now rows) (now text) blocks kept from m (now out) (now ledger) ⌝ }
-    ensures { λ r. ⌜ Splices (now (rules .entry)) (now (index .entry)) (now (rows .entry)) (now (text .entry)) blocks kept from m
+    requires { ⌜ Measured (now rules) (now index) (now rows) (now text) was blocks kept from m (now out) (now ledger) ⌝ }
+    ensures { λ r. ⌜ Splices (now (rules .entry)) (now (index .entry)) (now (rows .entry)) (now (text .entry)) was blocks kept from m
         (now (out .entry)) (now (ledger .entry)) r (now (out .exit)) (now (ledger .exit)) ⌝ }
 {
-    let old = end_before(ledger, m.block);
+    let q = m.block + was - blocks;
+    let old = end_before(ledger, q);
     let walked = m.walked;
     let new = walked.at + (kept - old);
-    if text_room(out) < new {
+    if !has_room(out, ledger, new, blocks) {
         return Edited::Refused { number: 15, row: 0 };
     }
     overwrite(
@@ -493,10 +565,12 @@ fn splice<'a>(
         text,
         rules,
         index,
+        was,
         blocks,
         kept,
         from,
         m,
+        q,
         old,
         out,
         ledger,
@@ -510,29 +584,66 @@ fn splice<'a>(
     }
 }
 
-// The named block and those after it converted again, up to the first whose carry is that of its kept row.
-fn edit_blocks<'a>(
+// Whether nothing is to be converted again: a block was taken out, and the carry before it is that of its kept row.
+fn met_at_once(ledger: &[u8], from: Standing, blocks: usize, was: usize) -> bool
+    requires { ⌜ (blocks < was → (from .block < was) × RowFits (from .block) (now ledger)) ⌝ }
+    requires { ⌜ (from .walked .converter .«label_len» ≤ labelMost) × (from .block ≤ blocksMost) ⌝ }
+    ensures { λ r. ⌜ r ≡ ltb blocks was && sameCarry (carryOf (from .walked .converter))
+        (carryBefore (suc (from .block)) (decodeRows was (now (ledger .entry)))) ⌝ }
+{
+    if was <= blocks {
+        return false;
+    }
+    passes::met(ledger, from.block + 1, from)
+}
+
+// The blocks to convert again, measured.
+fn measure_again<'a>(
+    rows: &[u8],
+    text: &'a [u8],
+    rules: &'a [u8],
+    index: &[u32],
+    ledger: &[u8],
+    from: Standing,
+    blocks: usize,
+    was: usize,
+) -> Standing
+    requires { ⌜ BlocksUpTo (now rules) (now index) (now rows) (now text) from blocks ⌝ }
+    requires { ⌜ (blocks ≤ from .block + 1 + was) × (was ≤ blocks + 1) × ((i : ℕ) → i < was → RowFits i (now ledger)) ⌝ }
+    ensures { λ r. ⌜ MeasuresAgain (now (rules .entry)) (now (index .entry)) (now (rows .entry)) (now (text .entry)) from blocks was
+        (now (ledger .entry)) r ⌝ }
+{
+    if met_at_once(ledger, from, blocks, was) {
+        return from;
+    }
+    passes::measure(rows, text, rules, index, ledger, from, blocks, was)
+}
+
+// One block changed, and those after it converted again up to the first after which the carry is the kept one.
+fn change_blocks<'a>(
     rows: &[u8],
     text: &'a [u8],
     rules: &'a [u8],
     index: &[u32],
     mode: LaTeXMode,
     blocks: usize,
+    way: Way,
     block: usize,
     kept: usize,
     out: &mut [u8],
     ledger: &mut [u8],
 ) -> Edited
     requires { ⌜ Document (now rules) (now index) (now rows) (now text) blocks ⌝ }
-    ensures { λ r. ⌜ EditsBlocks (now (rules .entry)) (now (index .entry)) (now (rows .entry))
-        (now (text .entry)) mode blocks block kept (now (out .entry)) (now (ledger .entry)) r (now (out .exit)) (now (ledger .exit)) ⌝ }
+    ensures { λ r. ⌜ ChangesBlocks (now (rules .entry)) (now (index .entry)) (now (rows .entry))
+        (now (text .entry)) mode blocks way block kept (now (out .entry)) (now (ledger .entry)) r (now (out .exit)) (now (ledger .exit)) ⌝ }
 {
-    if !edit_fits(blocks, block, kept, out, ledger) {
+    if !change_fits(way, blocks, block, kept, out, ledger) {
         return Edited::Refused { number: 6, row: 0 };
     }
+    let was = old_count(way, blocks);
     let at = end_before(ledger, block);
     let from = passes::stand_at(rows, block, at, carry_before(ledger, block, mode));
-    let m = passes::measure(rows, text, rules, index, ledger, from, blocks);
+    let m = measure_again(rows, text, rules, index, ledger, from, blocks, was);
     let walked = m.walked;
     if walked.refusal != 0 {
         return Edited::Refused {
@@ -540,10 +651,59 @@ fn edit_blocks<'a>(
             row: walked.row,
         };
     }
-    splice(rows, text, rules, index, blocks, kept, from, m, out, ledger)
+    splice(
+        rows,
+        text,
+        rules,
+        index,
+        was,
+        blocks,
+        kept,
+        from,
+        m,
+        out,
+        ledger,
+    )
 }
 
-// An edit of block `block`: `tree` is the new tree file, `kept` the text's length before; text and ledger are those that were kept.
+// A call that changes one block: `tree` is the new tree file, `kept` the text's length before; text and ledger are those that were kept.
+fn change<'a>(
+    mode: u8,
+    rules: &'a [u8],
+    tree: &'a [u8],
+    way: Way,
+    block: usize,
+    kept: usize,
+    text: &mut [u8],
+    ledger: &mut [u8],
+) -> Edited
+    ensures { λ r. ⌜ Alters (manuscript mode (now (rules .entry))) (now (tree .entry)) (kindBy way block) kept (now (text .entry))
+        (now (ledger .entry)) (answerOfEdit r) (now (text .exit)) (now (ledger .exit)) ⌝ }
+{
+    let mut index = [0u32; INDEX_SIZE];
+    match open(mode, rules, tree, &mut index) {
+        Opened::Shut { number, row } => Edited::Refused { number, row },
+        Opened::Open {
+            mode: m,
+            start,
+            blocks,
+        } => change_blocks(
+            block_rows(tree, start),
+            &tree[..start],
+            rules,
+            &index,
+            m,
+            blocks,
+            way,
+            block,
+            kept,
+            text,
+            ledger,
+        ),
+    }
+}
+
+// An edit: block `block` is replaced by that of the new tree file.
 pub fn edit<'a>(
     mode: u8,
     rules: &'a [u8],
@@ -556,31 +716,44 @@ pub fn edit<'a>(
     ensures { λ r. ⌜ Edits (manuscript mode (now (rules .entry))) (now (tree .entry)) block kept (now (text .entry))
         (now (ledger .entry)) (answerOfEdit r) (now (text .exit)) (now (ledger .exit)) ⌝ }
 {
-    let mut index = [0u32; INDEX_SIZE];
-    match open(mode, rules, tree, &mut index) {
-        Opened::Shut { number, row } => Edited::Refused { number, row },
-        Opened::Open {
-            mode: m,
-            start,
-            blocks,
-        } => edit_blocks(
-            block_rows(tree, start),
-            &tree[..start],
-            rules,
-            &index,
-            m,
-            blocks,
-            block,
-            kept,
-            text,
-            ledger,
-        ),
-    }
+    change(mode, rules, tree, Way::Replace, block, kept, text, ledger)
 }
 
-// ---- three edits in a row
+// An insertion: the new tree file has one block more, which stands at `position`.
+pub fn insert<'a>(
+    mode: u8,
+    rules: &'a [u8],
+    tree: &'a [u8],
+    position: usize,
+    kept: usize,
+    text: &mut [u8],
+    ledger: &mut [u8],
+) -> Edited
+    ensures { λ r. ⌜ Alters (manuscript mode (now (rules .entry))) (now (tree .entry)) (putIn position) kept (now (text .entry))
+        (now (ledger .entry)) (answerOfEdit r) (now (text .exit)) (now (ledger .exit)) ⌝ }
+{
+    change(mode, rules, tree, Way::PutIn, position, kept, text, ledger)
+}
 
-// The text's length after an edit: a refused one leaves it as it was.
+// A removal: the new tree file has one block less, that which was block `block`.
+pub fn remove<'a>(
+    mode: u8,
+    rules: &'a [u8],
+    tree: &'a [u8],
+    block: usize,
+    kept: usize,
+    text: &mut [u8],
+    ledger: &mut [u8],
+) -> Edited
+    ensures { λ r. ⌜ Alters (manuscript mode (now (rules .entry))) (now (tree .entry)) (takeOut block) kept (now (text .entry))
+        (now (ledger .entry)) (answerOfEdit r) (now (text .exit)) (now (ledger .exit)) ⌝ }
+{
+    change(mode, rules, tree, Way::TakeOut, block, kept, text, ledger)
+}
+
+// ---- three calls in a row
+
+// The text's length after a change: a refused one leaves it as it was.
 fn length_after(r: Edited, kept: usize) -> usize
     ensures { λ n. ⌜ n ≡ sizeAfter (answerOfEdit r) kept ⌝ }
 {
@@ -594,8 +767,9 @@ fn length_after(r: Edited, kept: usize) -> usize
     }
 }
 
-// Three edits, each with what the one before left: a small example of what a caller does. The calls are a run, so demand 3 holds of them.
-pub fn three_edits<'a>(
+// An edit, an insertion and a removal, each with what the call before left: a small example of what a caller does. The calls are a run, so
+// demand 3 holds of them.
+pub fn three_changes<'a>(
     mode: u8,
     rules: &'a [u8],
     one: &'a [u8],
@@ -608,18 +782,18 @@ pub fn three_edits<'a>(
     text: &mut [u8],
     ledger: &mut [u8],
 ) -> Three
-    ensures run { λ r. ⌜ Runs (manuscript mode (now (rules .entry))) kept (now (text .entry)) (now (ledger .entry))
-        (threeEdits (now (one .entry)) i (now (two .entry)) j (now (three .entry)) k)
+    ensures run { λ r. ⌜ RunsChanges (manuscript mode (now (rules .entry))) kept (now (text .entry)) (now (ledger .entry))
+        (threeChanges (now (one .entry)) i (now (two .entry)) j (now (three .entry)) k)
         (threeAnswers r) (r .kept) (now (text .exit)) (now (ledger .exit)) ⌝ }
-    ensures demand { λ r. ⌜ Demanded (manuscript mode (now (rules .entry))) kept (now (text .entry)) (now (ledger .entry))
-        (threeEdits (now (one .entry)) i (now (two .entry)) j (now (three .entry)) k)
+    ensures demand { λ r. ⌜ DemandedChanges (manuscript mode (now (rules .entry))) kept (now (text .entry)) (now (ledger .entry))
+        (threeChanges (now (one .entry)) i (now (two .entry)) j (now (three .entry)) k)
         (threeAnswers r) (r .kept) (now (text .exit)) (now (ledger .exit)) ⌝ }
 {
     let first = edit(mode, rules, one, i, kept, text, ledger);
     let after_one = length_after(first, kept);
-    let second = edit(mode, rules, two, j, after_one, text, ledger);
+    let second = insert(mode, rules, two, j, after_one, text, ledger);
     let after_two = length_after(second, after_one);
-    let third = edit(mode, rules, three, k, after_two, text, ledger);
+    let third = remove(mode, rules, three, k, after_two, text, ledger);
     let after_three = length_after(third, after_two);
     Three {
         first,

@@ -1,5 +1,7 @@
 -- What a case holds of the input: its parts lie in it, and its buffers have room.
-use Prim.Native.Nat.{ℕ, _≤_}
+use Prim.Native.Nat.{ℕ, _+_, _*_, _≤_}
+use Rattle.tree_file.specs.Layout.{blocksMost}
+use Rattle.ledger.specs.Ledger.{rowSize}
 use Rattle.cases.specs.declared.InputPart.{InputPart}
 use Rattle.cases.specs.declared.Case.{Case}
 
@@ -9,7 +11,7 @@ Within n p = (p .from ≤ p .to) × (p .to ≤ n)
 
 -- how long a buffer can be
 abbrev pub bufferMost : ℕ
-bufferMost = 65536
+bufferMost = rowSize * (blocksMost + 1)
 
 abbrev pub CaseHeld : ℕ → Case → Type 0
 CaseHeld n c =

@@ -1,4 +1,4 @@
-// Replays cases through Convert and Edit and compares every answer and every byte of both buffers. Standard input is what
+// Replays cases through Convert and the changes and compares every answer and every byte of both buffers. Standard input is what
 // tools/pack_cases.py packs: cases, each a length (4 bytes, the lowest first) and so many bytes, which are parts: each a tag (1 byte),
 // a length (4 bytes) and so many bytes.
 ghost use mathlib.Core.Path.{_≡_};
@@ -8,8 +8,10 @@ ghost use Rattle.io.specs.Counts.{Counts};
 ghost use Rattle.cases.specs.Held.{bufferMost, Within, CaseHeld};
 use calls::Converted;
 use calls::Edited;
+use ledger::ROW_SIZE;
 use libc::STDIN_FILENO;
 use libc::STDOUT_FILENO;
+use tree_file::BLOCKS_MOST;
 
 // ---- the tags
 
@@ -34,15 +36,23 @@ const TEXT_DUE: u8 = 7;
 
 const LEDGER_DUE: u8 = 8;
 
-// A call and its answer, ten numbers of 4 bytes: 0 convert or 1 edit, mode, block, kept length, refusal, row or length, growth
-// (the first of two numbers less the second), count, and how many bytes of the ledger's front the case does not name.
+// A call and its answer, numbers of 4 bytes: 0 convert, 1 edit, 2 insertion or 3 removal; mode; block or position, and kept length (8 bytes
+// each); refusal, row or length, growth (the first of two numbers less the second), count, and how many bytes of the ledger's front the
+// case does not name.
 const CALL: u8 = 9;
 
-const CALL_SIZE: usize = 40;
+const CALL_SIZE: usize = 48;
+
+const CONVERT: usize = 0;
+
+const EDIT: usize = 1;
+
+const INSERT: usize = 2;
 
 // ---- what is held
 
-const BUFFER: usize = 65536;
+// How long a buffer can be: a ledger of one row more than a document has blocks at most, which a removal may read.
+const BUFFER: usize = ROW_SIZE * (BLOCKS_MOST + 1);
 
 // How many bytes a case has at most.
 const CASE_MOST: usize = 262144;
@@ -181,19 +191,47 @@ fn growth_at(input: &[u8], at: usize) -> i64
 
 // The answer that is due.
 fn due(input: &[u8], at: usize) -> Reply
-    requires { ⌜ at + 40 ≤ length (now input) ⌝ }
+    requires { ⌜ at + 48 ≤ length (now input) ⌝ }
 {
     Reply {
-        number: text::read_u32(input, at + 16),
-        first: text::read_u32(input, at + 20),
-        growth: growth_at(input, at + 24),
-        count: text::read_u32(input, at + 32),
+        number: text::read_u32(input, at + 24),
+        first: text::read_u32(input, at + 28),
+        growth: growth_at(input, at + 32),
+        count: text::read_u32(input, at + 40),
     }
+}
+
+// A number of 8 bytes.
+fn read_u64(input: &[u8], at: usize) -> usize
+    requires { ⌜ at + 8 ≤ length (now input) ⌝ }
+{
+    let high = text::read_u32(input, at + 4);
+    text::read_u32(input, at) + 4294967296 * high
+}
+
+// A change of one block, by its number among the calls.
+fn changed<'a>(
+    kind: usize,
+    mode: u8,
+    rules: &'a [u8],
+    tree: &'a [u8],
+    block: usize,
+    kept: usize,
+    text: &mut [u8],
+    ledger: &mut [u8],
+) -> Reply {
+    if kind == EDIT {
+        return edited(calls::edit(mode, rules, tree, block, kept, text, ledger));
+    }
+    if kind == INSERT {
+        return edited(calls::insert(mode, rules, tree, block, kept, text, ledger));
+    }
+    edited(calls::remove(mode, rules, tree, block, kept, text, ledger))
 }
 
 // Makes a call on a case's files and buffers.
 fn ask(input: &[u8], at: usize, c: Case, text: &mut [u8], ledger: &mut [u8]) -> Reply
-    requires { ⌜ (at + 40 ≤ length (now input)) × CaseHeld (length (now input)) c ⌝ }
+    requires { ⌜ (at + 48 ≤ length (now input)) × CaseHeld (length (now input)) c ⌝ }
     requires { ⌜ (length (now text) ≡ bufferMost) × (length (now ledger) ≡ bufferMost) ⌝ }
 {
     let r = c.rules;
@@ -207,7 +245,8 @@ fn ask(input: &[u8], at: usize, c: Case, text: &mut [u8], ledger: &mut [u8]) -> 
     let rules = &input[r_from..r_to];
     let tree = &input[t_from..t_to];
     let mode = input[at + 4];
-    if text::read_u32(input, at) == 0 {
+    let kind = text::read_u32(input, at);
+    if kind == CONVERT {
         return converted(calls::convert(
             mode,
             rules,
@@ -216,17 +255,16 @@ fn ask(input: &[u8], at: usize, c: Case, text: &mut [u8], ledger: &mut [u8]) -> 
             &mut ledger[..ledger_size],
         ));
     }
-    let block = text::read_u32(input, at + 8);
-    let kept = text::read_u32(input, at + 12);
-    edited(calls::edit(
+    changed(
+        kind,
         mode,
         rules,
         tree,
-        block,
-        kept,
+        read_u64(input, at + 8),
+        read_u64(input, at + 16),
         &mut text[..text_size],
         &mut ledger[..ledger_size],
-    ))
+    )
 }
 
 // Whether a call answers as is due and leaves both buffers as is due.
@@ -239,10 +277,10 @@ fn passes(
     text_due: &[u8; BUFFER],
     ledger_due: &mut [u8; BUFFER],
 ) -> bool
-    requires { ⌜ (at + 40 ≤ length (now input)) × CaseHeld (length (now input)) c ⌝ }
+    requires { ⌜ (at + 48 ≤ length (now input)) × CaseHeld (length (now input)) c ⌝ }
 {
     let a = ask(input, at, c, text, ledger);
-    take_over(ledger, ledger_due, text::read_u32(input, at + 36));
+    take_over(ledger, ledger_due, text::read_u32(input, at + 44));
     if !same_reply(a, due(input, at)) {
         return false;
     }
@@ -389,10 +427,10 @@ fn take_part(
 
 // All parts of a case in turn.
 fn replay(input: &[u8]) -> Case {
-    let mut text = io::large_buffer();
-    let mut ledger = io::large_buffer();
-    let mut text_due = io::large_buffer();
-    let mut ledger_due = io::large_buffer();
+    let mut text = [0u8; BUFFER];
+    let mut ledger = [0u8; BUFFER];
+    let mut text_due = [0u8; BUFFER];
+    let mut ledger_due = [0u8; BUFFER];
     let nothing = InputPart { from: 0, to: 0 };
     let mut c = Case {
         name: nothing,

@@ -1,18 +1,18 @@
--- What the code does byte by byte is what the definitions say. An edit reads rows at their places (`endBefore-at`, `carryBefore-at`,
--- `rowCarries-at`). It moves the kept tail, writes the new text before it and clears what is left (`textAfter-stored`); it writes the
--- rows of the blocks converted again and moves those after (`ledgerAfter-stored`).
-use mathlib.Core.Path.{_≡_, refl, sym, ap, ap₂, subst, _∙_}
+-- What the code does byte by byte is what the definitions say. A change reads rows at their places (`endBefore-at`, `carryBefore-at`,
+-- `rowCarries-at`). It moves the kept tail, writes the new text before it and clears what is left (`textAfter-stored`, `textAfter-over`); so
+-- it does with the rows, when those after have got their lengths (`over-stored`).
+use mathlib.Core.Path.{_≡_, refl, sym, ap, ap₂, _∙_}
 use mathlib.Core.List.{List, _∷_, _++_, append-assoc}
-use Prim.Native.Nat.{ℕ, zero, suc, _+_, _*_, _-_, _≤_, _<_, max}
+use Prim.Native.Nat.{ℕ, zero, suc, _+_, _-_, _≤_, _<_, max}
 use native.Mathlib.Omega.{arith}
 use lib.ListN.{length, take, drop, getD, replicate, length-append, length-drop, length-replicate}
 use lib.Seq.{sets, sets-eq, length-sets, take-at, drop-at, take-take, drop-drop, drop-append-add, length-take-le, take-append-le}
-use Rattle.ledger.specs.Ledger.{rowSize, rowAt, encodeRows, decodeRow, decodeRows, moveRows, Piece, rowsFrom}
-use Rattle.ledger.proofs.Rows.{AllEncodable, encodeRows-length, rowsFrom-length}
+use Rattle.mitex_meaning.specs.Parts.{between}
+use Rattle.ledger.specs.Ledger.{rowSize, rowAt, decodeRow, decodeRows}
 use Rattle.ledger.proofs.Fitting.{row-later}
 use Rattle.ledger.proofs.Writing.{sets-front, sets-drop}
-use Rattle.ledger.proofs.Moving.{moveRows-length}
-use Rattle.edit_meaning.specs.Edit.{atFront, noRow, endBefore, carryBefore, rowCarries, textAfter, ledgerAfter}
+use Rattle.edit_meaning.specs.Edit.{atFront, noRow, endBefore, carryBefore, rowCarries, textAfter}
+use Rattle.edit_meaning.specs.Changes.{frontOver}
 
 -- ---- reading rows
 
@@ -100,49 +100,59 @@ module _ (from old kept : ℕ) (again text : List ℕ) (h₁ : from ≤ old) (h�
         ∙ ap (λ n. drop n text) m in
         sets-eq Z L new (omega (arith, lz, ll)) ∙ ap₂ (λ x y. x ++ Z ++ y) t d
 
-module _ (n k from old now : ℕ) (qs : List Piece) (l : List ℕ) (ok : AllEncodable (rowsFrom from qs)) (h : k + length qs ≤ n) (room : rowSize * n ≤ length l) where
-  abbrev fresh : List ℕ
-  fresh = encodeRows (rowsFrom from qs)
+-- the text so written is the front of the buffer written anew
+pub textAfter-over :
+    (from old kept new : ℕ) (again text : List ℕ)
+    → textAfter from old kept new again text ≡ frontOver (take from text ++ (again ++ between old kept text)) new kept text
+unfolding textAfter frontOver
+textAfter-over from old kept new again text =
+    ap (λ x. x ++ replicate (kept - new) 0 ++ drop (max kept new) text) (append-assoc (take from text) again (between old kept text))
 
-  abbrev stop : ℕ
-  stop = rowSize * (k + length qs)
+-- The same where what is moved was changed in its place before, as rows are that get other lengths.
+module _ (from old kept : ℕ) (again changed l : List ℕ) (h₁ : from ≤ old) (h₂ : old + length changed ≡ kept) (h₃ : kept ≤ length l) where
+  abbrev before : List ℕ
+  before = sets l old changed
 
-  abbrev later : List ℕ
-  later = moveRows (n - (k + length qs)) old now (drop stop l)
+  before-is : before ≡ take old l ++ (changed ++ drop kept l)
+  before-is =
+      sets-eq changed l old (omega arith)
+      ∙ append-assoc (take old l) changed (drop (old + length changed) l)
+      ∙ ap (λ n. take old l ++ (changed ++ drop n l)) h₂
 
-  fresh-length : rowSize * k + length fresh ≡ stop
-  fresh-length = omega (arith, encodeRows-length ok, rowsFrom-length from qs)
+  front-long : length (take old l) ≡ old
+  front-long = length-take-le old l (omega arith)
 
-  later-length : stop + length later ≡ rowSize * n
-  later-length =
-      omega (arith, moveRows-length (n - (k + length qs)) old now (drop stop l) (omega (arith, length-drop stop l)))
+  front-same : take from before ≡ take from l
+  front-same =
+      ap (take from) before-is
+      ∙ take-append-le from (take old l) (changed ++ drop kept l) (omega (arith, front-long))
+      ∙ take-take from old l h₁
 
-  rows-after : drop stop (sets l (rowSize * k) fresh) ≡ drop stop l
-  rows-after =
-      subst (λ i. drop i (sets l (rowSize * k) fresh) ≡ drop i l) fresh-length
-      (sets-drop fresh l (rowSize * k) (omega (arith, fresh-length)))
+  tail-is : between old kept before ≡ changed
+  tail-is =
+      let e : kept - old ≡ length changed = omega arith in
+      ap (take (kept - old)) (ap (drop old) before-is ∙ drop-at (take old l) (changed ++ drop kept l) old front-long)
+      ∙ take-at changed (drop kept l) (kept - old) (sym e)
 
-  pub ledgerAfter-stored :
-      sets (sets l (rowSize * k) fresh) stop (moveRows (n - (k + length qs)) old now (drop stop (sets l (rowSize * k) fresh)))
-      ≡ ledgerAfter n k from old now qs l
-  unfolding ledgerAfter
-  ledgerAfter-stored =
-      let L : List ℕ = sets l (rowSize * k) fresh in
-      let F : List ℕ = take (rowSize * k) l ++ fresh in
-      let lF : length F ≡ stop
-      = length-append (take (rowSize * k) l) fresh
-      ∙ ap (λ i. i + length fresh) (length-take-le (rowSize * k) l (omega arith))
-      ∙ fresh-length in
-      let e : L ≡ F ++ drop stop l
-      = sets-eq fresh l (rowSize * k) (omega (arith, fresh-length)) ∙ ap (λ i. F ++ drop i l) fresh-length in
-      let t : take stop L ≡ F = ap (take stop) e ∙ take-at F (drop stop l) stop lF in
-      let g : length F + length later ≡ stop + length later = ap (λ i. i + length later) lF in
-      let d : drop (stop + length later) L ≡ drop (rowSize * n) l
-      = ap (λ i. drop i L) (sym g)
-      ∙ ap (drop (length F + length later)) e
-      ∙ drop-append-add F (drop stop l) (length later)
-      ∙ drop-drop (length later) stop l
-      ∙ ap (λ i. drop i l) later-length in
-      ap (λ r. sets L stop (moveRows (n - (k + length qs)) old now r)) rows-after
-      ∙ sets-eq later L stop (omega (arith, later-length, length-sets l (rowSize * k) fresh))
-      ∙ ap₂ (λ x y. x ++ later ++ y) t d
+  rest-same : (n : ℕ) → kept ≤ n → drop n before ≡ drop n l
+  rest-same n h =
+      let e : old + length changed + (n - kept) ≡ n = omega arith in
+      ap (λ i. drop i before) (sym e)
+      ∙ sym (drop-drop (n - kept) (old + length changed) before)
+      ∙ ap (drop (n - kept)) (sets-drop changed l old (omega arith))
+      ∙ drop-drop (n - kept) (old + length changed) l
+      ∙ ap (λ i. drop i l) e
+
+  pub over-stored :
+      let now = from + length again in
+      let new = now + (kept - old) in
+      new ≤ length l
+      → sets (sets (sets before now (between old kept before)) from again) new (replicate (kept - new) 0)
+      ≡ frontOver (take from l ++ (again ++ changed)) new kept l
+  unfolding frontOver
+  over-stored room =
+      let new : ℕ = from + length again + (kept - old) in
+      let n = length-sets l old changed in
+      textAfter-stored from old kept again before h₁ (omega arith) (omega arith) (omega arith)
+      ∙ textAfter-over from old kept new again before
+      ∙ (λ i. (front-same i ++ (again ++ tail-is i)) ++ replicate (kept - new) 0 ++ rest-same (max kept new) (omega arith) i)

@@ -1,20 +1,26 @@
--- Where a refusal's number comes from: a check, a block, 6 of Edit, or 15. What holds of all these holds of the number of every refusal
--- (`convert-in`, `edit-in`).
+-- Where a refusal's number comes from: a check, a block, 6 of a change, or 15. What holds of all these holds of the number of every refusal
+-- (`convert-in`, `change-in`, and so `edit-in`).
 use mathlib.Core.Path.{_≡_, refl}
-use mathlib.Core.Bool.{Bool, true, false, cond}
+use mathlib.Core.Bool.{Bool, true, false, _&&_, cond}
 use mathlib.Core.List.{List, [], _∷_}
-use Prim.Native.Nat.{ℕ, _+_}
-use lib.ListN.{length}
+use Prim.Native.Nat.{ℕ, _+_, _*_, _-_}
+use lib.ListN.{length, drop}
+use lib.Dec.{leb}
 use Rattle.mitex_meaning.specs.Outcome.{Carry, Outcome}
 use Rattle.mitex_meaning.specs.Outcome.Outcome.{done, refused as declined}
 use Rattle.mitex_meaning.specs.Conversion.{startCarry}
-use Rattle.ledger.specs.Ledger.{Row, decodeRows, sameCarry, Piece}
+use Rattle.ledger.specs.Ledger.{Row, rowSize, decodeRows, sameCarry, Piece}
 use Rattle.edit_meaning.specs.Walk.{CheckedFile, BlockConverter, Walk, onto, next, nextUntil, walk, walkUntil}
 use Rattle.edit_meaning.specs.Walk.CheckedFile.{bad, good}
 use Rattle.edit_meaning.specs.Walk.Walk.{stopped, pieces}
 use Rattle.edit_meaning.specs.Edit.{Answer, Result, room, roomForText, settle, fromCheck, conversion, convertDocument}
-use Rattle.edit_meaning.specs.Edit.{editFits, write, writeOr, again, editChecked, edit}
+use Rattle.edit_meaning.specs.Edit.{rowCarries, again, edit}
 use Rattle.edit_meaning.specs.Numbers.{OfConvert, OfEdit}
+use Rattle.edit_meaning.specs.Changes.{Kind, oldCount, changeFits, comeCount, goneCount, Remade, stretch}
+use Rattle.edit_meaning.specs.Changes.{puttingIn, withoutFirst, takingOut, remake, textOver, exchange, exchangeOr, changeChecked, change}
+use Rattle.edit_meaning.specs.Changes.Kind.{replace, putIn, takeOut}
+use Rattle.edit_meaning.specs.Changes.Remade.{halted, remade}
+use Rattle.edit_meaning.proofs.Changes.{edit-change}
 
 either : (Q : Answer → Type 0) (b : Bool) (x y : Result) → Q (x .answer) → Q (y .answer) → Q ((cond b x y) .answer)
 either Q true x y h k = h
@@ -23,7 +29,7 @@ either Q false x y h k = k
 module _ (P : ℕ → Type 0) where
   -- ---- blocks one after the other
 
-  abbrev pub WalkIn : Walk → Type 0
+  abbrev WalkIn : Walk → Type 0
   WalkIn (stopped n i) = P n
   WalkIn (pieces ps) = Unit {0}
 
@@ -47,6 +53,14 @@ module _ (P : ℕ → Type 0) where
   until-in (declined n i) r d k h ih = h n i refl
   until-in (done c t) r d k h ih = onto-in _ (cond (sameCarry c d) (pieces []) (k c)) (stop-in (sameCarry c d) (k c) (ih c))
 
+  abbrev RemadeIn : Remade → Type 0
+  RemadeIn (halted n i) = P n
+  RemadeIn (remade ss) = Unit {0}
+
+  stretch-in : (k : Kind) (w : Walk) → WalkIn w → RemadeIn (stretch k w)
+  stretch-in k (stopped n i) h = h
+  stretch-in k (pieces qs) h = tt
+
   module _ (𝓒 : BlockConverter) (blocks : (c : Carry) (b : 𝓒 .Block) → OutcomeIn (𝓒 .convert c b)) where
     walk-in : (bs : List (𝓒 .Block)) (c : Carry) (r : ℕ) → WalkIn (walk 𝓒 c r bs)
     unfolding walk
@@ -62,7 +76,7 @@ module _ (P : ℕ → Type 0) where
         until-in (𝓒 .convert c b) r d (λ c′. walkUntil 𝓒 c′ (r + 𝓒 .rows b) bs ds) (blocks c b)
         (λ c′. walkUntil-in bs c′ (r + 𝓒 .rows b) ds)
 
-    -- ---- Convert and Edit
+    -- ---- Convert
 
     module _ (checks : (tree : List ℕ) (n i : ℕ) → 𝓒 .check tree ≡ bad n i → P n) (full : P 15) where
       settle-in : (w : Walk) (text ledger : List ℕ) → WalkIn w → OfConvert P ((settle w text ledger) .answer)
@@ -78,24 +92,42 @@ module _ (P : ℕ → Type 0) where
       unfolding convertDocument conversion
       convert-in tree text ledger = settle-in (conversion 𝓒 tree) text ledger (from-in (𝓒 .check tree) (checks tree))
 
-      write-in :
-          (n k kept : ℕ) (rows : List Row) (w : Walk) (text ledger : List ℕ) → WalkIn w
-          → OfEdit P ((writeOr n k kept rows w text ledger) .answer)
-      unfolding write
-      write-in n k kept rows (stopped m i) text ledger h = h
-      write-in n k kept rows (pieces qs) text ledger h = either (OfEdit P) (roomForText _ (length text)) _ _ tt full
+    -- ---- a change, so Edit too
 
-      module _ (six : P 6) where
-        checked-in :
-            (x : CheckedFile (𝓒 .Block)) → ((n i : ℕ) → x ≡ bad n i → P n) → (k kept : ℕ) (text ledger : List ℕ)
-            → OfEdit P ((editChecked 𝓒 x k kept text ledger) .answer)
-        unfolding again
-        checked-in (bad n i) h k kept text ledger = h n i refl
-        checked-in (good bs) h k kept text ledger =
-            let rows : List Row = decodeRows (length bs) ledger in
-            either (OfEdit P) (editFits (length bs) k kept text ledger) _ _
-            (write-in (length bs) k kept rows (again 𝓒 bs k rows) text ledger (walkUntil-in _ _ _ _)) six
+    module _ (bs : List (𝓒 .Block)) (rows : List Row) where
+      without-in : (c : Carry) (r : ℕ) (xs : List (𝓒 .Block)) (ds : List Carry) → WalkIn (withoutFirst 𝓒 bs rows c r xs ds)
+      without-in c r xs [] = tt
+      without-in c r xs (d ∷ ds) = stop-in (sameCarry c d) (walkUntil 𝓒 c r xs ds) (walkUntil-in xs c r ds)
 
-        pub edit-in : (tree : List ℕ) (k kept : ℕ) (text ledger : List ℕ) → OfEdit P ((edit 𝓒 tree k kept text ledger) .answer)
-        unfolding edit
-        edit-in tree k kept text ledger = checked-in (𝓒 .check tree) (checks tree) k kept text ledger
+      remake-in : (k : Kind) → RemadeIn (remake 𝓒 bs rows k)
+      unfolding remake again puttingIn takingOut
+      remake-in (replace k) = stretch-in (replace k) (again 𝓒 bs k rows) (walkUntil-in _ _ _ _)
+      remake-in (putIn k) = stretch-in (putIn k) (puttingIn 𝓒 bs rows k) (walkUntil-in _ _ _ _)
+      remake-in (takeOut k) = stretch-in (takeOut k) (takingOut 𝓒 bs rows k) (without-in _ _ _ (rowCarries (drop k rows)))
+
+    module _ (checks : (tree : List ℕ) (n i : ℕ) → 𝓒 .check tree ≡ bad n i → P n) (full : P 15) (six : P 6) where
+      exchange-in :
+          (n kept : ℕ) (rows : List Row) (x : Remade) (text ledger : List ℕ) → RemadeIn x
+          → OfEdit P ((exchangeOr n kept rows x text ledger) .answer)
+      unfolding exchange
+      exchange-in n kept rows (halted m i) text ledger h = h
+      exchange-in n kept rows (remade ss) text ledger h =
+          either (OfEdit P) (roomForText (length (textOver kept rows ss text)) (length text) && leb (rowSize * (n + comeCount ss - goneCount ss)) (length ledger)) _ _ tt full
+
+      checked-in :
+          (x : CheckedFile (𝓒 .Block)) → ((n i : ℕ) → x ≡ bad n i → P n) → (k : Kind) (kept : ℕ) (text ledger : List ℕ)
+          → OfEdit P ((changeChecked 𝓒 x k kept text ledger) .answer)
+      checked-in (bad n i) h k kept text ledger = h n i refl
+      checked-in (good bs) h k kept text ledger =
+          let n : ℕ = oldCount k (length bs) in
+          let rows : List Row = decodeRows n ledger in
+          either (OfEdit P) (changeFits k (length bs) kept text ledger) _ _
+          (exchange-in n kept rows (remake 𝓒 bs rows k) text ledger (remake-in bs rows k)) six
+
+      pub change-in : (tree : List ℕ) (k : Kind) (kept : ℕ) (text ledger : List ℕ) → OfEdit P ((change 𝓒 tree k kept text ledger) .answer)
+      unfolding change
+      change-in tree k kept text ledger = checked-in (𝓒 .check tree) (checks tree) k kept text ledger
+
+      pub edit-in : (tree : List ℕ) (k kept : ℕ) (text ledger : List ℕ) → OfEdit P ((edit 𝓒 tree k kept text ledger) .answer)
+      edit-in tree k kept text ledger =
+          rw (edit-change 𝓒 tree k kept text ledger) (change-in tree (replace k) kept text ledger)

@@ -1,17 +1,16 @@
--- A document that differs from a converted one in one block alone: converting again from that block, to the first block after which
--- the carry is the old one, and the old pieces from there on, are together its conversion (`walk-edited`). The reason: from the
--- same carry the same blocks give the same pieces.
-use mathlib.Core.Path.{_≡_, refl, sym, ap, subst, _∙_}
+-- Blocks converted again beside those of a document that was converted: to the first block after which the carry is the old one, and the
+-- old pieces from there on, are together their conversion (`resume`, `resume-rest`). The reason: from the same carry the same blocks give
+-- the same pieces.
+use mathlib.Core.Path.{_≡_, refl, sym, ap, _∙_}
 use mathlib.Core.Bool.{Bool, true, false, cond}
 use mathlib.Core.List.{List, [], _∷_, _++_}
-use Prim.Native.Nat.{ℕ, zero, suc, _+_, _-_, _≤_, _<_}
+use Prim.Native.Nat.{ℕ, zero, suc, _+_, _≤_, _<_}
 use native.Mathlib.Nat.{add-assoc, add-zero, not-suc-le-zero, le-of-suc-le-suc}
 use native.Mathlib.Omega.{arith}
-use lib.ListN.{length, take, drop, take-append-drop}
+use lib.ListN.{length, take, drop}
 use lib.Seq.{drop-nil}
 use Rattle.mitex_meaning.specs.Outcome.{Carry, Outcome}
 use Rattle.mitex_meaning.specs.Outcome.Outcome.{refused, done}
-use Rattle.mitex_meaning.specs.Conversion.{startCarry}
 use Rattle.ledger.specs.Ledger.{sameCarry, Piece}
 use Rattle.ledger.proofs.Carries.{sameCarry-true}
 use Rattle.edit_meaning.specs.Walk.{BlockConverter, Walk, carries, carryAfter, onto, next, nextUntil, rowsAll, walk, walkUntil, countTo}
@@ -54,12 +53,12 @@ until-count (on-past e u) = rw e (ap suc (until-count u))
 
 -- ---- the block at a place
 
-headed {ℓ} : {A : Type ℓ} (k : ℕ) (l : List A) → k < length l → (x : A) × (drop k l ≡ x ∷ drop (suc k) l)
+pub headed {ℓ} : {A : Type ℓ} (k : ℕ) (l : List A) → k < length l → (x : A) × (drop k l ≡ x ∷ drop (suc k) l)
 headed k [] h = absurd (not-suc-le-zero h)
 headed zero (x ∷ l) h = (x, refl)
 headed (suc k) (x ∷ l) h = headed k l (le-of-suc-le-suc h)
 
-carryAfter-at : (c : Carry) (k : ℕ) (ps : List Piece) (p : Piece) → drop k ps ≡ p ∷ drop (suc k) ps → carryAfter c (take (suc k) ps) ≡ p .after
+pub carryAfter-at : (c : Carry) (k : ℕ) (ps : List Piece) (p : Piece) → drop k ps ≡ p ∷ drop (suc k) ps → carryAfter c (take (suc k) ps) ≡ p .after
 carryAfter-at c k [] p e =
     let z : _≡_ {A = ℕ} 0 1 = ap length (sym (drop-nil k) ∙ e ∙ ap (λ l. p ∷ l) (drop-nil (suc k))) in absurd (omega arith)
 carryAfter-at c zero (q ∷ ps) p e = ap (λ x. x .after) (first e)
@@ -101,7 +100,7 @@ module _ (𝓒 : BlockConverter) where
   walked-walk (one-more {b = b} e w) r = rw (e, walked-walk w (r + rowsOf b))
 
   -- over two runs of blocks
-  walk-past :
+  pub walk-past :
       {c : Carry} {xs : List Block} {ps : List Piece} → WalkedBlocks c xs ps → (r : ℕ) (ys : List Block)
       → walk 𝓒 c r (xs ++ ys) ≡ ontoAll ps (walk 𝓒 (carryAfter c ps) (r + rowsAll rowsOf xs) ys)
   unfolding walk
@@ -109,12 +108,12 @@ module _ (𝓒 : BlockConverter) where
   walk-past (one-more {b = b} {bs = bs} {c′} {t} e w) r ys =
       rw (e, walk-past w (r + rowsOf b) ys, add-assoc r (rowsOf b) (rowsAll rowsOf bs))
 
-  walked-take : {c : Carry} {bs : List Block} {ps : List Piece} (k : ℕ) → WalkedBlocks c bs ps → WalkedBlocks c (take k bs) (take k ps)
+  pub walked-take : {c : Carry} {bs : List Block} {ps : List Piece} (k : ℕ) → WalkedBlocks c bs ps → WalkedBlocks c (take k bs) (take k ps)
   walked-take zero w = none-left
   walked-take (suc k) none-left = none-left
   walked-take (suc k) (one-more e w) = one-more e (walked-take k w)
 
-  walked-drop :
+  pub walked-drop :
       {c : Carry} {bs : List Block} {ps : List Piece} (k : ℕ) → WalkedBlocks c bs ps → WalkedBlocks (carryAfter c (take k ps)) (drop k bs) (drop k ps)
   walked-drop zero w = w
   walked-drop (suc k) none-left = none-left
@@ -142,7 +141,7 @@ module _ (𝓒 : BlockConverter) where
       go true e = ap (λ c. walk 𝓒 c r′ bs) (sameCarry-true c′ (p .after) e) ∙ walked-walk w r′
       go false e = ih c′
 
-  resume-rest :
+  pub resume-rest :
       {bs : List Block} {ps : List Piece} {d : Carry} → WalkedBlocks d bs ps → (c : Carry) (r : ℕ)
       → walk 𝓒 c r bs ≡ finish (walkUntil 𝓒 c r bs (carries ps)) ps
   unfolding walk walkUntil
@@ -151,7 +150,7 @@ module _ (𝓒 : BlockConverter) where
       resume-step (convertBlock c b) bs r (r + rowsOf b) (record { text = t; after = c′ }) ps w (λ c₂. resume-rest w c₂ (r + rowsOf b))
 
   -- from the named block, which alone may differ: what is left after the stop is the old conversion's
-  resume :
+  pub resume :
       (b : Block) (bs : List Block) (p : Piece) (ps : List Piece) → WalkedBlocks (p .after) bs ps → (c : Carry) (r : ℕ)
       → walk 𝓒 c r (b ∷ bs) ≡ finish (walkUntil 𝓒 c r (b ∷ bs) (carries (p ∷ ps))) (p ∷ ps)
   unfolding walk walkUntil
@@ -183,25 +182,3 @@ module _ (𝓒 : BlockConverter) where
   walkUntil-until (b ∷ bs) (p ∷ ps) h c r qs e =
       until-next (convertBlock c b) r p ps qs (λ c′. walkUntil 𝓒 c′ (r + rowsOf b) bs (carries ps))
       (λ c′ qs₂. walkUntil-until bs ps (omega arith) c′ (r + rowsOf b) qs₂) e
-
-  -- a document that differs from a converted one in block k alone, from its start
-  pub walk-edited :
-      (bs bs′ : List Block) (ps : List Piece) (k : ℕ) → WalkedBlocks startCarry bs ps → length bs′ ≡ length bs → k < length bs′
-      → take k bs′ ≡ take k bs → drop (suc k) bs′ ≡ drop (suc k) bs → (r : ℕ)
-      → walk 𝓒 startCarry r bs′
-      ≡ ontoAll (take k ps)
-      (finish (walkUntil 𝓒 (carryAfter startCarry (take k ps)) (r + rowsAll rowsOf (take k bs′)) (drop k bs′) (carries (drop k ps))) (drop k ps))
-  walk-edited bs bs′ ps k w n h before after r =
-      ap (walk 𝓒 startCarry r) (sym (take-append-drop k bs′))
-      ∙ walk-past {xs = take k bs′} {ps = take k ps} (rw before (walked-take k w)) r (drop k bs′)
-      ∙ ap (ontoAll (take k ps)) (here (headed k bs′ h) (headed k ps (omega (arith, walked-length w))))
-    where
-      here :
-          (x : Block) × (drop k bs′ ≡ x ∷ drop (suc k) bs′) → (p : Piece) × (drop k ps ≡ p ∷ drop (suc k) ps)
-          → walk 𝓒 (carryAfter startCarry (take k ps)) (r + rowsAll rowsOf (take k bs′)) (drop k bs′)
-          ≡ finish (walkUntil 𝓒 (carryAfter startCarry (take k ps)) (r + rowsAll rowsOf (take k bs′)) (drop k bs′) (carries (drop k ps))) (drop k ps)
-      here (x, e) (p, f) =
-          rw (e, f)
-          (resume x (drop (suc k) bs′) p (drop (suc k) ps)
-          (rw after (subst (λ c. WalkedBlocks c (drop (suc k) bs) (drop (suc k) ps)) (carryAfter-at startCarry k ps p f) (walked-drop (suc k) w)))
-          (carryAfter startCarry (take k ps)) (r + rowsAll rowsOf (take k bs′)))

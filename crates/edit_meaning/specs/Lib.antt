@@ -2,5 +2,8 @@ pub mod Walk
 pub mod Edit
 pub mod Run
 pub mod Calls
+pub mod Changes
+pub mod ChangeCalls
 pub mod Numbers
 pub mod Examples
+pub mod ChangesExamples

@@ -1,5 +1,6 @@
--- What a call can answer: a refusal with one of the numbers 1 to 15, or a result of its own kind. Convert and Edit answer so in every
--- mode, with any files and any buffers: `convert-answers` and `edit-answers` of crate `manuscript`.
+-- What a call can answer: a refusal with one of the numbers 1 to 15, or a result of its own kind. Convert and the changes of one block
+-- (an edit, an insertion, a removal) answer so in every mode, with any files and any buffers: `convert-answers`, `change-answers` and
+-- `edit-answers` of crate `manuscript`.
 use mathlib.Core.Logic.{_≢_}
 use Prim.Native.Nat.{ℕ, _≤_}
 use Rattle.edit_meaning.specs.Edit.{Answer}
@@ -8,11 +9,11 @@ use Rattle.edit_meaning.specs.Edit.Answer.{refused, converted, edited}
 abbrev pub Fifteen : ℕ → Type 0
 Fifteen n = (1 ≤ n) × (n ≤ 15)
 
--- 6 is Edit's alone
+-- Convert never says 6: that is for changes alone
 abbrev pub ConvertNumber : ℕ → Type 0
 ConvertNumber n = Fifteen n × (n ≢ 6)
 
--- an answer of Convert, and one of Edit, a refusal's number being one of which P holds
+-- an answer of Convert, and one of a change, a refusal's number being one of which P holds
 abbrev pub OfConvert : (ℕ → Type 0) → Answer → Type 0
 OfConvert P (refused n i) = P n
 OfConvert P (converted len n) = Unit {0}

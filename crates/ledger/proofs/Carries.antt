@@ -9,6 +9,7 @@ use Rattle.text.specs.Compare.{same}
 use Rattle.text.proofs.Compare.{beq-true, same-refl, same-true}
 use Rattle.mitex_meaning.specs.Outcome.{Label, Carry}
 use Rattle.mitex_meaning.specs.Outcome.Label.{unheld, held}
+use Rattle.mitex_meaning.specs.Conversion.{startCarry}
 use Rattle.mitex_meaning.specs.State.{labelOf}
 use Rattle.mitex_meaning.specs.Keeping.{labelBytes}
 use Rattle.ledger.specs.Ledger.{isHeld, sameLabel, sameCarry}
@@ -75,3 +76,17 @@ sameCarry-refl c = rw (beq-refl (c .flag), sameLabel-refl (c .label))
 
 pub sameCarry-false : (c d : Carry) → sameCarry c d ≡ false → c ≡ d → ⊥
 sameCarry-false c d e q = true≢false (sym (sameCarry-refl c) ∙ ap (sameCarry c) q ∙ e)
+
+-- ---- the carry that a document begins with
+
+pub opening-is : (flag hold : Bool) (n : ℕ) (l : List ℕ) → flag ≡ false
+    → not hold ≡ sameCarry (record { flag = flag; label = labelOf hold n l }) startCarry
+unfolding sameCarry
+opening-is true hold n l e = absurd (true≢false e)
+opening-is false true n l e = refl
+opening-is false false n l e = refl
+
+pub opening-flagged : (flag : Bool) (b : Label) → flag ≡ true → false ≡ sameCarry (record { flag = flag; label = b }) startCarry
+unfolding sameCarry
+opening-flagged true b e = refl
+opening-flagged false b e = absurd (false≢true e)

@@ -28,7 +28,7 @@ sets-drop vs l i h =
     ∙ drop-at (take i l ++ vs) (drop (i + length vs) l) (i + length vs)
     (length-append (take i l) vs ∙ ap (λ n. n + length vs) (length-take-le i l (omega arith)))
 
-sets-same : (n : ℕ) (l : List ℕ) (i : ℕ) → i + n ≤ length l → sets l i (take n (drop i l)) ≡ l
+pub sets-same : (n : ℕ) (l : List ℕ) (i : ℕ) → i + n ≤ length l → sets l i (take n (drop i l)) ≡ l
 sets-same n l i h =
     let k : length (take n (drop i l)) ≡ n = length-take-le n (drop i l) (omega (arith, length-drop i l)) in
     sets-eq (take n (drop i l)) l i (omega arith)

@@ -9,6 +9,7 @@ ghost use lib.ListN.{length, take, drop, replicate};
 ghost use lib.Seq.{sets};
 ghost use Rattle.text.specs.Compare.{same};
 ghost use Rattle.mitex_meaning.specs.Outcome.{labelMost};
+ghost use Rattle.mitex_meaning.specs.Conversion.{startCarry};
 ghost use Rattle.mitex_meaning.specs.State.{carryOf, withCarry};
 ghost use Rattle.mitex_meaning.specs.Keeping.{labelBytes};
 ghost use Rattle.ledger.specs.Ledger.{rowSize, mark, isHeld, encodeRow, HasRow, RowFits, rowAt, allZero, marksFit, rowFits, fits, Movable, moveRow, moveRows, sameLabel, sameCarry};
@@ -100,6 +101,16 @@ pub fn same_carry(ledger: &[u8], i: usize, converter: Converter) -> bool
     let flags = converter.skip_next_space == row_flag(ledger, i);
     let labels = same_label(ledger, i, converter);
     flags && labels
+}
+
+// Whether the converter's carry is the one that a document begins with.
+pub fn opening_carry(converter: Converter) -> bool
+    ensures { λ r. ⌜ r ≡ sameCarry (carryOf converter) startCarry ⌝ }
+{
+    if converter.skip_next_space {
+        return false;
+    }
+    !converter.label_held
 }
 
 // ---- fitting

@@ -1,5 +1,6 @@
--- What Convert and Edit answer, in every mode, with any files and any buffers: a refusal with one of the numbers 1 to 15, or a result of
--- their own kind. The numbers are those of the checks and of the blocks (`numbered`), 6 of Edit, and 15.
+-- What Convert and the changes of one block, Edit among them, answer, in every mode, with any files and any buffers: a refusal with one of
+-- the numbers 1 to 15, or a result of their own kind. The numbers are those of the checks and of the blocks (`numbered`), 6 of changes, and
+-- 15.
 use mathlib.Core.Path.{_≡_}
 use mathlib.Core.Logic.{_≢_}
 use mathlib.Core.List.{List}
@@ -11,8 +12,9 @@ use Rattle.mitex_meaning.specs.Outcome.{Carry}
 use Rattle.mitex_meaning.specs.Outcome.Outcome.{refused as declined}
 use Rattle.edit_meaning.specs.Walk.CheckedFile.{bad}
 use Rattle.edit_meaning.specs.Edit.{convertDocument, edit}
+use Rattle.edit_meaning.specs.Changes.{Kind, change}
 use Rattle.edit_meaning.specs.Numbers.{Fifteen, ConvertNumber, OfConvert, OfEdit}
-use Rattle.edit_meaning.proofs.Numbers.{convert-in, edit-in}
+use Rattle.edit_meaning.proofs.Numbers.{convert-in, change-in, edit-in}
 use Rattle.manuscript.specs.Manuscript.{modeOf, manuscript}
 use Rattle.manuscript.proofs.Manuscript.{numbered}
 
@@ -34,6 +36,12 @@ module _ (mode : ℕ) (rules : List ℕ) where
   convert-answers =
       convert-in ConvertNumber (manuscript mode rules) (λ c b n i e. (of-block c b n i e, no-six-block c b n i e))
       (λ tree n i e. (of-check tree n i e, no-six-check tree n i e)) ((omega arith, omega arith), λ q. omega arith)
+
+  pub change-answers :
+      (tree : List ℕ) (k : Kind) (kept : ℕ) (text ledger : List ℕ)
+      → OfEdit Fifteen ((change (manuscript mode rules) tree k kept text ledger) .answer)
+  change-answers =
+      change-in Fifteen (manuscript mode rules) of-block of-check (omega arith, omega arith) (omega arith, omega arith)
 
   pub edit-answers :
       (tree : List ℕ) (block kept : ℕ) (text ledger : List ℕ)

@@ -1,4 +1,4 @@
--- The converter of blocks that Convert and Edit stand on, for a mode and a rule file: refusals 1 to 5 of the files, and the meaning
+-- The converter of blocks that the calls stand on, for a mode and a rule file: refusals 1 to 5 of the files, and the meaning
 -- of a conversion.
 use mathlib.Core.List.{List, [], _∷_}
 use mathlib.Core.Option.{Option}

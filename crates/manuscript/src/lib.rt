@@ -1,1 +1,1 @@
-// No code: the converter of blocks that Convert and Edit stand on, and what is known of it.
+// No code: the converter of blocks that the calls stand on, and what is known of it.

@@ -4,6 +4,7 @@ use mathlib.Core.Path.{_≡_, refl, _∙_}
 use mathlib.Core.Bool.{false}
 use mathlib.Core.List.{List, []}
 use Prim.Native.Nat.{ℕ, _*_, _≤_, _<_}
+use native.Mathlib.Omega.{arith}
 use lib.ListN.{length}
 use lib.Seq.{sets}
 use Rattle.text.specs.Writing.{cap}
@@ -17,20 +18,20 @@ use Rattle.passes.proofs.Rewriting.{BlocksLeft, blocks-left-start, bloc
 module _ (rules index rows text : List ℕ) (from : Standing) (n : ℕ) (out₀ ledger₀ : List ℕ) where
   -- the pass has come to s, and the buffers are as long as they were
   pub record Drafted (s : Standing) (out ledger : List ℕ) : Type 0 where
-    pub passed : (w : BlocksUpTo rules index rows text from n) → BlocksPassed w false [] s
+    pub passed : (w : BlocksUpTo rules index rows text from n) → BlocksPassed w n false [] s
     pub left : (w : Pieced rules index rows text from n ledger₀) → BlocksLeft w out₀ s out ledger
     pub long : length out ≡ length out₀
     pub ledger-long : length ledger ≡ length ledger₀
 
   pub drafted-start : Drafted from out₀ ledger₀
-  drafted-start = record { passed = λ w. blocks-passed-start w; left = λ w. blocks-left-start w out₀; long = refl; ledger-long = refl }
+  drafted-start = record { passed = λ w. blocks-passed-start w (omega arith); left = λ w. blocks-left-start w out₀; long = refl; ledger-long = refl }
 
 module _ {rules index rows text : List ℕ} {from : Standing} {n : ℕ} {out₀ ledger₀ : List ℕ} {s : Standing} {out ledger : List ℕ}
     (d : Drafted rules index rows text from n out₀ ledger₀ s out ledger) where
   -- what the pass promises of a standing at which it ends
   abbrev DraftEnds : Standing → List ℕ → Type 0
   DraftEnds r out′ =
-      Measures rules index rows text from n false [] r × Writes rules index rows text from n out₀ ledger₀ out′ ledger
+      Measures rules index rows text from n n false [] r × Writes rules index rows text from n out₀ ledger₀ out′ ledger
 
   pub drafted-end : n ≤ s .block → DraftEnds s out
   drafted-end h = (λ w. blocks-passed-end (d .passed w) h, λ w. blocks-left-end w out₀ (d .left w) h)

@@ -4,17 +4,16 @@
 use mathlib.Core.Path.{_≡_, refl, sym, ap, subst, _∙_}
 use mathlib.Core.Bool.{Bool, true, false, cond, _&&_}
 use mathlib.Core.List.{List, [], _∷_}
-use Prim.Native.Nat.{ℕ, suc, _+_, _-_, _≤_, _<_, min}
+use Prim.Native.Nat.{ℕ, zero, suc, _+_, _-_, _≤_, _<_, min}
 use native.Mathlib.Omega.{arith}
-use borrow.Author.Tests.{lt-ltb}
 use lib.ListN.{length, drop, length-append, length-drop}
-use lib.Dec.{ltb}
 use Rattle.text.specs.Writing.{cap}
 use Rattle.mitex_syntax.specs.Tree.{Tree, Forest, size, count}
 use Rattle.mitex_syntax.specs.Tree.Forest.{none, more}
 use Rattle.mitex_syntax.proofs.Trees.{length-rowss}
 use Rattle.mitex_meaning.specs.Outcome.{Carry, Outcome, labelMost}
 use Rattle.mitex_meaning.specs.Outcome.Outcome.{refused, done}
+use Rattle.mitex_meaning.specs.Conversion.{startCarry}
 use Rattle.mitex_meaning.specs.State.{carryOf}
 use Rattle.mitex_meaning.specs.Contract.{Agrees}
 use Rattle.mitex_meaning.specs.declared.Place.{Place}
@@ -23,10 +22,10 @@ use Rattle.ledger.specs.Ledger.{decodeRows, rowAt, sameCarry, Piece, written}
 use Rattle.edit_meaning.specs.Walk.{Walk, onto, next, nextUntil, walk, walkUntil}
 use Rattle.edit_meaning.specs.Walk.Walk.{stopped, pieces}
 use Rattle.edit_meaning.specs.Walk.{BlockConverter}
-use Rattle.edit_meaning.specs.Edit.{rowCarries}
-use Rattle.edit_meaning.proofs.Bytes.{rowCarries-at}
+use Rattle.edit_meaning.specs.Edit.{carryBefore, rowCarries}
+use Rattle.edit_meaning.proofs.Bytes.{carryBefore-at, rowCarries-at}
 use Rattle.manuscript.specs.Manuscript.{listed, block, blocksIn}
-use Rattle.passes.specs.Passes.{BlocksUpTo, rowNo, converterOf, Stepped, Steps, meets, walkBy, Came}
+use Rattle.passes.specs.Passes.{BlocksUpTo, rowNo, converterOf, Stepped, Steps, carriesOn, keptBlock, MeetsBefore, walkBy, Came}
 use Rattle.passes.specs.Passes.Came.{stops, comes}
 use Rattle.passes.specs.declared.Standing.{Standing}
 use Rattle.passes.proofs.Stepping.{fine, same-mode, onward}
@@ -35,21 +34,46 @@ use Rattle.passes.proofs.Reaching.{count-sizes}
 -- ---- what is stated
 
 -- the walk over the blocks that a pass has before it
-abbrev pub walkFrom : {rules index rows text : List ℕ} {s : Standing} {n : ℕ} → BlocksUpTo rules index rows text s n → Bool → List ℕ → Walk
-walkFrom {s = s} {n} w edits kept =
+abbrev pub walkFrom :
+    {rules index rows text : List ℕ} {s : Standing} {n : ℕ} → BlocksUpTo rules index rows text s n → ℕ → Bool → List ℕ → Walk
+walkFrom {s = s} {n} w was edits kept =
     walkBy (converterOf (w .given)) edits (carryOf (s .walked .converter)) (rowNo s) (listed (w .given .blocks))
-    (rowCarries (drop (s .block) (decodeRows n kept)))
+    (carriesOn (keptBlock (suc (s .block)) n was) (decodeRows was kept))
 
 -- some blocks were passed: who finishes from here has finished from the start
 module _ {rules index rows text : List ℕ} {from : Standing} {n : ℕ} (w : BlocksUpTo rules index rows text from n) where
-  pub record BlocksPassed (edits : Bool) (kept : List ℕ) (s : Standing) : Type 0 where
+  pub record BlocksPassed (was : ℕ) (edits : Bool) (kept : List ℕ) (s : Standing) : Type 0 where
     pub whole : BlocksUpTo rules index rows text s n
-    pub later : from .block ≤ s .block
-    pub finish : (r : Standing) → Came s r (walkFrom whole edits kept) → Came from r (walkFrom w edits kept)
+    pub near : n ≤ suc (s .block) + was
+    pub finish : (r : Standing) → Came s r (walkFrom whole was edits kept) → Came from r (walkFrom w was edits kept)
+
+-- the carry before the kept block j, and those before the blocks after it
+pub carriesOn-at :
+    (n j : ℕ) (l : List ℕ) → j ≤ n
+    → carriesOn j (decodeRows n l) ≡ carryBefore j (decodeRows n l) ∷ carriesOn (suc j) (decodeRows n l)
+carriesOn-at n zero l h = refl
+carriesOn-at n (suc j) l h =
+    rowCarries-at n j l (omega arith)
+    ∙ ap (λ c. c ∷ rowCarries (drop (suc j) (decodeRows n l))) (sym (carryBefore-at n j l (omega arith)))
+
+-- a carry compared with the one before kept block j: a document's first, or that of the row before
+module _ (s : Standing) (kept : List ℕ) {b : Bool} where
+  pub meets-first : (j : ℕ) → j ≡ 0 → b ≡ sameCarry (carryOf (s .walked .converter)) startCarry → MeetsBefore j s kept b
+  meets-first j e q n h =
+      q ∙ sym (ap (λ i. sameCarry (carryOf (s .walked .converter)) (carryBefore i (decodeRows n kept))) e)
+
+  pub meets-row :
+      (j : ℕ) → 0 < j → b ≡ sameCarry (carryOf (s .walked .converter)) ((rowAt (j - 1) kept) .carry) → MeetsBefore j s kept b
+  meets-row zero h q n i = absurd (omega arith)
+  meets-row (suc j) h q n i =
+      let z : suc j - 1 ≡ j = omega arith in
+      q
+      ∙ ap (λ k. sameCarry (carryOf (s .walked .converter)) ((rowAt k kept) .carry)) z
+      ∙ ap (sameCarry (carryOf (s .walked .converter))) (sym (carryBefore-at n j kept (omega arith)))
 
 -- ---- one block of a walk
 
--- an outcome, and then what follows from its carry, but nothing at the kept carry of an edit
+-- an outcome, and then what follows from its carry, but nothing at the kept carry of a change
 abbrev walkTurn : Bool → Outcome → ℕ → Carry → (Carry → Walk) → Walk
 walkTurn edits (refused n i) r d k = stopped n (r + i)
 walkTurn edits (done c t) r d k = onto (record { text = t; after = c }) (cond (edits && sameCarry c d) (pieces []) (k c))
@@ -102,7 +126,7 @@ module _ {s r : Standing} {x : Place} {row : ℕ} {out out′ : List ℕ} (edits
       (subst (λ (y : Carry). Came r q (cond (edits && sameCarry y d) (pieces []) (k y))) ec m)
 
 -- nothing more was measured
-came-here : {r : Standing} → r .walked .refusal ≡ 0 → r .walked .at ≤ cap → Came r r (pieces [])
+pub came-here : {r : Standing} → r .walked .refusal ≡ 0 → r .walked .at ≤ cap → Came r r (pieces [])
 came-here z low = comes {ps = []} z (omega arith) (omega arith)
 
 -- ---- the block at which a pass stands
@@ -127,12 +151,12 @@ module _ {rules index rows text : List ℕ} {s : Standing} {n : ℕ} (w : Blocks
       let f = w .given .blocks in
       omega (arith, w .many, ap length (w .given .spells .rows-are), length-drop (s .i) rows, length-rowss f, count-sizes f)
 
-  came-last : (edits : Bool) (kept : List ℕ) → n ≤ s .block → Came s s (walkFrom w edits kept)
-  came-last edits kept h =
+  came-last : (was : ℕ) (edits : Bool) (kept : List ℕ) → n ≤ s .block → Came s s (walkFrom w was edits kept)
+  came-last was edits kept h =
       let c = carryOf (s .walked .converter) in
-      let ds = rowCarries (drop (s .block) (decodeRows n kept)) in
+      let ds = carriesOn (keptBlock (suc (s .block)) n was) (decodeRows was kept) in
       let 𝓒 = converterOf (w .given) in
-      let e : walkFrom w edits kept ≡ pieces []
+      let e : walkFrom w was edits kept ≡ pieces []
       = ap (λ f. walkBy 𝓒 edits c (rowNo s) (listed f) ds) (count-none (w .given .blocks) (omega (arith, w .many, h)))
       ∙ walkBy-end 𝓒 edits c (rowNo s) ds in
       subst (Came s s) (sym e) (came-here (w .given .well) (w .given .place))
@@ -166,43 +190,46 @@ module _ {rules index rows text : List ℕ} {s : Standing} {n : ℕ} (w : Blocks
             few = w .few;
           }
 
-    module _ (edits : Bool) (kept : List ℕ) where
-      -- the kept carry of the block, those of the others, and the walk over the others
+    module _ (was : ℕ) (near : n ≤ suc (s .block) + was) (edits : Bool) (kept : List ℕ) where
+      -- the kept block that is compared, the carry before it, those before the blocks after it, and the walk over the others
+      abbrev compared : ℕ
+      compared = keptBlock (suc (s .block)) n was
+
       abbrev carry : Carry
-      carry = (rowAt (s .block) kept) .carry
+      carry = carryBefore compared (decodeRows was kept)
 
       abbrev carries : List Carry
-      carries = rowCarries (drop (suc (s .block)) (decodeRows n kept))
+      carries = carriesOn (suc compared) (decodeRows was kept)
 
       abbrev rest : Carry → Walk
       rest c = walkBy (converterOf (w .given)) edits c (rowNo s + size tree) (listed others) carries
 
       walk-turn :
-          walkFrom w edits kept
+          walkFrom w was edits kept
           ≡ walkTurn edits (block (s .walked .converter .mode) (w .given .rs) (carryOf (s .walked .converter)) tree) (rowNo s) carry rest
       walk-turn =
           let c = carryOf (s .walked .converter) in
           let 𝓒 = converterOf (w .given) in
-          ap (λ f. walkBy 𝓒 edits c (rowNo s) (listed f) (rowCarries (drop (s .block) (decodeRows n kept)))) (here .1 .1)
-          ∙ ap (walkBy 𝓒 edits c (rowNo s) (tree ∷ listed others)) (rowCarries-at n (s .block) kept h)
+          ap (λ f. walkBy 𝓒 edits c (rowNo s) (listed f) (carriesOn compared (decodeRows was kept))) (here .1 .1)
+          ∙ ap (walkBy 𝓒 edits c (rowNo s) (tree ∷ listed others)) (carriesOn-at was compared kept (omega arith))
           ∙ walkBy-turn 𝓒 edits c (rowNo s) tree (listed others) carry carries
 
-      came-declined : (r .walked .refusal ≡ 0 → ⊥) → Came s r (walkFrom w edits kept)
+      came-declined : (r .walked .refusal ≡ 0 → ⊥) → Came s r (walkFrom w was edits kept)
       came-declined z = subst (Came s r) (sym walk-turn) (came-refused edits carry rest (stepped .agrees) z)
 
       module _ (z : r .walked .refusal ≡ 0) where
-        rest-after : rest (carryOf (r .walked .converter)) ≡ walkFrom (next-given z) edits kept
+        rest-after : rest (carryOf (r .walked .converter)) ≡ walkFrom (next-given z) was edits kept
         rest-after =
             let mode = sym (same-mode (w .given) tree others (here .1 .1) stepped z) in
             let row = sym (stepped .row) in
-            let k : suc (s .block) ≡ r .block = omega (arith, one-more) in
+            let k : suc compared ≡ keptBlock (suc (r .block)) n was = omega (arith, one-more) in
             λ i. walkBy (blocksIn (mode i) (w .given .rs)) edits (carryOf (r .walked .converter)) (row i) (listed others)
-            (rowCarries (drop (k i) (decodeRows n kept)))
+            (carriesOn (k i) (decodeRows was kept))
 
         -- b is the answer of the test after the block
         came-turn :
             {b : Bool} {q : Standing} → b ≡ edits && sameCarry (carryOf (r .walked .converter)) carry
-            → Came r q (cond b (pieces []) (walkFrom (next-given z) edits kept)) → Came s q (walkFrom w edits kept)
+            → Came r q (cond b (pieces []) (walkFrom (next-given z) was edits kept)) → Came s q (walkFrom w was edits kept)
         came-turn {q = q} is m =
             subst (Came s q) (sym walk-turn)
             (came-after edits carry rest (stepped .agrees) z one-more
@@ -211,38 +238,41 @@ module _ {rules index rows text : List ℕ} {s : Standing} {n : ℕ} (w : Blocks
 -- ---- the loop
 
 pub blocks-passed-start :
-    {rules index rows text : List ℕ} {from : Standing} {n : ℕ} {edits : Bool} {kept : List ℕ} (w : BlocksUpTo rules index rows text from n)
-    → BlocksPassed w edits kept from
-blocks-passed-start w = record { whole = w; later = omega arith; finish = λ r m. m }
+    {rules index rows text : List ℕ} {from : Standing} {n was : ℕ} {edits : Bool} {kept : List ℕ}
+    (w : BlocksUpTo rules index rows text from n) → n ≤ suc (from .block) + was → BlocksPassed w was edits kept from
+blocks-passed-start w h = record { whole = w; near = h; finish = λ r m. m }
 
-module _ {rules index rows text : List ℕ} {from s : Standing} {n : ℕ} {w : BlocksUpTo rules index rows text from n} {edits : Bool}
-    {kept : List ℕ} (p : BlocksPassed w edits kept s) where
-  pub blocks-passed-end : n ≤ s .block → Came from s (walkFrom w edits kept)
-  blocks-passed-end h = p .finish s (came-last (p .whole) edits kept h)
+module _ {rules index rows text : List ℕ} {from s : Standing} {n : ℕ} {w : BlocksUpTo rules index rows text from n} {was : ℕ} {edits : Bool}
+    {kept : List ℕ} (p : BlocksPassed w was edits kept s) where
+  pub blocks-passed-end : n ≤ s .block → Came from s (walkFrom w was edits kept)
+  blocks-passed-end h = p .finish s (came-last (p .whole) was edits kept h)
 
   module _ (h : s .block < n) {out out′ : List ℕ} {r : Standing} (passes : Steps rules index rows text s out r out′) where
-    pub blocks-passed-refused : (r .walked .refusal ≡ 0 → ⊥) → Came from r (walkFrom w edits kept)
-    blocks-passed-refused z = p .finish r (came-declined (p .whole) h passes edits kept z)
+    pub blocks-passed-refused : (r .walked .refusal ≡ 0 → ⊥) → Came from r (walkFrom w was edits kept)
+    blocks-passed-refused z = p .finish r (came-declined (p .whole) h passes was (p .near) edits kept z)
 
-    module _ (z : r .walked .refusal ≡ 0) (b : Bool) (is : b ≡ meets edits (from .block) r kept) where
+    -- the kept block that is compared after this one
+    pub compared-within : keptBlock (r .block) n was ≤ was
+    compared-within = omega (arith, one-more (p .whole) h passes)
+
+    module _ (z : r .walked .refusal ≡ 0) (b : Bool)
+        (is : b ≡ edits && sameCarry (carryOf (r .walked .converter)) (carryBefore (keptBlock (r .block) n was) (decodeRows was kept))) where
       abbrev next-whole : BlocksUpTo rules index rows text r n
       next-whole = next-given (p .whole) h passes z
 
-      -- the block passed is one after the start, and its kept row the one before
-      is-met : b ≡ edits && sameCarry (carryOf (r .walked .converter)) ((rowAt (s .block) kept) .carry)
+      is-met : b ≡ edits && sameCarry (carryOf (r .walked .converter)) (carryBefore (keptBlock (suc (s .block)) n was) (decodeRows was kept))
       is-met =
-          let one = one-more (p .whole) h passes in
-          let past : ltb (from .block) (r .block) ≡ true = lt-ltb (from .block) (r .block) (omega (arith, p .later)) in
-          let row : r .block - 1 ≡ s .block = omega arith in
-          is ∙ (λ i. edits && (past i && sameCarry (carryOf (r .walked .converter)) ((rowAt (row i) kept) .carry)))
+          let k : keptBlock (r .block) n was ≡ keptBlock (suc (s .block)) n was = omega (arith, one-more (p .whole) h passes) in
+          is ∙ ap (λ j. edits && sameCarry (carryOf (r .walked .converter)) (carryBefore j (decodeRows was kept))) k
 
-      pub blocks-passed-met : b ≡ true → Came from r (walkFrom w edits kept)
-      blocks-passed-met e = p .finish r (came-turn (p .whole) h passes edits kept z (sym e ∙ is-met) (came-here z (next-whole .given .place)))
+      pub blocks-passed-met : b ≡ true → Came from r (walkFrom w was edits kept)
+      blocks-passed-met e =
+          p .finish r (came-turn (p .whole) h passes was (p .near) edits kept z (sym e ∙ is-met) (came-here z (next-whole .given .place)))
 
-      pub blocks-passed-next : b ≡ false → BlocksPassed w edits kept r
+      pub blocks-passed-next : b ≡ false → BlocksPassed w was edits kept r
       blocks-passed-next e =
           record {
             whole = next-whole;
-            later = omega (arith, p .later, one-more (p .whole) h passes);
-            finish = λ q m. p .finish q (came-turn (p .whole) h passes edits kept z (sym e ∙ is-met) m);
+            near = omega (arith, p .near, one-more (p .whole) h passes);
+            finish = λ q m. p .finish q (came-turn (p .whole) h passes was (p .near) edits kept z (sym e ∙ is-met) m);
           }

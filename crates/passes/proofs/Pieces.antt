@@ -37,7 +37,7 @@ module _ (𝓒 : BlockConverter) where
   gives-next (refused n i) r k e ih h = let z : _≡_ {A = ℕ} 0 1 = cc in absurd (omega arith)
   gives-next (done c′ t) r k e ih h = gives-onto (k c′) e (ih c′) h
 
-  gives-stop :
+  pub gives-stop :
       {c : Carry} {bs : List Block} (b : Bool) (v : Walk) → ((qs : List Piece) → v ≡ pieces qs → FirstPieces 𝓒 c bs qs) → (qs : List Piece)
       → cond b (pieces []) v ≡ pieces qs → FirstPieces 𝓒 c bs qs
   gives-stop {c} {bs} true v ih qs h = let q : [] ≡ qs = cc in subst (FirstPieces 𝓒 c bs) q none-yet

@@ -1,12 +1,11 @@
 -- What the passes over the blocks are given, and what they promise. A promise is made for whatever the pass may have been given: for
 -- every list of rules that the rule file has, and every forest that the rows and the text spell.
 use mathlib.Core.Path.{_≡_}
-use mathlib.Core.Bool.{Bool, true, false, _&&_}
+use mathlib.Core.Bool.{Bool, true, false}
 use mathlib.Core.List.{List, [], _∷_}
-use Prim.Native.Nat.{ℕ, _+_, _-_, _*_, _/_, _≤_, _<_, min}
+use Prim.Native.Nat.{ℕ, zero, suc, _+_, _-_, _*_, _/_, _≤_, _<_, min}
 use lib.ListN.{length, take, drop}
 use lib.Seq.{sets}
-use lib.Dec.{ltb}
 use Rattle.text.specs.Writing.{cap}
 use Rattle.mitex_spec.specs.Rules.{Rule}
 use Rattle.mitex_spec.specs.Index.{Ready}
@@ -17,15 +16,16 @@ use Rattle.text.specs.Trailer.{fileMost}
 use Rattle.tree_file.specs.Layout.{blocksMost}
 use Rattle.mitex_meaning.specs.Outcome.{Carry, labelMost}
 use Rattle.mitex_meaning.specs.Outcome.Outcome.{done}
+use Rattle.mitex_meaning.specs.Conversion.{startCarry}
 use Rattle.mitex_meaning.specs.State.{carryOf}
 use Rattle.mitex_meaning.specs.Contract.{placeOf, Agrees, Went}
 use Rattle.mitex_meaning.specs.declared.LaTeXEnv.the-variants.{None}
 use Rattle.mitex_meaning.specs.declared.Converter.{Converter}
-use Rattle.ledger.specs.Ledger.{rowSize, rowAt, sameCarry, decodeRows, encodeRows, Piece, written, rowsFrom}
+use Rattle.ledger.specs.Ledger.{Row, rowSize, sameCarry, decodeRows, encodeRows, Piece, written, rowsFrom}
 use Rattle.edit_meaning.specs.Walk.{Walk, rowsAll, walk, walkUntil}
 use Rattle.edit_meaning.specs.Walk.Walk.{stopped, pieces}
 use Rattle.edit_meaning.specs.Walk.{BlockConverter}
-use Rattle.edit_meaning.specs.Edit.{rowCarries}
+use Rattle.edit_meaning.specs.Edit.{carryBefore, rowCarries}
 use Rattle.manuscript.specs.Manuscript.{listed, block, blocksIn}
 use Rattle.passes.specs.declared.Standing.{Standing}
 
@@ -126,10 +126,19 @@ StandsBefore rows k at c r =
     (blocks : Forest) (text : List ℕ) → SpellsAll blocks rows text → k ≤ count blocks → length text ≤ fileMost
     → Stood blocks rows text k at c r
 
--- an edit that began at block `first` stops at a standing: after that block, where the carry is that of the kept row before
-abbrev pub meets : Bool → ℕ → Standing → List ℕ → Bool
-meets edits first s kept =
-    edits && (ltb first (s .block) && sameCarry (carryOf (s .walked .converter)) ((rowAt (s .block - 1) kept) .carry))
+-- the carries before the kept blocks from j on: a document's first, and those of the rows
+abbrev pub carriesOn : ℕ → List Row → List Carry
+carriesOn zero rows = startCarry ∷ rowCarries rows
+carriesOn (suc j) rows = rowCarries (drop j rows)
+
+-- the kept block, of `was`, that has as many after it as block i of n
+abbrev pub keptBlock : ℕ → ℕ → ℕ → ℕ
+keptBlock i n was = i + was - n
+
+-- whether the carry at a standing is the one before kept block j, in a ledger of j rows or more
+abbrev pub MeetsBefore : (j : ℕ) (s : Standing) (kept : List ℕ) (r : Bool) → Type 0
+MeetsBefore j s kept r =
+    (n : ℕ) → j ≤ n → r ≡ sameCarry (carryOf (s .walked .converter)) (carryBefore j (decodeRows n kept))
 
 -- all blocks, or no further than the kept carry
 abbrev pub walkBy : (𝓒 : BlockConverter) → Bool → Carry → ℕ → List (𝓒 .Block) → List Carry → Walk
@@ -143,12 +152,13 @@ pub data Came (from r : Standing) : Walk → Type 0 where
       {ps : List Piece} → r .walked .refusal ≡ 0 → r .block ≡ from .block + length ps
       → r .walked .at ≡ min cap (from .walked .at + length (written ps)) → Came from r (pieces ps)
 
-abbrev pub Measures : (rules index rows text : List ℕ) (from : Standing) (n : ℕ) (edits : Bool) (kept : List ℕ) (r : Standing) → Type 0
-Measures rules index rows text from n edits kept r =
+-- after each block the carry is compared with the one before the kept block that has as many after it
+abbrev pub Measures : (rules index rows text : List ℕ) (from : Standing) (n was : ℕ) (edits : Bool) (kept : List ℕ) (r : Standing) → Type 0
+Measures rules index rows text from n was edits kept r =
     (w : BlocksUpTo rules index rows text from n)
     → Came from r
     (walkBy (converterOf (w .given)) edits (carryOf (from .walked .converter)) (rowNo from) (listed (w .given .blocks))
-    (rowCarries (drop (from .block) (decodeRows n kept))))
+    (carriesOn (keptBlock (suc (from .block)) n was) (decodeRows was kept)))
 
 -- a writing pass: the text of the pieces and their rows
 pub record WrotePieces (ps : List Piece) (from : Standing) (out ledger out′ ledger′ : List ℕ) : Type 0 where

@@ -1,18 +1,18 @@
-// Passes over the blocks of a document, one block a turn. Convert's goes over all blocks, measures and writes. Edit has two: one that
-// measures up to the first block whose carry is that of its kept row, and one that writes what was measured.
+// Passes over the blocks of a document, one block a turn. Convert's goes over all blocks, measures and writes. A change of one block has
+// two: one that measures up to the first block after which the carry is the kept one, and one that writes what was measured.
 use mitex_meaning::Converter;
 use mitex_meaning::Walked;
 ghost use mathlib.Core.Path.{_≡_};
 ghost use mathlib.Core.Bool.{true, false};
 ghost use mathlib.Core.List.{[]};
-ghost use Prim.Native.Nat.{ℕ, _*_, _-_, _≤_, _<_};
+ghost use Prim.Native.Nat.{ℕ, _+_, _*_, _-_, _≤_, _<_};
 ghost use lib.ListN.{length};
 ghost use lib.Seq.{sets};
 ghost use Rattle.text.specs.Writing.{cap};
 ghost use Rattle.mitex_meaning.specs.Outcome.{labelMost};
 ghost use Rattle.mitex_meaning.specs.State.{carryOf};
 ghost use Rattle.ledger.specs.Ledger.{rowSize, encodeRow, HasRow, RowFits};
-ghost use Rattle.passes.specs.Passes.{BlocksGiven, BlocksUpTo, Pieced, SomeBlocks, Steps, StandsBefore, meets, Measures, Writes};
+ghost use Rattle.passes.specs.Passes.{BlocksGiven, BlocksUpTo, Pieced, SomeBlocks, Steps, StandsBefore, MeetsBefore, Measures, Writes};
 
 // The end of a text that a row cannot say any more.
 const CAP: usize = 4294967296;
@@ -86,20 +86,21 @@ pub fn next_block<'a>(
     }
 }
 
-// Whether an edit that began at block `first` stops at a standing: after that block, where the carry is that of the kept row before.
-fn met(kept: &[u8], first: usize, s: Standing) -> bool
-    requires { ⌜ (first < s .block → RowFits (s .block - 1) (now kept)) × (s .walked .converter .«label_len» ≤ labelMost) ⌝ }
-    ensures { λ r. ⌜ r ≡ meets true first s (now (kept .entry)) ⌝ }
+// Whether the carry at a standing is the one that stood before block `j` of the kept document: that of the row before the block, or a
+// document's first.
+pub fn met(kept: &[u8], j: usize, s: Standing) -> bool
+    requires { ⌜ (0 < j → RowFits (j - 1) (now kept)) × (s .walked .converter .«label_len» ≤ labelMost) ⌝ }
+    ensures { λ r. ⌜ MeetsBefore j s (now (kept .entry)) r ⌝ }
 {
-    let k = s.block;
-    if k <= first {
-        return false;
-    }
     let walked = s.walked;
-    ledger::same_carry(kept, k - 1, walked.converter)
+    if j == 0 {
+        return ledger::opening_carry(walked.converter);
+    }
+    ledger::same_carry(kept, j - 1, walked.converter)
 }
 
-// Blocks measured from a standing on, up to the first whose carry is that of its kept row, or up to the last.
+// Blocks measured from a standing on, up to the first after which the carry is the kept one, or up to the last. Of the `was` kept blocks
+// as many are left as of the new ones, so the carry is compared with that before the kept block as far from the last.
 pub fn measure<'a>(
     rows: &[u8],
     text: &'a [u8],
@@ -108,10 +109,11 @@ pub fn measure<'a>(
     kept: &[u8],
     from: Standing,
     blocks: usize,
+    was: usize,
 ) -> Standing
     requires { ⌜ BlocksUpTo (now rules) (now index) (now rows) (now text) from blocks ⌝ }
-    requires { ⌜ ((i : ℕ) → i < blocks → RowFits i (now kept)) ⌝ }
-    ensures { λ r. ⌜ Measures (now (rules .entry)) (now (index .entry)) (now (rows .entry)) (now (text .entry)) from blocks true
+    requires { ⌜ (blocks ≤ from .block + 1 + was) × (was ≤ blocks + 1) × ((i : ℕ) → i < was → RowFits i (now kept)) ⌝ }
+    ensures { λ r. ⌜ Measures (now (rules .entry)) (now (index .entry)) (now (rows .entry)) (now (text .entry)) from blocks was true
         (now (kept .entry)) r ⌝ }
 {
     let mut s = from;
@@ -122,7 +124,8 @@ pub fn measure<'a>(
         if walked.refusal != 0 {
             return next;
         }
-        if met(kept, from.block, next) {
+        let j = next.block + was - blocks;
+        if met(kept, j, next) {
             return next;
         }
         s = next;
@@ -155,7 +158,7 @@ pub fn draft_blocks<'a>(
 ) -> Standing
     requires { ⌜ BlocksUpTo (now rules) (now index) (now rows) (now text) from blocks ⌝ }
     requires { ⌜ (length (now out) ≤ cap) × (rowSize * blocks ≤ length (now ledger)) ⌝ }
-    ensures measured { λ r. ⌜ Measures (now (rules .entry)) (now (index .entry)) (now (rows .entry)) (now (text .entry)) from blocks false [] r ⌝ }
+    ensures measured { λ r. ⌜ Measures (now (rules .entry)) (now (index .entry)) (now (rows .entry)) (now (text .entry)) from blocks blocks false [] r ⌝ }
     ensures written { λ _. ⌜ Writes (now (rules .entry)) (now (index .entry)) (now (rows .entry)) (now (text .entry)) from blocks
         (now (out .entry)) (now (ledger .entry)) (now (out .exit)) (now (ledger .exit)) ⌝ }
 {

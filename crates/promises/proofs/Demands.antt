@@ -25,18 +25,20 @@ use Rattle.edit_meaning.specs.Walk.Walk.{stopped, pieces}
 use Rattle.edit_meaning.specs.Edit.{Answer, Result, textMost, room, atFront, settle, fromCheck, conversion, convertDocument, edit}
 use Rattle.edit_meaning.specs.Edit.Answer.{refused}
 use Rattle.edit_meaning.specs.Calls.{Gives, Converts, Untouched}
+use Rattle.edit_meaning.specs.Changes.{change}
 use Rattle.edit_meaning.specs.Numbers.{Fifteen, ConvertNumber, OfConvert, OfEdit}
 use Rattle.edit_meaning.proofs.Walks.{WalkedBlocks, walk-walked, walked-length}
 use Rattle.edit_meaning.proofs.Holding.{room-says, rows-length, walked-encodable}
-use Rattle.edit_meaning.proofs.Untouched.{convert-untouched, edit-untouched}
+use Rattle.edit_meaning.proofs.Untouched.{convert-untouched, change-untouched, edit-untouched}
 use Rattle.edit_meaning.proofs.Begin.{converts-holds, converts-starts}
 use Rattle.edit_meaning.proofs.Calls.{runs-demanded}
-use Rattle.edit_meaning.proofs.Six.{demanded-six}
-use Rattle.edit_meaning.proofs.Counting.{demanded-counts}
+use Rattle.edit_meaning.proofs.ChangeCalls.{edits-alter, alters-demanded, converted-demanded}
+use Rattle.edit_meaning.proofs.Six.{demanded-change-six, demanded-six}
+use Rattle.edit_meaning.proofs.Counting.{demanded-change-counts, demanded-counts}
 use Rattle.manuscript.specs.Manuscript.{modeOf, listed, manuscript, blocksIn, together}
 use Rattle.manuscript.proofs.Manuscript.{listed-count, opened-as, numbered, keeps-short}
 use Rattle.manuscript.proofs.Root.{enough, document-root}
-use Rattle.manuscript.proofs.Answers.{convert-answers, edit-answers}
+use Rattle.manuscript.proofs.Answers.{convert-answers, change-answers, edit-answers}
 use Rattle.promises.specs.Demands.{AnyCaller, rootOutcome, Delivered, AsReference, FollowsReference, EveryList}
 
 -- ---- demand 1
@@ -59,6 +61,9 @@ demand-1 =
       edits = λ mode rules tree block kept text ledger a text′ ledger′ c.
           given (OfEdit Fifteen) (edit (manuscript mode rules) tree block kept text ledger) a text ledger text′ ledger′ (c .gives)
           (edit-answers mode rules tree block kept text ledger) (edit-untouched text ledger (manuscript mode rules) tree block kept);
+      alters = λ mode rules tree k kept text ledger a text′ ledger′ c.
+          given (OfEdit Fifteen) (change (manuscript mode rules) tree k kept text ledger) a text ledger text′ ledger′ (c .gives)
+          (change-answers mode rules tree k kept text ledger) (change-untouched text ledger (manuscript mode rules) tree k kept);
     }
 
 -- ---- demand 2
@@ -154,17 +159,26 @@ pub demand-3 : EveryList
 demand-3 =
     record {
       list = λ mode rules tree text ledger kept blocks text′ ledger′ c es al said kept″ text″ ledger″ r.
-          let ks = keeps-short (modeOf mode) (rulesOf rules) in
-          let d = runs-demanded (manuscript mode rules) ks r text ledger tree
-          (converts-holds (manuscript mode rules) ks tree text ledger kept blocks c) al in
+          let d = converted-demanded (manuscript mode rules) (keeps-short (modeOf mode) (rulesOf rules)) tree text ledger kept blocks c r al in
           (d .0, d .1);
       starts = λ mode rules tree text ledger kept blocks text′ ledger′ c text₁ ledger₁ same-text same-rows.
           converts-starts (manuscript mode rules) (keeps-short (modeOf mode) (rulesOf rules)) tree text ledger kept blocks c text₁ ledger₁
           same-text same-rows;
       runs = λ mode rules kept text ledger es said kept′ text′ ledger′ r.
-          runs-demanded (manuscript mode rules) (keeps-short (modeOf mode) (rulesOf rules)) r;
+          alters-demanded (manuscript mode rules) (keeps-short (modeOf mode) (rulesOf rules)) r;
       blocks = same-tree;
-      six = λ mode rules t l old e. demanded-six (manuscript mode rules) (numbered (modeOf mode) (rulesOf rules)) t l old e;
+      six = λ mode rules t l old e. demanded-change-six (manuscript mode rules) (numbered (modeOf mode) (rulesOf rules)) t l old e;
       counts = λ mode rules t l old s ho e p.
+          demanded-change-counts (manuscript mode rules) (keeps-short (modeOf mode) (rulesOf rules)) t l old s ho e p;
+      edits = λ mode rules tree block kept text ledger a text′ ledger′ c. edits-alter c;
+      edits-list = λ mode rules tree text ledger kept blocks text′ ledger′ c es al said kept″ text″ ledger″ r.
+          let ks = keeps-short (modeOf mode) (rulesOf rules) in
+          let d = runs-demanded (manuscript mode rules) ks r text ledger tree
+          (converts-holds (manuscript mode rules) ks tree text ledger kept blocks c) al in
+          (d .0, d .1);
+      edits-runs = λ mode rules kept text ledger es said kept′ text′ ledger′ r.
+          runs-demanded (manuscript mode rules) (keeps-short (modeOf mode) (rulesOf rules)) r;
+      edits-six = λ mode rules t l old e. demanded-six (manuscript mode rules) (numbered (modeOf mode) (rulesOf rules)) t l old e;
+      edits-counts = λ mode rules t l old s ho e p.
           demanded-counts (manuscript mode rules) (keeps-short (modeOf mode) (rulesOf rules)) t l old s ho e p;
     }

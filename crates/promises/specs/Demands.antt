@@ -1,8 +1,9 @@
 -- The three demands on the product, each as one type; proofs/Demands.antt has a term of each (`demand-1`, `demand-2`, `demand-3`). They
 -- speak of calls that meet their contracts. The contract of `calls::convert` is `Converts (manuscript mode rules) tree text ledger a text′
--- ledger′`: a is its answer, text and ledger are the buffers as lent, text′ and ledger′ as left. That of `calls::edit` is `Edits`. Neither
--- asks anything of its caller. `manuscript mode rules` is the product in one mode with one rule file: refusals 1 to 5, and the conversion
--- of a block. That every call ends is proved by the checker, of each function.
+-- ledger′`: a is its answer, text and ledger are the buffers as lent, text′ and ledger′ as left. That of `calls::edit` is `Edits`. Those of
+-- `calls::insert` and `calls::remove` are `Alters`, with the change `putIn position` and `takeOut block`; Edit's says the same as `Alters`
+-- with `replace block`. None asks anything of its caller. `manuscript mode rules` is the product in one mode with one rule file: refusals 1
+-- to 5, and the conversion of a block. That every call ends is proved by the checker, of each function.
 use mathlib.Core.Path.{_≡_}
 use mathlib.Core.Logic.{_↔_}
 use mathlib.Core.Bool.{Bool, true, false, _&&_}
@@ -31,6 +32,9 @@ use Rattle.edit_meaning.specs.Edit.{Answer, roomForText, atFront}
 use Rattle.edit_meaning.specs.Edit.Answer.{refused, converted, edited}
 use Rattle.edit_meaning.specs.Run.{Edit, Kept, lacks, carriesFrom, demanded, reference, Permitted, Allowed, Holds}
 use Rattle.edit_meaning.specs.Calls.{Converts, Edits, Runs, Untouched, Demanded}
+use Rattle.edit_meaning.specs.Changes.{Kind, Change, lacksNamed, FirstSameBy, demandedChange, referenceChanges, PermittedChange, AllowedChanges}
+use Rattle.edit_meaning.specs.Changes.Kind.{replace}
+use Rattle.edit_meaning.specs.ChangeCalls.{Alters, RunsChanges, DemandedChanges}
 use Rattle.edit_meaning.specs.Numbers.{Fifteen, ConvertNumber, OfConvert, OfEdit}
 use Rattle.manuscript.specs.Manuscript.{modeOf, manuscript}
 
@@ -46,6 +50,11 @@ pub record AnyCaller : Type 0 where
   pub edits :
       (mode : ℕ) (rules tree : List ℕ) (block kept : ℕ) (text ledger : List ℕ) (a : Answer) (text′ ledger′ : List ℕ)
       → Edits (manuscript mode rules) tree block kept text ledger a text′ ledger′
+      → OfEdit Fifteen a × Untouched a text ledger text′ ledger′
+  -- an insertion, a removal, or a replacement
+  pub alters :
+      (mode : ℕ) (rules tree : List ℕ) (k : Kind) (kept : ℕ) (text ledger : List ℕ) (a : Answer) (text′ ledger′ : List ℕ)
+      → Alters (manuscript mode rules) tree k kept text ledger a text′ ledger′
       → OfEdit Fifteen a × Untouched a text ledger text′ ledger′
 
 -- ---- Demand 2
@@ -91,18 +100,20 @@ pub record FollowsReference : Type 0 where
 
 -- ---- Demand 3
 
--- After every list of edits, refused ones included, text and ledger are those of converting the last accepted document from its start.
+-- After every list of changes, which are edits, insertions and removals in any order, refused ones included, text and ledger are those of
+-- converting the last accepted document from its start.
 pub record EveryList : Type 0 where
-  -- Convert accepted a document; then Edit was called for each of a list, each time with what the call before left (`Runs`), and each edit
-  -- changes no block but the one that it names (`Allowed`). Then the answers are those that conversions from the start demand, and
-  -- the buffers hold the text and the block rows of the last accepted document.
+  -- Convert accepted a document; then a change was called for each of a list, each time with what the call before left (`RunsChanges`), and
+  -- each new tree is the document that it meets with the named block replaced, with one block more at the named position, or without the
+  -- named block (`AllowedChanges`). Then the answers are those that conversions from the start demand, and the buffers hold the text and
+  -- the block rows of the last accepted document.
   pub list :
       (mode : ℕ) (rules tree text ledger : List ℕ) (kept blocks : ℕ) (text′ ledger′ : List ℕ)
-      → Converts (manuscript mode rules) tree text ledger (converted kept blocks) text′ ledger′ → (es : List Edit)
-      → Allowed (manuscript mode rules) text ledger tree es → (said : List Answer) (kept″ : ℕ) (text″ ledger″ : List ℕ)
-      → Runs (manuscript mode rules) kept text′ ledger′ es said kept″ text″ ledger″
-      → (said ≡ (reference (manuscript mode rules) text ledger tree es) .answers)
-      × Holds (manuscript mode rules) text ledger ((reference (manuscript mode rules) text ledger tree es) .last)
+      → Converts (manuscript mode rules) tree text ledger (converted kept blocks) text′ ledger′ → (es : List Change)
+      → AllowedChanges (manuscript mode rules) text ledger tree es → (said : List Answer) (kept″ : ℕ) (text″ ledger″ : List ℕ)
+      → RunsChanges (manuscript mode rules) kept text′ ledger′ es said kept″ text″ ledger″
+      → (said ≡ (referenceChanges (manuscript mode rules) text ledger tree es) .answers)
+      × Holds (manuscript mode rules) text ledger ((referenceChanges (manuscript mode rules) text ledger tree es) .last)
       (record { text = text″; ledger = ledger″; size = kept″ })
   -- A run may start from any buffers that hold the text and the block rows of an accepted Convert, other bytes being any.
   pub starts :
@@ -110,23 +121,58 @@ pub record EveryList : Type 0 where
       → Converts (manuscript mode rules) tree text ledger (converted kept blocks) text′ ledger′ → (text₁ ledger₁ : List ℕ)
       → take kept text₁ ≡ take kept text′ → take (rowSize * blocks) ledger₁ ≡ take (rowSize * blocks) ledger′
       → Holds (manuscript mode rules) text₁ ledger₁ tree (record { text = text₁; ledger = ledger₁; size = kept })
-  -- And then the same holds, and after each accepted edit what follows the blocks converted again is the kept text, moved (`TailsMoved`).
+  -- And then the same holds, and after each accepted change what follows the blocks converted again is the kept text, moved
+  -- (`ChangesMoved`).
   pub runs :
-      (mode : ℕ) (rules : List ℕ) (kept : ℕ) (text ledger : List ℕ) (es : List Edit) (said : List Answer) (kept′ : ℕ) (text′ ledger′ : List ℕ)
-      → Runs (manuscript mode rules) kept text ledger es said kept′ text′ ledger′
-      → Demanded (manuscript mode rules) kept text ledger es said kept′ text′ ledger′
-  -- `Allowed` compares blocks as trees. That is to compare rows and token texts: where these are the same, so are the trees.
+      (mode : ℕ) (rules : List ℕ) (kept : ℕ) (text ledger : List ℕ) (es : List Change) (said : List Answer) (kept′ : ℕ)
+      (text′ ledger′ : List ℕ)
+      → RunsChanges (manuscript mode rules) kept text ledger es said kept′ text′ ledger′
+      → DemandedChanges (manuscript mode rules) kept text ledger es said kept′ text′ ledger′
+  -- `AllowedChanges` compares blocks as trees. That is to compare rows and token texts: where these are the same, so are the trees.
   pub blocks :
       (t u : Tree) → Sound t → Sound u → length (rowsOf t) < cap → length (textOf t) < cap → rowsOf t ≡ rowsOf u → textOf t ≡ textOf u
       → t ≡ u
-  -- 6 is demanded exactly where, past 1 to 5, the named block does not exist.
+  -- 6 is demanded exactly where, past 1 to 5, the named block or position is not there, told by the new tree's count of blocks
+  -- (`namedThere`).
   pub six :
+      (mode : ℕ) (rules t l old : List ℕ) (e : Change)
+      → (demandedChange (manuscript mode rules) t l old e ≡ refused 6 0)
+      ↔ (lacksNamed ((manuscript mode rules) .check (e .tree)) (e .kind) ≡ true)
+  -- The count of an accepted change goes from the named place to the first block after which both documents' conversions carry the same, or
+  -- to the last (`FirstSameBy`). What is carried after a block is compared with what the old document carries after the same block, or
+  -- after the one that it replaced; after a block put in, with what was carried before the position. A removal counts none where the old document carries the same
+  -- before the block taken out and after it.
+  pub counts :
+      (mode : ℕ) (rules t l old : List ℕ) (s : Kept) → Holds (manuscript mode rules) t l old s → (e : Change)
+      → PermittedChange (manuscript mode rules) t l old e → (len : ℕ) (growth : ℤ) (n : ℕ)
+      → demandedChange (manuscript mode rules) t l old e ≡ edited len growth n
+      → FirstSameBy (e .kind) (carriesFrom (manuscript mode rules) 0 (e .tree)) (carriesFrom (manuscript mode rules) 0 old) n
+  -- A call of Edit is one that changes `replace block`, so calls of Edit may stand in a run of changes.
+  pub edits :
+      (mode : ℕ) (rules tree : List ℕ) (block kept : ℕ) (text ledger : List ℕ) (a : Answer) (text′ ledger′ : List ℕ)
+      → Edits (manuscript mode rules) tree block kept text ledger a text′ ledger′
+      → Alters (manuscript mode rules) tree (replace block) kept text ledger a text′ ledger′
+  -- `list` of edits alone. Convert accepted a document; then Edit was called for each of a list, each time with what the call before left
+  -- (`Runs`), and each edit changes no block but the one that it names (`Allowed`). Then the answers are those that conversions from the
+  -- start demand, and the buffers hold the text and the block rows of the last accepted document.
+  pub edits-list :
+      (mode : ℕ) (rules tree text ledger : List ℕ) (kept blocks : ℕ) (text′ ledger′ : List ℕ)
+      → Converts (manuscript mode rules) tree text ledger (converted kept blocks) text′ ledger′ → (es : List Edit)
+      → Allowed (manuscript mode rules) text ledger tree es → (said : List Answer) (kept″ : ℕ) (text″ ledger″ : List ℕ)
+      → Runs (manuscript mode rules) kept text′ ledger′ es said kept″ text″ ledger″
+      → (said ≡ (reference (manuscript mode rules) text ledger tree es) .answers)
+      × Holds (manuscript mode rules) text ledger ((reference (manuscript mode rules) text ledger tree es) .last)
+      (record { text = text″; ledger = ledger″; size = kept″ })
+  -- `runs`, `six` and `counts` of edits alone.
+  pub edits-runs :
+      (mode : ℕ) (rules : List ℕ) (kept : ℕ) (text ledger : List ℕ) (es : List Edit) (said : List Answer) (kept′ : ℕ) (text′ ledger′ : List ℕ)
+      → Runs (manuscript mode rules) kept text ledger es said kept′ text′ ledger′
+      → Demanded (manuscript mode rules) kept text ledger es said kept′ text′ ledger′
+  pub edits-six :
       (mode : ℕ) (rules t l old : List ℕ) (e : Edit)
       → (demanded (manuscript mode rules) t l old e ≡ refused 6 0)
       ↔ (lacks ((manuscript mode rules) .check (e .tree)) (e .block) ≡ true)
-  -- The count of an accepted edit goes from the named block to the first after which both documents' conversions carry the same, or to the
-  -- last.
-  pub counts :
+  pub edits-counts :
       (mode : ℕ) (rules t l old : List ℕ) (s : Kept) → Holds (manuscript mode rules) t l old s → (e : Edit)
       → Permitted (manuscript mode rules) t l old e → (len : ℕ) (growth : ℤ) (n : ℕ)
       → demanded (manuscript mode rules) t l old e ≡ edited len growth n

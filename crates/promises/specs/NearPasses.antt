@@ -1,8 +1,8 @@
 -- Near passes: programs that do nearly what is asked. For each of them two calls, of real files, at which no program that meets the
--- contract of Convert and Edit answers so. The calls are those of the tables of `Starred`, and some of the same files in other buffers.
+-- contracts of the calls answers so. The calls are those of the tables of `Starred`, and some of the same files in other buffers.
 use mathlib.Core.Path.{_≡_, refl, sym, ap, subst, subst₂, _∙_}
 use mathlib.Core.List.{List, [], _∷_, _++_, map, flatten}
-use Prim.Native.Nat.{ℕ, _*_, _-_}
+use Prim.Native.Nat.{ℕ, _*_, _-_, _≤_}
 use native.Mathlib.Omega.{arith}
 use lib.IntN.{pos, negsuc}
 use lib.ListN.{take, drop, getD, replicate}
@@ -11,9 +11,10 @@ use Rattle.ledger.specs.Ledger.{rowSize}
 use Rattle.edit_meaning.specs.Edit.{Answer, Result, atFront}
 use Rattle.edit_meaning.specs.Edit.Answer.{refused, converted, edited}
 use Rattle.edit_meaning.specs.Calls.{Gives, Converts, Edits}
+use Rattle.edit_meaning.specs.ChangeCalls.{Alters}
 use Rattle.manuscript.specs.Manuscript.{manuscript}
-use Rattle.promises.specs.Starred.{zeros, Call, Trial, trial, result, hand, starred, small, small-hold}
-use Rattle.promises.specs.Starred.Call.{converts, edits}
+use Rattle.promises.specs.Starred.{zeros, Call, Trial, trial, result, hand, starred, small, small-hold, altered, altered-hold}
+use Rattle.promises.specs.Starred.Call.{converts, edits, alters}
 
 -- ---- programs
 
@@ -21,12 +22,14 @@ use Rattle.promises.specs.Starred.Call.{converts, edits}
 abbrev pub Program : Type 0
 Program = Call → Result
 
--- what the contracts of `convert` and `edit` say of a call
+-- what the contracts of `convert`, `edit`, `insert` and `remove` say of a call
 abbrev pub Right : Call → Result → Type 0
 Right (converts mode rules tree text ledger) r =
     Converts (manuscript mode rules) tree text ledger (r .answer) (r .text) (r .ledger)
 Right (edits mode rules tree block kept text ledger) r =
     Edits (manuscript mode rules) tree block kept text ledger (r .answer) (r .text) (r .ledger)
+Right (alters mode rules tree k kept text ledger) r =
+    Alters (manuscript mode rules) tree k kept text ledger (r .answer) (r .text) (r .ledger)
 
 abbrev pub Meets : Program → Type 0
 Meets p = (c : Call) → Right c (p c)
@@ -36,11 +39,13 @@ pub result-meets : Meets result
 unfolding result
 result-meets (converts mode rules tree text ledger) = record { gives = record { answer = refl; bytes = refl; rows = refl } }
 result-meets (edits mode rules tree block kept text ledger) = record { gives = record { answer = refl; bytes = refl; rows = refl } }
+result-meets (alters mode rules tree k kept text ledger) = record { gives = record { answer = refl; bytes = refl; rows = refl } }
 
 right-gives : (c : Call) (r : Result) → Right c r → Gives (result c) (r .answer) (r .text) (r .ledger)
 unfolding result
 right-gives (converts mode rules tree text ledger) r h = h .gives
 right-gives (edits mode rules tree block kept text ledger) r h = h .gives
+right-gives (alters mode rules tree k kept text ledger) r h = h .gives
 
 meets-is : (p : Program) → Meets p → (c : Call) → p c ≡ result c
 meets-is p m c =
@@ -53,20 +58,24 @@ meets-is p m c =
 abbrev textLent : Call → List ℕ
 textLent (converts mode rules tree text ledger) = text
 textLent (edits mode rules tree block kept text ledger) = text
+textLent (alters mode rules tree k kept text ledger) = text
 
 abbrev ledgerLent : Call → List ℕ
 ledgerLent (converts mode rules tree text ledger) = ledger
 ledgerLent (edits mode rules tree block kept text ledger) = ledger
+ledgerLent (alters mode rules tree k kept text ledger) = ledger
 
--- an edit's document converted from its start, in the same buffers
+-- the new document converted from its start, in the same buffers
 abbrev afresh : Call → Call
 afresh (converts mode rules tree text ledger) = converts mode rules tree text ledger
 afresh (edits mode rules tree block kept text ledger) = converts mode rules tree text ledger
+afresh (alters mode rules tree k kept text ledger) = converts mode rules tree text ledger
 
--- the same files in other buffers; an edit's block and kept length go with these
+-- the same files in other buffers; the kept length goes with these, and an edit's block
 abbrev inBuffers : ℕ → ℕ → List ℕ → List ℕ → Call → Call
 inBuffers block kept text ledger (converts mode rules tree t l) = converts mode rules tree text ledger
 inBuffers block kept text ledger (edits mode rules tree b k t l) = edits mode rules tree block kept text ledger
+inBuffers block kept text ledger (alters mode rules tree k n t l) = alters mode rules tree k kept text ledger
 
 abbrev noResult : Result
 noResult = record { answer = refused 0 0; text = []; ledger = [] }
@@ -114,6 +123,25 @@ shoutedCall = callAt 3 small
 abbrev foldedCall : Call
 foldedCall = inBuffers 0 2 (ascii "a ") ((1 ∷ zeros (rowSize - 1)) ++ (2 ∷ zeros (rowSize - 1))) (callAt 4 small)
 
+-- `two` taken out between `one` and `six`
+abbrev takenCall : Call
+takenCall = callAt 1 altered
+
+-- a line feed put in after a line feed
+abbrev fedCall : Call
+fedCall = callAt 2 altered
+
+-- a space put in after the label's block, and taken out again
+abbrev spacedCall : Call
+spacedCall = callAt 3 altered
+
+abbrev closedCall : Call
+closedCall = callAt 4 altered
+
+-- the label's block taken out
+abbrev looseCall : Call
+looseCall = callAt 5 altered
+
 -- what is right for those that the tables do not have
 abbrev further : List Trial
 further =
@@ -153,6 +181,10 @@ TextOfConvert r whole = take (lengthSaid (whole .answer)) (r .text) ≡ take (le
 -- after the named block, whose text ended at `old` and ends at `new`, stands what was kept there
 abbrev TailCopied : ℕ → ℕ → ℕ → Call → Result → Type 0
 TailCopied kept old new c r = take (kept - old) (drop new (r .text)) ≡ take (kept - old) (drop old (textLent c))
+
+-- the ledger from row k on is as it was lent
+abbrev RowsStay : ℕ → Call → Result → Type 0
+RowsStay k c r = drop (rowSize * k) (r .ledger) ≡ drop (rowSize * k) (ledgerLent c)
 
 abbrev byteAt : ℕ → List ℕ → ℕ
 byteAt i l = getD l i 0
@@ -229,4 +261,25 @@ module _ (p : Program) (meets : Meets p) where
   always-total = (
     λ h. let z : _≡_ {A = ℕ} 3 1 = sym h ∙ ap (λ r. countSaid (r .answer)) (at-call small small-hold 0) in omega arith,
     λ h. let z : _≡_ {A = ℕ} 3 1 = sym h ∙ ap (λ r. countSaid (r .answer)) (at-call small small-hold 3) in omega arith,
+  )
+
+  -- an insertion that does not compare with the carry before the position, so that it converts a block more
+  pub before-skipped : (countSaid ((p fedCall) .answer) ≡ 2 → ⊥) × (countSaid ((p spacedCall) .answer) ≡ 2 → ⊥)
+  before-skipped = (
+    λ h. let z : _≡_ {A = ℕ} 2 1 = sym h ∙ ap (λ r. countSaid (r .answer)) (at-call altered altered-hold 2) in omega arith,
+    λ h. let z : _≡_ {A = ℕ} 2 1 = sym h ∙ ap (λ r. countSaid (r .answer)) (at-call altered altered-hold 3) in omega arith,
+  )
+
+  -- a removal that always converts a block
+  pub always-one : (1 ≤ countSaid ((p takenCall) .answer) → ⊥) × (1 ≤ countSaid ((p closedCall) .answer) → ⊥)
+  always-one = (
+    λ h. let z : _≡_ {A = ℕ} (countSaid ((p takenCall) .answer)) 0 = ap (λ r. countSaid (r .answer)) (at-call altered altered-hold 1) in omega arith,
+    λ h. let z : _≡_ {A = ℕ} (countSaid ((p closedCall) .answer)) 0 = ap (λ r. countSaid (r .answer)) (at-call altered altered-hold 4) in omega arith,
+  )
+
+  -- a removal that leaves the row left over as it was
+  pub rows-stay : (RowsStay 2 takenCall (p takenCall) → ⊥) × (RowsStay 1 looseCall (p looseCall) → ⊥)
+  rows-stay = (
+    λ h. let z : _≡_ {A = ℕ} 0 9 = ap (byteAt 0) (subst (RowsStay 2 takenCall) (at-call altered altered-hold 1) h) in omega arith,
+    λ h. let z : _≡_ {A = ℕ} 0 160 = ap (byteAt 0) (subst (RowsStay 1 looseCall) (at-call altered altered-hold 5) h) in omega arith,
   )

@@ -1,6 +1,7 @@
 -- The starred ones of the cases tried by hand, as one statement over a table: files and buffers in, an answer and buffers out, all
--- of them bytes, by the definitions that the contracts of Convert and Edit cite (`result`). The table is `hand`, the statement
--- `starred`. A second table, `small`, has edits of three words, refused ones among them, and buffers one byte too short.
+-- of them bytes, by the definitions that the contracts of the calls cite (`result`). The table is `hand`, the statement `starred`. A second
+-- table, `small`, has edits of three words, refused ones among them, and buffers one byte too short; a third, `altered`, has insertions and
+-- removals.
 -- A file is written as it stands: the text area, which reads like LaTeX, its rows of 8 bytes, and the trailer. Bytes that no call
 -- has written are 7, so that one sees what is left alone.
 use mathlib.Core.Path.{_≡_, refl}
@@ -29,6 +30,8 @@ use Rattle.edit_meaning.specs.Walk.{walk, walkUntil}
 use Rattle.edit_meaning.specs.Edit.{Answer, Result, roomForText, room, settle, conversion, convertDocument}
 use Rattle.edit_meaning.specs.Edit.{editFits, textAfter, ledgerAfter, write, again, edit}
 use Rattle.edit_meaning.specs.Edit.Answer.{refused, converted, edited}
+use Rattle.edit_meaning.specs.Changes.{Kind, changeFits, puttingIn, takingOut, remake, frontOver, exchange, change}
+use Rattle.edit_meaning.specs.Changes.Kind.{putIn, takeOut}
 use Rattle.manuscript.specs.Manuscript.{manuscript}
 
 -- ---- calls
@@ -37,14 +40,17 @@ use Rattle.manuscript.specs.Manuscript.{manuscript}
 pub data Call : Type 0 where
   converts : (mode : ℕ) (rules tree text ledger : List ℕ) → Call
   edits : (mode : ℕ) (rules tree : List ℕ) (block kept : ℕ) (text ledger : List ℕ) → Call
+  alters : (mode : ℕ) (rules tree : List ℕ) (k : Kind) (kept : ℕ) (text ledger : List ℕ) → Call
 
 -- what it answers and leaves; whoever unfolds this unfolds all that a call computes by, of which `hold` has the conversion's part
 unfoldable pub result : Call → Result
 unfolding rulesOf rulesIn ruleRowFits risesFrom valid charSteps precedes checkTree decode lines treeRowAt grow split count depth lowest hold
     walk walkUntil conversion convertDocument settle room roomForText edit editFits again write textAfter ledgerAfter
+    change changeFits remake puttingIn takingOut exchange frontOver
     encodeRow encodeCarry decodeRow fits rowFits marksFit allZero moveRow sameCarry
 result (converts mode rules tree text ledger) = convertDocument (manuscript mode rules) tree text ledger
 result (edits mode rules tree block kept text ledger) = edit (manuscript mode rules) tree block kept text ledger
+result (alters mode rules tree k kept text ledger) = change (manuscript mode rules) tree k kept text ledger
 
 -- a call, and what it is to give: an answer, the text buffer and the ledger
 pub record Trial : Type 0 where
@@ -90,6 +96,13 @@ zeros n = replicate n 0
 -- a row of the ledger: its first bytes (4 of the length, the flag, whether a label is held, its length, a zero, the label), then zeros
 abbrev ledgerRow : List ℕ → List ℕ
 ledgerRow l = l ++ zeros (rowSize - length l)
+
+-- a row after a block that sets the flag, as a line feed does; a row that holds the label `e`
+abbrev flagRow : ℕ → List ℕ
+flagRow n = ledgerRow (n ∷ 0 ∷ 0 ∷ 0 ∷ 1 ∷ [])
+
+abbrev labelRow : ℕ → List ℕ
+labelRow n = ledgerRow (n ∷ 0 ∷ 0 ∷ 0 ∷ 0 ∷ 1 ∷ 1 ∷ 0 ∷ 101 ∷ [])
 
 -- a ledger that no call has written, with two bytes more than the rows of so many blocks
 abbrev ledgerFor : ℕ → List ℕ
@@ -149,19 +162,25 @@ tableText =
     ascii "#table(stroke: none,\ncolumns: 1,\nalign: (left, ),\n"
     ++ ascii "table.vline(stroke: .5pt, x: 0), table.vline(stroke: .5pt, x: 1), \n[a],\n);"
 
--- `${\\label{e}}$` and then that table; and block 0 of it edited to `a`
+-- that table alone; `${\label{e}}$` and then that table; and block 0 of this edited to `a`
+abbrev pub tableTree : List ℕ
+tableTree = treeWith "tabular{|l|}a\\\\tabular" tableRows
+
 abbrev pub labelledTree : List ℕ
 labelledTree = treeWith "${\\label{e}}$tabular{|l|}a\\\\tabular" (formulaRows ++ tableRows)
 
 abbrev pub unlabelledTree : List ℕ
 unlabelledTree = treeWith "atabular{|l|}a\\\\tabular" (wordRow 1 ∷ tableRows)
 
--- the first of these, converted: the first row holds the label `e`
+abbrev formulaText : List ℕ
+formulaText = ascii "#math.equation(block: false, $$);"
+
+-- the second of these, converted: the first row holds the label `e`
 abbrev keptText : List ℕ
-keptText = ascii "#math.equation(block: false, $$);" ++ tableText ++ ascii "<e>" ++ sevens 5
+keptText = formulaText ++ tableText ++ ascii "<e>" ++ sevens 5
 
 abbrev keptLedger : List ℕ
-keptLedger = ledgerRow (33 ∷ 0 ∷ 0 ∷ 0 ∷ 0 ∷ 1 ∷ 1 ∷ 0 ∷ 101 ∷ []) ++ ledgerRow (160 ∷ []) ++ sevens 4
+keptLedger = labelRow 33 ++ ledgerRow (160 ∷ []) ++ sevens 4
 
 -- ---- the starred cases
 
@@ -175,7 +194,7 @@ hand =
     (converted 4 1) (ascii "a b " ++ sevens 2) (ledgerRow (4 ∷ []) ++ sevens 2)
     -- line feed, space, space: the flag is set after the first
     ∷ trial (converts textMode ruleFile (treeWith "\n  " (breakRow ∷ spaceRow ∷ spaceRow ∷ [])) (sevens 4) (ledgerFor 3))
-    (converted 2 3) (ascii "\n " ++ sevens 2) (ledgerRow (1 ∷ 0 ∷ 0 ∷ 0 ∷ 1 ∷ []) ++ ledgerRow (1 ∷ []) ++ ledgerRow (2 ∷ []) ++ sevens 2)
+    (converted 2 3) (ascii "\n " ++ sevens 2) (flagRow 1 ++ ledgerRow (1 ∷ []) ++ ledgerRow (2 ∷ []) ++ sevens 2)
     -- one leading space
     ∷ trial (converts textMode ruleFile (treeWith " " (spaceRow ∷ [])) (sevens 3) (ledgerFor 1))
     (converted 1 1) (ascii " " ++ sevens 2) (ledgerRow (1 ∷ []) ++ sevens 2)
@@ -197,7 +216,7 @@ hand =
     -- `\item` as row 1
     ∷ trial (converts textMode ruleFile (treeWith "\\item" itemRows) (sevens 2) (ledgerFor 1)) (refused 11 1) (sevens 2) (ledgerFor 1)
     -- the table
-    ∷ trial (converts textMode ruleFile (treeWith "tabular{|l|}a\\\\tabular" tableRows) (sevens 126) (ledgerFor 1))
+    ∷ trial (converts textMode ruleFile tableTree (sevens 126) (ledgerFor 1))
     (converted 124 1) (tableText ++ sevens 2) (ledgerRow (124 ∷ []) ++ sevens 2)
     -- `${\label{e}}$` then that table
     ∷ trial (converts textMode ruleFile labelledTree (sevens 165) (sevens (rowSize * 2 + 4)))
@@ -237,8 +256,8 @@ small =
     ∷ trial (edits textMode ruleFile (wordsTree "onexsix" 1) 1 9 (ascii "ONETWOSIX") wordsLedger)
     (edited 7 (minus 2) 1) (ascii "ONExSIX" ++ zeros 2) (ledgerRow (3 ∷ []) ++ ledgerRow (4 ∷ []) ++ ledgerRow (7 ∷ []) ++ sevens 2)
     -- a block begins with the flag of the row before: a space after a line feed writes nothing
-    ∷ trial (edits textMode ruleFile (treeWith "\n " (breakRow ∷ spaceRow ∷ [])) 1 2 (ascii "\na") (ledgerRow (1 ∷ 0 ∷ 0 ∷ 0 ∷ 1 ∷ []) ++ ledgerRow (2 ∷ [])))
-    (edited 1 (minus 1) 1) (ascii "\n" ++ zeros 1) (ledgerRow (1 ∷ 0 ∷ 0 ∷ 0 ∷ 1 ∷ []) ++ ledgerRow (1 ∷ []))
+    ∷ trial (edits textMode ruleFile (treeWith "\n " (breakRow ∷ spaceRow ∷ [])) 1 2 (ascii "\na") (flagRow 1 ++ ledgerRow (2 ∷ [])))
+    (edited 1 (minus 1) 1) (ascii "\n" ++ zeros 1) (flagRow 1 ++ ledgerRow (1 ∷ []))
     -- 6: no such block; the kept length is not the last row's, or exceeds the buffer; a row one byte too short; lengths that fall
     ∷ trial (edits textMode ruleFile (wordsTree "onexsix" 1) 3 9 wordsText wordsLedger) (refused 6 0) wordsText wordsLedger
     ∷ trial (edits textMode ruleFile (wordsTree "onexsix" 1) 1 8 wordsText wordsLedger) (refused 6 0) wordsText wordsLedger
@@ -261,11 +280,60 @@ pub small-hold : map (λ c. result (c .call)) small ≡ map (λ c. c .gives) sma
 unfolding result flatten
 small-hold = refl
 
+-- ---- blocks put in and taken out
+
+-- `one`, `two`, `six` with `x` after `one`, and without `two`
+abbrev fourTree : List ℕ
+fourTree = treeWith "onextwosix" (wordRow 3 ∷ wordRow 1 ∷ wordRow 3 ∷ wordRow 3 ∷ [])
+
+abbrev twoTree : List ℕ
+twoTree = treeWith "onesix" (wordRow 3 ∷ wordRow 3 ∷ [])
+
+-- a space between the label's block and the table; and this converted
+abbrev spacedTree : List ℕ
+spacedTree = treeWith "${\\label{e}}$ tabular{|l|}a\\\\tabular" (formulaRows ++ spaceRow ∷ tableRows)
+
+abbrev spacedText : List ℕ
+spacedText = formulaText ++ ascii " " ++ tableText ++ ascii "<e>" ++ sevens 4
+
+abbrev spacedLedger : List ℕ
+spacedLedger = labelRow 33 ++ labelRow 34 ++ ledgerRow (161 ∷ []) ++ sevens 4
+
+abbrev pub altered : List Trial
+altered =
+    -- `x` put in after `one`: the later rows move by a place and in length; `two` taken out: nothing is converted, and the row left over
+    -- is zeros
+    trial (alters textMode ruleFile fourTree (putIn 1) 9 wordsText (wordsLedger ++ sevens rowSize))
+    (edited 10 (pos 1) 1) (ascii "onextwosix" ++ sevens 2) (ledgerRow (3 ∷ []) ++ ledgerRow (4 ∷ []) ++ ledgerRow (7 ∷ []) ++ ledgerRow (10 ∷ []) ++ sevens 2)
+    ∷ trial (alters textMode ruleFile twoTree (takeOut 1) 9 wordsText wordsLedger)
+    (edited 6 (minus 3) 0) (ascii "onesix" ++ zeros 3 ++ sevens 3) (ledgerRow (3 ∷ []) ++ ledgerRow (6 ∷ []) ++ zeros rowSize ++ sevens 2)
+    -- a line feed after one, before a space that writes nothing: the flag is the one that stood before the position
+    ∷ trial (alters textMode ruleFile (treeWith "\n\n " (breakRow ∷ breakRow ∷ spaceRow ∷ [])) (putIn 1) 1 (ascii "\n" ++ sevens 2) (flagRow 1 ++ ledgerRow (1 ∷ []) ++ sevens (rowSize + 2)))
+    (edited 2 (pos 1) 1) (ascii "\n\n" ++ sevens 1) (flagRow 1 ++ flagRow 2 ++ ledgerRow (2 ∷ []) ++ sevens 2)
+    -- a space put in after the label's block, which is held on, and taken out again
+    ∷ trial (alters textMode ruleFile spacedTree (putIn 1) 160 keptText (keptLedger ++ sevens rowSize)) (edited 161 (pos 1) 1) spacedText spacedLedger
+    ∷ trial (alters textMode ruleFile labelledTree (takeOut 1) 161 spacedText spacedLedger)
+    (edited 160 (minus 1) 0) (formulaText ++ tableText ++ ascii "<e>" ++ zeros 1 ++ sevens 4) (labelRow 33 ++ ledgerRow (160 ∷ []) ++ zeros rowSize ++ sevens 4)
+    -- the label's block taken out: the table is converted again, and loses its label
+    ∷ trial (alters textMode ruleFile tableTree (takeOut 0) 160 keptText keptLedger)
+    (edited 124 (minus 36) 1) (tableText ++ zeros 36 ++ sevens 5) (ledgerRow (124 ∷ []) ++ zeros rowSize ++ sevens 4)
+    -- 15: the ledger has no place for the row put in. 6: a position beyond the old count, no block to put in, no block to take out
+    ∷ trial (alters textMode ruleFile fourTree (putIn 1) 9 wordsText wordsLedger) (refused 15 0) wordsText wordsLedger
+    ∷ trial (alters textMode ruleFile fourTree (putIn 4) 9 wordsText wordsLedger) (refused 6 0) wordsText wordsLedger
+    ∷ trial (alters textMode ruleFile (treeWith "" []) (putIn 0) 0 wordsText wordsLedger) (refused 6 0) wordsText wordsLedger
+    ∷ trial (alters textMode ruleFile twoTree (takeOut 3) 9 wordsText wordsLedger) (refused 6 0) wordsText wordsLedger
+    ∷ []
+
+pub altered-hold : map (λ c. result (c .call)) altered ≡ map (λ c. c .gives) altered
+unfolding result flatten
+altered-hold = refl
+
 -- ---- the files once more
 
 abbrev treeLent : Call → List ℕ
 treeLent (converts mode rules tree text ledger) = tree
 treeLent (edits mode rules tree block kept text ledger) = tree
+treeLent (alters mode rules tree k kept text ledger) = tree
 
 -- one of them byte by byte; and those of the twelve conversions spell the rules and the trees of the worked ones in `mitex_meaning`
 files :

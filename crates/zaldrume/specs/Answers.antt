@@ -1,6 +1,7 @@
 -- What a call tells by numbers: the refusal's number (0 where there is none), a place (the refusal's row, else the text's length),
 -- the growth and a count (both 0 where there is none), and the bytes that it leaves in the two buffers. No refusal has the number 0
--- (`convert-answers`, `edit-answers` of crate `manuscript`), so the numbers spell the answer (`convert-told`, `edit-told`).
+-- (`convert-answers`, `edit-answers`, `change-answers` of crate `manuscript`), so the numbers spell the answer (`convert-told`, `edit-told`,
+-- `change-told`).
 use mathlib.Core.Path.{_≡_}
 use mathlib.Core.List.{List}
 use Prim.Native.Nat.{ℕ, zero, suc}
@@ -28,15 +29,20 @@ countTold (refused number row) = 0
 countTold (converted len blocks) = blocks
 countTold (edited len growth count) = count
 
+-- an answer told
+pub record AnswerTold (a : Answer) (number place : ℕ) (growth : ℤ) (count : ℕ) : Type 0 where
+  pub said : number ≡ numberTold a
+  pub stands : place ≡ placeTold a
+  pub grown : growth ≡ growthTold a
+  pub counted : count ≡ countTold a
+
+-- what a call gives, told, with the bytes that it leaves
 pub record Tells (r : Result) (number place : ℕ) (growth : ℤ) (count : ℕ) (text ledger : List ℕ) : Type 0 where
-  pub said : number ≡ numberTold (r .answer)
-  pub stands : place ≡ placeTold (r .answer)
-  pub grown : growth ≡ growthTold (r .answer)
-  pub counted : count ≡ countTold (r .answer)
+  pub told : AnswerTold (r .answer) number place growth count
   pub bytes : text ≡ r .text
   pub rows : ledger ≡ r .ledger
 
--- the answer that the numbers of Convert spell, and those of Edit
+-- the answer that the numbers of Convert spell, and those of a change
 abbrev pub convertTold : (number place count : ℕ) → Answer
 convertTold zero place count = converted place count
 convertTold (suc n) place count = refused (suc n) place

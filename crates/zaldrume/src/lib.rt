@@ -1,10 +1,12 @@
-// Convert and Edit for programs in other languages, on numbers and byte slices: `include/zaldrume.h` says how each passes.
-// The answer is a refusal's number, 0 where there is none, and numbers written through the lent places.
+// Convert and the three changes of one block for programs in other languages, on numbers and byte slices: `include/zaldrume.h` says how
+// each passes. The answer is a refusal's number, 0 where there is none, and numbers written through the lent places.
 use calls::Converted;
 use calls::Edited;
 ghost use Rattle.edit_meaning.specs.Edit.{convertDocument, edit as editDocument};
+ghost use Rattle.edit_meaning.specs.Changes.{putIn, takeOut, change};
 ghost use Rattle.manuscript.specs.Manuscript.{manuscript};
-ghost use Rattle.zaldrume.specs.Answers.{Tells};
+ghost use Rattle.calls.specs.Calls.{answerOfEdit};
+ghost use Rattle.zaldrume.specs.Answers.{AnswerTold, Tells};
 
 // Convert: `place` is the text's length or the refusal's row, `count` the count of blocks.
 #[no_mangle]
@@ -36,25 +38,12 @@ pub extern "C" fn zaldrume_convert<'a>(
     }
 }
 
-// Edit: `place` is the new length or the refusal's row, `growth` the new length less the old, `count` how many blocks were
-// converted again.
-#[no_mangle]
-pub extern "C" fn zaldrume_edit<'a>(
-    mode: u8,
-    rules: &'a [u8],
-    tree: &'a [u8],
-    block: usize,
-    kept: usize,
-    text: &mut [u8],
-    ledger: &mut [u8],
-    place: &mut usize,
-    growth: &mut i64,
-    count: &mut usize,
-) -> u8
-    ensures { λ r. ⌜ Tells (editDocument (manuscript mode (now (rules .entry))) (now (tree .entry)) block kept (now (text .entry))
-        (now (ledger .entry))) r (now (place .exit)) (now (growth .exit)) (now (count .exit)) (now (text .exit)) (now (ledger .exit)) ⌝ }
+// What a change answers, by numbers: `place` is the new length or the refusal's row, `growth` the new length less the old, `count` how
+// many blocks were converted again.
+fn tell(r: Edited, place: &mut usize, growth: &mut i64, count: &mut usize) -> u8
+    ensures { λ n. ⌜ AnswerTold (answerOfEdit r) n (now (place .exit)) (now (growth .exit)) (now (count .exit)) ⌝ }
 {
-    match calls::edit(mode, rules, tree, block, kept, text, ledger) {
+    match r {
         Edited::Refused { number, row } => {
             *place = row;
             *growth = 0;
@@ -72,4 +61,67 @@ pub extern "C" fn zaldrume_edit<'a>(
             0
         }
     }
+}
+
+// Edit: block `block` is replaced.
+#[no_mangle]
+pub extern "C" fn zaldrume_edit<'a>(
+    mode: u8,
+    rules: &'a [u8],
+    tree: &'a [u8],
+    block: usize,
+    kept: usize,
+    text: &mut [u8],
+    ledger: &mut [u8],
+    place: &mut usize,
+    growth: &mut i64,
+    count: &mut usize,
+) -> u8
+    ensures { λ r. ⌜ Tells (editDocument (manuscript mode (now (rules .entry))) (now (tree .entry)) block kept (now (text .entry))
+        (now (ledger .entry))) r (now (place .exit)) (now (growth .exit)) (now (count .exit)) (now (text .exit)) (now (ledger .exit)) ⌝ }
+{
+    let r = calls::edit(mode, rules, tree, block, kept, text, ledger);
+    tell(r, place, growth, count)
+}
+
+// An insertion: a block is put in before `position`.
+#[no_mangle]
+pub extern "C" fn zaldrume_insert<'a>(
+    mode: u8,
+    rules: &'a [u8],
+    tree: &'a [u8],
+    position: usize,
+    kept: usize,
+    text: &mut [u8],
+    ledger: &mut [u8],
+    place: &mut usize,
+    growth: &mut i64,
+    count: &mut usize,
+) -> u8
+    ensures { λ r. ⌜ Tells (change (manuscript mode (now (rules .entry))) (now (tree .entry)) (putIn position) kept (now (text .entry))
+        (now (ledger .entry))) r (now (place .exit)) (now (growth .exit)) (now (count .exit)) (now (text .exit)) (now (ledger .exit)) ⌝ }
+{
+    let r = calls::insert(mode, rules, tree, position, kept, text, ledger);
+    tell(r, place, growth, count)
+}
+
+// A removal: block `block` is taken out.
+#[no_mangle]
+pub extern "C" fn zaldrume_remove<'a>(
+    mode: u8,
+    rules: &'a [u8],
+    tree: &'a [u8],
+    block: usize,
+    kept: usize,
+    text: &mut [u8],
+    ledger: &mut [u8],
+    place: &mut usize,
+    growth: &mut i64,
+    count: &mut usize,
+) -> u8
+    ensures { λ r. ⌜ Tells (change (manuscript mode (now (rules .entry))) (now (tree .entry)) (takeOut block) kept (now (text .entry))
+        (now (ledger .entry))) r (now (place .exit)) (now (growth .exit)) (now (count .exit)) (now (text .exit)) (now (ledger .exit)) ⌝ }
+{
+    let r = calls::remove(mode, rules, tree, block, kept, text, ledger);
+    tell(r, place, growth, count)
 }

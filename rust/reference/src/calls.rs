@@ -1,4 +1,4 @@
-//! Convert and Edit on the caller's bytes.
+//! Convert, edit, insertion and removal on the caller's bytes.
 
 use crate::converter::{Converter, Mode, Output};
 use crate::ledger::{self, Carry, Row, ROW_SIZE};
@@ -84,52 +84,167 @@ pub fn edit(
     text: &mut [u8],
     ledger: &mut [u8],
 ) -> Result<Edited, Refused> {
-    let (mode, rules, root) = open(mode, rules, tree)?;
-    let blocks = root.children();
-    if block >= blocks.len() || kept > text.len() {
-        return Err(Refused::whole(6));
-    }
-    let mut rows = ledger::decode(ledger, blocks.len(), kept).ok_or(Refused::whole(6))?;
+    let what = What::Replace;
+    change(what, mode, rules, tree, block, kept, text, ledger)
+}
 
-    let (start, carry) = match block.checked_sub(1) {
-        Some(before) => (rows[before].end, rows[before].carry.clone()),
-        None => (0, Carry::default()),
-    };
-    let room = text.len().min(TEXT_MOST);
-    let mut converter = Converter::new(&rules, mode, carry, Output::new(room));
-    let mut next = block;
-    let mut old = start;
-    while next < blocks.len() {
-        converter.convert(&blocks[next])?;
-        old = rows[next].end;
-        let settled = rows[next].carry == converter.carry;
-        rows[next] = Row {
-            end: start + converter.out.length,
-            carry: converter.carry.clone(),
-        };
-        next += 1;
-        if settled {
-            break;
+/// One block put in before a position, and those after it converted as far as the carry differs.
+pub fn insert(
+    mode: u8,
+    rules: &[u8],
+    tree: &[u8],
+    position: usize,
+    kept: usize,
+    text: &mut [u8],
+    ledger: &mut [u8],
+) -> Result<Edited, Refused> {
+    let what = What::PutIn;
+    change(what, mode, rules, tree, position, kept, text, ledger)
+}
+
+/// One block taken out, and those after it converted as far as the carry differs.
+pub fn remove(
+    mode: u8,
+    rules: &[u8],
+    tree: &[u8],
+    block: usize,
+    kept: usize,
+    text: &mut [u8],
+    ledger: &mut [u8],
+) -> Result<Edited, Refused> {
+    let what = What::TakeOut;
+    change(what, mode, rules, tree, block, kept, text, ledger)
+}
+
+/// What a change does at its place.
+#[derive(Clone, Copy, PartialEq, Eq)]
+enum What {
+    Replace,
+    PutIn,
+    TakeOut,
+}
+
+impl What {
+    /// How many blocks there were before, where there are so many now; nothing where the place was not there.
+    fn blocks_before(self, now: usize, place: usize) -> Option<usize> {
+        match self {
+            What::Replace => Some(now).filter(|&before| place < before),
+            What::PutIn => now.checked_sub(1).filter(|&before| place <= before),
+            What::TakeOut => Some(now + 1).filter(|&before| place < before),
         }
     }
-    let end = start + converter.out.length;
-    let length = end + (kept - old);
-    if length > room {
+
+    /// How many new blocks there are at the place, which are converted whatever the carry is.
+    fn new_blocks(self) -> usize {
+        match self {
+            What::Replace | What::PutIn => 1,
+            What::TakeOut => 0,
+        }
+    }
+}
+
+/// Checks 1 to 6, the blocks converted as far as they have to be, 15, and then what is written.
+#[allow(clippy::too_many_arguments)]
+fn change(
+    what: What,
+    mode: u8,
+    rules: &[u8],
+    tree: &[u8],
+    place: usize,
+    kept: usize,
+    text: &mut [u8],
+    ledger: &mut [u8],
+) -> Result<Edited, Refused> {
+    let (mode, rules, root) = open(mode, rules, tree)?;
+    let blocks = root.children();
+    let before = what.blocks_before(blocks.len(), place);
+    let before = before.ok_or(Refused::whole(6))?;
+    if kept > text.len() {
+        return Err(Refused::whole(6));
+    }
+    let old = marks(ledger, before, kept).ok_or(Refused::whole(6))?;
+
+    let room = text.len().min(TEXT_MOST);
+    let carry = old[place].carry.clone();
+    let converter = Converter::new(&rules, mode, carry, Output::new(room));
+    let first = place + what.new_blocks();
+    let part = redo(converter, blocks, &old, place, first)?;
+    let length = part.end + (kept - part.old_end);
+    if length > room || blocks.len() * ROW_SIZE > ledger.len() {
         return Err(Refused::whole(15));
     }
-    for row in &mut rows[next..] {
-        row.end = row.end - old + end;
-    }
-    text.copy_within(old..kept, end);
-    text[start..end].copy_from_slice(&converter.out.bytes);
+    text.copy_within(part.old_end..kept, part.end);
+    text[old[place].end..part.end].copy_from_slice(&part.bytes);
     if length < kept {
         text[length..kept].fill(0);
     }
-    write_rows(ledger, block, &rows[block..]);
+    write_rows(ledger, place, &part.rows);
+    if blocks.len() < before {
+        ledger[blocks.len() * ROW_SIZE..before * ROW_SIZE].fill(0);
+    }
     Ok(Edited {
         length,
         growth: length as i64 - kept as i64,
-        count: next - block,
+        count: part.count,
+    })
+}
+
+/// The kept rows after one for the start: `[i]` is what stood after `i` blocks.
+fn marks(ledger: &[u8], blocks: usize, kept: usize) -> Option<Vec<Row>> {
+    let start = Row {
+        end: 0,
+        carry: Carry::default(),
+    };
+    let rows = ledger::decode(ledger, blocks, kept)?;
+    Some([vec![start], rows].concat())
+}
+
+/// The part of a text that a change replaces.
+struct Part {
+    /// What is written there, and where it ends.
+    bytes: Vec<u8>,
+    end: usize,
+    /// Where the part ended before.
+    old_end: usize,
+    /// All rows from the place on.
+    rows: Vec<Row>,
+    /// How many blocks were converted.
+    count: usize,
+}
+
+/// Converts blocks from a place on, those before `first` in any case and then until the carry is the old one.
+fn redo(
+    mut converter: Converter,
+    blocks: &[Element],
+    old: &[Row],
+    place: usize,
+    first: usize,
+) -> Result<Part, Refused> {
+    let start = old[place].end;
+    // the old marks that have as many blocks after them
+    let left = |done: usize| &old[old.len() - 1 - (blocks.len() - done)..];
+    let mut rows = Vec::new();
+    let mut done = place;
+    while done < first || (done < blocks.len() && left(done)[0].carry != converter.carry) {
+        converter.convert(&blocks[done])?;
+        done += 1;
+        rows.push(Row {
+            end: start + converter.out.length,
+            carry: converter.carry.clone(),
+        });
+    }
+    let end = start + converter.out.length;
+    let old_end = left(done)[0].end;
+    rows.extend(left(done)[1..].iter().map(|row| Row {
+        end: row.end - old_end + end,
+        carry: row.carry.clone(),
+    }));
+    Ok(Part {
+        bytes: converter.out.bytes,
+        end,
+        old_end,
+        rows,
+        count: done - place,
     })
 }
 

@@ -7,11 +7,13 @@ use crate::made::{node, rule_file, token, tree_file, Made, MadeRule, Random};
 use crate::tree::Kind::*;
 use crate::{BLOCKS_MOST, FILE_MOST};
 
+/// A turn has so many calls.
+pub const CALLS: usize = 3;
+
 /// For each of a count of things the least mean of a few calls. In a round all things have their turn, so that the processor learns
 /// none of them by heart.
 pub fn least_means(count: usize, mut call: impl FnMut(usize)) -> Vec<f64> {
     const ROUNDS: usize = 100;
-    const CALLS: usize = 3;
     let mut least = vec![f64::INFINITY; count];
     for _ in 0..ROUNDS {
         for (i, least) in least.iter_mut().enumerate() {

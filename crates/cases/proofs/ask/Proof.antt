@@ -12,11 +12,11 @@ slice-aggregate-convert c = sym (length-take-le _ _ (omega arith))
 slice-aggregate-convert-2 : tie.Need-slice-aggregate-convert-2
 slice-aggregate-convert-2 c = sym (length-take-le _ _ (omega arith))
 
-slice-aggregate-edit : tie.Need-slice-aggregate-edit
-slice-aggregate-edit c = sym (length-take-le _ _ (omega arith))
+slice-aggregate-changed : tie.Need-slice-aggregate-changed
+slice-aggregate-changed c = sym (length-take-le _ _ (omega arith))
 
-slice-aggregate-edit-2 : tie.Need-slice-aggregate-edit-2
-slice-aggregate-edit-2 c = sym (length-take-le _ _ (omega arith))
+slice-aggregate-changed-2 : tie.Need-slice-aggregate-changed-2
+slice-aggregate-changed-2 c = sym (length-take-le _ _ (omega arith))
 
 pub ask-spec : {M : Type 1} → statement M
 ask-spec =
@@ -45,10 +45,9 @@ ask-spec =
     (λ c. search needs)
     (λ c κs. search needs)
     (λ c. search needs)
-    slice-aggregate-edit
+    slice-aggregate-changed
     (λ c. search needs)
-    slice-aggregate-edit-2
-    (λ c κs. search needs)
+    slice-aggregate-changed-2
     (λ c κs. search needs)
     (λ c. search needs)
     (λ c. search needs)

@@ -2,7 +2,7 @@
 use mathlib.Core.Path.{refl, ap}
 use borrow.Author.Needs.{needs}
 use Rattle.calls.specs.Calls.{answerOfConvert}
-use Rattle.zaldrume.proofs.Telling.{tells}
+use Rattle.zaldrume.proofs.Telling.{told-as, tells}
 use Rattle.zaldrume.proofs.zaldrume_convert.Statement.{statement}
 use Rattle.zaldrume.proofs.zaldrume_convert.Tie as tie
 
@@ -11,10 +11,12 @@ abbrev call : tie.After-slice-known4 → tie.After-convert
 call c = c .before .before .before .before
 
 returns : tie.Need-returns
-returns c = tells _ (call (c .before .before .before) .convert .ensures .gives) (ap answerOfConvert (c .before .number .given .1)) refl
+returns c =
+    tells (call (c .before .before .before) .convert .ensures .gives) (told-as _ (ap answerOfConvert (c .before .number .given .1)) refl)
 
 returns-2 : tie.Need-returns-2
-returns-2 c = tells _ (call (c .before .before .before) .convert .ensures .gives) (ap answerOfConvert (c .before .length .given .1)) refl
+returns-2 c =
+    tells (call (c .before .before .before) .convert .ensures .gives) (told-as _ (ap answerOfConvert (c .before .length .given .1)) refl)
 
 pub zaldrume-convert-spec : {M : Type 1} → statement M
 zaldrume-convert-spec =

@@ -1,21 +1,21 @@
--- The three calls, one after the other, are the run of the three (`runs-more`), and so what demand 3 says of runs holds of them.
+-- The three calls, one after the other, are the run of the three (`alters-more`), and so what demand 3 says of runs holds of them.
 use borrow.Author.Needs.{needs}
 use Rattle.mitex_spec.specs.RuleFile.{rulesOf}
-use Rattle.edit_meaning.specs.Calls.Runs.{no-call}
-use Rattle.edit_meaning.proofs.Calls.{runs-more, runs-demanded}
+use Rattle.edit_meaning.specs.ChangeCalls.RunsChanges.{no-change}
+use Rattle.edit_meaning.proofs.ChangeCalls.{alters-more, edits-alter, alters-demanded}
 use Rattle.manuscript.specs.Manuscript.{modeOf, manuscript}
 use Rattle.manuscript.proofs.Manuscript.{keeps-short}
-use Rattle.calls.proofs.three_edits.Statement.{statement}
-use Rattle.calls.proofs.three_edits.Tie as tie
+use Rattle.calls.proofs.three_changes.Statement.{statement}
+use Rattle.calls.proofs.three_changes.Tie as tie
 
 -- what is known after each call, the last first, and at the start
-abbrev third : tie.After-length-after3 → tie.After-edit3
+abbrev third : tie.After-length-after3 → tie.After-remove
 third c = c .before .before .before .before .before
 
 abbrev after-two : tie.After-length-after3 → tie.After-length-after2
 after-two c = third c .before .before .before
 
-abbrev second : tie.After-length-after3 → tie.After-edit2
+abbrev second : tie.After-length-after3 → tie.After-insert
 second c = after-two c .before .before .before .before .before
 
 abbrev after-one : tie.After-length-after3 → tie.After-length-after
@@ -29,15 +29,15 @@ start c = let d = first c .before .before .before .before in d .before .before .
 
 returns : tie.Need-returns
 returns c =
-    let r = runs-more (first c .edit .ensures) (after-one c .length-after .ensures)
-    (runs-more (second c .edit2 .ensures) (after-two c .length-after2 .ensures)
-    (runs-more (third c .edit3 .ensures) (c .length-after3 .ensures) no-call)) in
+    let r = alters-more (edits-alter (first c .edit .ensures)) (after-one c .length-after .ensures)
+    (alters-more (second c .insert .ensures) (after-two c .length-after2 .ensures)
+    (alters-more (third c .remove .ensures) (c .length-after3 .ensures) no-change)) in
     let a = start c .args in
     let file = a .rules .now in
-    (r, runs-demanded (manuscript (a .mode) file) (keeps-short (modeOf (a .mode)) (rulesOf file)) r)
+    (r, alters-demanded (manuscript (a .mode) file) (keeps-short (modeOf (a .mode)) (rulesOf file)) r)
 
-pub three-edits-spec : {M : Type 1} → statement M
-three-edits-spec =
+pub three-changes-spec : {M : Type 1} → statement M
+three-changes-spec =
     tie.close
     (tie.spec
     (λ c κs. search needs)
