@@ -123,14 +123,14 @@ module _ (mode : ℕ) (file tree index : List ℕ) where
       record { in-mode = o .in-mode; indexed = rs; bytes = by; rows = o .rows; checked = o .checked }
 
 module _ {mode : ℕ} {file tree index : List ℕ} {m : LaTeXMode} {start n : ℕ} (o : FilesOpen mode file tree index m start n) where
-  abbrev pub there : Answered tree start (o .rows) n
-  there = answered tree start (o .rows) n (o .checked)
+  abbrev pub tree-answered : Answered tree start (o .rows) n
+  tree-answered = answered tree start (o .rows) n (o .checked)
 
   -- the file has a root's row and a trailer after its text
   pub long : start + 16 ≤ length tree
   long =
-      let a = accepted-says tree (o .bytes) (there .tree) (there .is) in
-      omega (arith, a .whole, there .start-is, size-some (there .tree))
+      let a = accepted-says tree (o .bytes) (tree-answered .tree) (tree-answered .is) in
+      omega (arith, a .whole, tree-answered .start-is, size-some (tree-answered .tree))
 
   pub trailer : length tree - 8 + 8 ≡ length tree
   trailer = omega (arith, long)
@@ -139,14 +139,14 @@ module _ {mode : ℕ} {file tree index : List ℕ} {m : LaTeXMode} {start n : �
     -- the document: the rows after the root's, and the text
     abbrev pub document : Document file index rows (take start tree) n
     document =
-        let b = answer-blocks tree (o .bytes) start (o .rows) n there (length tree - 8) trailer in
+        let b = answer-blocks tree (o .bytes) start (o .rows) n tree-answered (length tree - 8) trailer in
         record {
           rs = o .indexed .rules;
           ready = o .indexed .ready;
-          blocks = blocksOf (there .tree);
-          spells = subst (λ r. SpellsAll (blocksOf (there .tree)) r (take start tree)) (sym rows-are) (b .spells);
-          many = sym (there .blocks-are);
-          most = omega (arith, b .few, there .blocks-are);
+          blocks = blocksOf (tree-answered .tree);
+          spells = subst (λ r. SpellsAll (blocksOf (tree-answered .tree)) r (take start tree)) (sym rows-are) (b .spells);
+          many = sym (tree-answered .blocks-are);
+          most = omega (arith, b .few, tree-answered .blocks-are);
           few = omega (arith, b .short, ap length rows-are, length-take (length tree - 8 - (start + 8)) (drop (start + 8) tree), length-drop (start + 8) tree);
           short = omega (arith, b .short, length-take start tree);
         }
@@ -156,7 +156,7 @@ module _ {mode : ℕ} {file tree index : List ℕ} {m : LaTeXMode} {start n : �
         (call : (𝓒 : BlockConverter) → CheckedFile (𝓒 .Block) → Result)
         → call (manuscript mode file) ((manuscript mode file) .check tree)
         ≡ call (blocksIn m (document .rs)) (good (listed (document .blocks)))
-    opened-call = opened-as mode file tree (o .in-mode) (o .indexed .ready .decodes) (there .is)
+    opened-call = opened-as mode file tree (o .in-mode) (o .indexed .ready .decodes) (tree-answered .is)
 
     pub opened-converts :
         (r : Converted) {out ledger out′ ledger′ : List ℕ} → ConvertsBlocks file index rows (take start tree) m n out ledger r out′ ledger′

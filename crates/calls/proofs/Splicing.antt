@@ -161,8 +161,8 @@ module _ {rules index rows text : List ℕ} {was n kept : ℕ} {from m : Standin
   text-as = λ i. textAs (sym (w .begins) i) (past-old i)
 
   -- the place, where it is no more than a row can say
-  pub comes-to : m .walked .at < cap → m .walked .at ≡ from .walked .at + length (written (w .qs))
-  comes-to h = omega (arith, w .end)
+  pub measured-place : m .walked .at < cap → m .walked .at ≡ from .walked .at + length (written (w .qs))
+  measured-place h = omega (arith, w .end)
 
   module _ (small : m .walked .at < cap) where
     abbrev pub pieced : (l : List ℕ) → rowSize * n ≤ length l → Pieced rules index rows text from (m .block) l
@@ -172,7 +172,7 @@ module _ {rules index rows text : List ℕ} {was n kept : ℕ} {from m : Standin
           ps = w .qs;
           gives = w .are;
           many = sym (w .many);
-          end = omega (arith, comes-to small);
+          end = omega (arith, measured-place small);
           room = omega (arith, w .within);
           few = omega (arith, w .within, w .most);
         }
@@ -182,7 +182,7 @@ module _ {rules index rows text : List ℕ} {was n kept : ℕ} {from m : Standin
         let c = from .walked .converter in
         rowsFrom-encodable
         (gives-short _ (keeps-short (some (c .mode)) (some (w .given .rs))) (carryOf-short c (w .given .outside .label)) (w .are))
-        (from .walked .at) (omega (arith, comes-to small))
+        (from .walked .at) (omega (arith, measured-place small))
 
     abbrev fresh : List ℕ
     fresh = encodeRows (rowsFrom (from .walked .at) (w .qs))
@@ -214,7 +214,7 @@ module _ {rules index rows text : List ℕ} {was n kept : ℕ} {from m : Standin
         ≡ ledgerAs (from .walked .at) q old (m .walked .at)
     ledger-as =
         let now : endBefore (from .block) (decodeRows was ledger) + length (written (w .qs)) ≡ m .walked .at
-        = omega (arith, comes-to small, w .begins) in
+        = omega (arith, measured-place small, w .begins) in
         λ i. ledgerAs (sym (w .begins) i) (past i) (past-old i) (now i)
 
     -- the two buffers, when the tail was moved and the text written, zeros stored after; and the rows after got their lengths and were
@@ -233,12 +233,12 @@ module _ {rules index rows text : List ℕ} {was n kept : ℕ} {from m : Standin
           let long : length out₁ ≡ length out = ap length e ∙ length-sets out at (between old kept out) in
           let f : part ++ drop at out₁ ≡ sets (sets out at (between old kept out)) (from .walked .at) (written (w .qs))
           = ap (λ x. x ++ drop at out₁) p
-          ∙ front-stored out₁ (written (w .qs)) (from .walked .at) at (omega (arith, comes-to small)) (omega arith)
+          ∙ front-stored out₁ (written (w .qs)) (from .walked .at) at (omega (arith, measured-place small)) (omega arith)
           ∙ ap (λ x. sets x (from .walked .at) (written (w .qs))) e in
           z
           ∙ ap (λ x. sets x new (replicate (kept - new) 0)) f
-          ∙ rw (comes-to small)
-          (textAfter-stored (from .walked .at) old kept (written (w .qs)) out from-old old-kept (w .inside) (omega (arith, comes-to small))
+          ∙ rw (measured-place small)
+          (textAfter-stored (from .walked .at) old kept (written (w .qs)) out from-old old-kept (w .inside) (omega (arith, measured-place small))
           ∙ textAfter-over (from .walked .at) old kept (from .walked .at + length (written (w .qs)) + (kept - old)) (written (w .qs)) out)
 
       -- what `over-stored` says, when the fresh rows end at a and all rows at b
@@ -342,7 +342,7 @@ module _ {rules index rows text : List ℕ} {was n kept : ℕ} {from m : Standin
           → Overwrote was n kept from m (w .qs) out ledger out′ ledger′
           → Gives change-gives (edited (m .walked .at + (kept - old)) g k) out′ ledger′
       spliced {g} {k} e c v =
-          let a : m .walked .at ≡ from .walked .at + length (written (w .qs)) = comes-to (omega (arith, has-room .0)) in
+          let a : m .walked .at ≡ from .walked .at + length (written (w .qs)) = measured-place (omega (arith, has-room .0)) in
           let s : k ≡ length (w .qs) = omega (arith, w .many) in
           let t : old ≡ oldEnd was n m ledger = is-old in
           rw (exchange-at, ← room-same, h, ← a) (record { answer = cc; bytes = rw t (v .text); rows = v .rows })

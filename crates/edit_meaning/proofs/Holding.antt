@@ -12,14 +12,14 @@ use Rattle.mitex_meaning.specs.Outcome.{Carry}
 use Rattle.mitex_meaning.specs.Conversion.{startCarry}
 use Rattle.mitex_meaning.specs.Keeping.{Short}
 use Rattle.ledger.specs.Ledger.{rowSize, encodeRows, Piece, written, rowsFrom}
-use Rattle.ledger.proofs.Rows.{AllEncodable, AllShort, none, more, encodeRows-length, rowsFrom-length, rowsFrom-encodable}
+use Rattle.ledger.proofs.Rows.{AllEncodable, AllShort, short-none, short-more, encodeRows-length, rowsFrom-length, rowsFrom-encodable}
 use Rattle.edit_meaning.specs.Walk.{CheckedFile, BlockConverter, KeepsShort, Walk}
 use Rattle.edit_meaning.specs.Walk.CheckedFile.{bad, good}
 use Rattle.edit_meaning.specs.Walk.Walk.{stopped, pieces}
 use Rattle.edit_meaning.specs.Edit.{textMost, roomForText, room, settle, conversion, convertDocument}
 use Rattle.edit_meaning.specs.Edit.Answer.{refused, converted}
 use Rattle.edit_meaning.specs.Run.{Kept, Holds}
-use Rattle.edit_meaning.proofs.Walks.{WalkedBlocks, none-left, one-more, walk-walked, walked-walk}
+use Rattle.edit_meaning.proofs.Walks.{WalkedBlocks, none-left, one-walked, walk-walked, walked-walk}
 
 pub room-says : (n k : ℕ) (ps : List Piece) → room n k ps ≡ true → (length (written ps) ≤ min n textMost) × (rowSize * length ps ≤ k)
 unfolding room roomForText
@@ -38,8 +38,8 @@ module _ (𝓒 : BlockConverter) (keeps-short : KeepsShort 𝓒) where
   open BlockConverter 𝓒 using (Block, check)
 
   walked-short : {c : Carry} {bs : List Block} {ps : List Piece} → WalkedBlocks 𝓒 c bs ps → Short c → AllShort ps
-  walked-short none-left s = none
-  walked-short (one-more {c} {b} {bs} {c′} {t} e w) s = let s′ : Short c′ = keeps-short c c′ b t s e in more s′ (walked-short w s′)
+  walked-short none-left s = short-none
+  walked-short (one-walked {c} {b} {bs} {c′} {t} e w) s = let s′ : Short c′ = keeps-short c c′ b t s e in short-more s′ (walked-short w s′)
 
   -- the rows of a document that was converted can be written
   pub walked-encodable : {bs : List Block} {ps : List Piece} → WalkedBlocks 𝓒 startCarry bs ps → length (written ps) ≤ textMost → AllEncodable (rowsFrom 0 ps)

@@ -74,7 +74,7 @@ module _ (𝓒 : BlockConverter) where
 
   pub data WalkedBlocks : Carry → List Block → List Piece → Type 0 where
     none-left : {c : Carry} → WalkedBlocks c [] []
-    one-more :
+    one-walked :
         {c : Carry} {b : Block} {bs : List Block} {c′ : Carry} {t : List ℕ} {ps : List Piece} → convertBlock c b ≡ done c′ t
         → WalkedBlocks c′ bs ps → WalkedBlocks c (b ∷ bs) (record { text = t; after = c′ } ∷ ps)
 
@@ -87,7 +87,7 @@ module _ (𝓒 : BlockConverter) where
     where
       go : (w : Walk) → walk 𝓒 c′ (r + rowsOf b) bs ≡ w → onto (record { text = t; after = c′ }) w ≡ pieces ps → WalkedBlocks c (b ∷ bs) ps
       go (stopped n i) e₂ h₂ = let z : _≡_ {A = ℕ} 0 1 = cc in absurd (omega arith)
-      go (pieces qs) e₂ h₂ = let q : record { text = t; after = c′ } ∷ qs ≡ ps = cc in rw (← q) (one-more e (ih c′ qs e₂))
+      go (pieces qs) e₂ h₂ = let q : record { text = t; after = c′ } ∷ qs ≡ ps = cc in rw (← q) (one-walked e (ih c′ qs e₂))
 
   pub walk-walked : (bs : List Block) (c : Carry) (r : ℕ) (ps : List Piece) → walk 𝓒 c r bs ≡ pieces ps → WalkedBlocks c bs ps
   unfolding walk
@@ -97,7 +97,7 @@ module _ (𝓒 : BlockConverter) where
   pub walked-walk : {c : Carry} {bs : List Block} {ps : List Piece} → WalkedBlocks c bs ps → (r : ℕ) → walk 𝓒 c r bs ≡ pieces ps
   unfolding walk
   walked-walk none-left r = refl
-  walked-walk (one-more {b = b} e w) r = rw (e, walked-walk w (r + rowsOf b))
+  walked-walk (one-walked {b = b} e w) r = rw (e, walked-walk w (r + rowsOf b))
 
   -- over two runs of blocks
   pub walk-past :
@@ -105,23 +105,23 @@ module _ (𝓒 : BlockConverter) where
       → walk 𝓒 c r (xs ++ ys) ≡ ontoAll ps (walk 𝓒 (carryAfter c ps) (r + rowsAll rowsOf xs) ys)
   unfolding walk
   walk-past {c = c} none-left r ys = ap (λ n. walk 𝓒 c n ys) (sym (add-zero r))
-  walk-past (one-more {b = b} {bs = bs} {c′} {t} e w) r ys =
+  walk-past (one-walked {b = b} {bs = bs} {c′} {t} e w) r ys =
       rw (e, walk-past w (r + rowsOf b) ys, add-assoc r (rowsOf b) (rowsAll rowsOf bs))
 
   pub walked-take : {c : Carry} {bs : List Block} {ps : List Piece} (k : ℕ) → WalkedBlocks c bs ps → WalkedBlocks c (take k bs) (take k ps)
   walked-take zero w = none-left
   walked-take (suc k) none-left = none-left
-  walked-take (suc k) (one-more e w) = one-more e (walked-take k w)
+  walked-take (suc k) (one-walked e w) = one-walked e (walked-take k w)
 
   pub walked-drop :
       {c : Carry} {bs : List Block} {ps : List Piece} (k : ℕ) → WalkedBlocks c bs ps → WalkedBlocks (carryAfter c (take k ps)) (drop k bs) (drop k ps)
   walked-drop zero w = w
   walked-drop (suc k) none-left = none-left
-  walked-drop (suc k) (one-more e w) = walked-drop k w
+  walked-drop (suc k) (one-walked e w) = walked-drop k w
 
   pub walked-length : {c : Carry} {bs : List Block} {ps : List Piece} → WalkedBlocks c bs ps → length bs ≡ length ps
   walked-length none-left = refl
-  walked-length (one-more e w) = ap suc (walked-length w)
+  walked-length (one-walked e w) = ap suc (walked-length w)
 
   -- ---- converting again
 
@@ -146,7 +146,7 @@ module _ (𝓒 : BlockConverter) where
       → walk 𝓒 c r bs ≡ finish (walkUntil 𝓒 c r bs (carries ps)) ps
   unfolding walk walkUntil
   resume-rest none-left c r = refl
-  resume-rest (one-more {b = b} {bs = bs} {c′} {t} {ps} e w) c r =
+  resume-rest (one-walked {b = b} {bs = bs} {c′} {t} {ps} e w) c r =
       resume-step (convertBlock c b) bs r (r + rowsOf b) (record { text = t; after = c′ }) ps w (λ c₂. resume-rest w c₂ (r + rowsOf b))
 
   -- from the named block, which alone may differ: what is left after the stop is the old conversion's

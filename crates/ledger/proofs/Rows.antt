@@ -25,8 +25,8 @@ pub record Encodable (r : Row) : Type 0 where
   pub short : Short (r .carry)
 
 pub data AllEncodable : List Row → Type 0 where
-  none : AllEncodable []
-  more : {r : Row} {rs : List Row} → Encodable r → AllEncodable rs → AllEncodable (r ∷ rs)
+  encodable-none : AllEncodable []
+  encodable-more : {r : Row} {rs : List Row} → Encodable r → AllEncodable rs → AllEncodable (r ∷ rs)
 
 -- ---- one row
 
@@ -107,19 +107,19 @@ moveRow-encode r l ok o w =
 -- ---- rows
 
 pub encodeRows-length : {rs : List Row} → AllEncodable rs → length (encodeRows rs) ≡ rowSize * length rs
-encodeRows-length none = refl
-encodeRows-length (more {r} {rs} o os) = rw length-append (omega (arith, encodeRow-length r o, encodeRows-length os))
+encodeRows-length encodable-none = refl
+encodeRows-length (encodable-more {r} {rs} o os) = rw length-append (omega (arith, encodeRow-length r o, encodeRows-length os))
 
 pub decodeRows-encode : {rs : List Row} → AllEncodable rs → (l : List ℕ) → decodeRows (length rs) (encodeRows rs ++ l) ≡ rs
-decodeRows-encode none l = refl
-decodeRows-encode (more {r} {rs} o os) l =
+decodeRows-encode encodable-none l = refl
+decodeRows-encode (encodable-more {r} {rs} o os) l =
     rw (append-assoc, decodeRow-encode r (encodeRows rs ++ l) o, encodeRow-drop r (encodeRows rs ++ l) o, decodeRows-encode os l)
 
 -- ---- the rows of blocks
 
 pub data AllShort : List Piece → Type 0 where
-  none : AllShort []
-  more : {p : Piece} {ps : List Piece} → Short (p .after) → AllShort ps → AllShort (p ∷ ps)
+  short-none : AllShort []
+  short-more : {p : Piece} {ps : List Piece} → Short (p .after) → AllShort ps → AllShort (p ∷ ps)
 
 pub written-append : (ps qs : List Piece) → written (ps ++ qs) ≡ written ps ++ written qs
 written-append [] qs = refl
@@ -130,11 +130,11 @@ rowsFrom-length at [] = refl
 rowsFrom-length at (p ∷ ps) = ap suc (rowsFrom-length (at + length (p .text)) ps)
 
 pub rowsFrom-encodable : {ps : List Piece} → AllShort ps → (at : ℕ) → at + length (written ps) < 4294967296 → AllEncodable (rowsFrom at ps)
-rowsFrom-encodable none at h = none
-rowsFrom-encodable (more {p} {ps} s a) at h =
+rowsFrom-encodable short-none at h = encodable-none
+rowsFrom-encodable (short-more {p} {ps} s a) at h =
     let e : length (p .text ++ written ps) ≡ length (p .text) + length (written ps) = length-append (p .text) (written ps) in
     let fit : at + length (p .text) < 4294967296 = omega arith in
-    more (record { small = fit; short = s }) (rowsFrom-encodable a (at + length (p .text)) (omega arith))
+    encodable-more (record { small = fit; short = s }) (rowsFrom-encodable a (at + length (p .text)) (omega arith))
 
 pub rowsFrom-append : (at : ℕ) (ps qs : List Piece)
     → encodeRows (rowsFrom at (ps ++ qs)) ≡ encodeRows (rowsFrom at ps) ++ encodeRows (rowsFrom (at + length (written ps)) qs)
@@ -145,18 +145,18 @@ rowsFrom-append at (p ∷ ps) qs =
 
 -- the rows of a front and of a rest
 pub encodable-left : (at : ℕ) (ps qs : List Piece) → AllEncodable (rowsFrom at (ps ++ qs)) → AllEncodable (rowsFrom at ps)
-encodable-left at [] qs ok = none
-encodable-left at (p ∷ ps) qs (more o os) = more o (encodable-left (at + length (p .text)) ps qs os)
+encodable-left at [] qs ok = encodable-none
+encodable-left at (p ∷ ps) qs (encodable-more o os) = encodable-more o (encodable-left (at + length (p .text)) ps qs os)
 
 pub encodable-right : (at : ℕ) (ps qs : List Piece) → AllEncodable (rowsFrom at (ps ++ qs)) → AllEncodable (rowsFrom (at + length (written ps)) qs)
 encodable-right at [] qs ok = rw add-zero ok
-encodable-right at (p ∷ ps) qs (more o os) =
+encodable-right at (p ∷ ps) qs (encodable-more o os) =
     rw (length-append (p .text) (written ps), ← add-assoc) (encodable-right (at + length (p .text)) ps qs os)
 
 rowsFit-encode : (at : ℕ) (ps : List Piece) → AllEncodable (rowsFrom at ps) → (l : List ℕ)
     → rowsFit (length ps) at (at + length (written ps)) (encodeRows (rowsFrom at ps) ++ l) ≡ true
 rowsFit-encode at [] os l = eq-eqb at (at + 0) (omega arith)
-rowsFit-encode at (p ∷ ps) (more o os) l =
+rowsFit-encode at (p ∷ ps) (encodable-more o os) l =
     let n : ℕ = at + length (p .text) in
     let r : Row = record { end = n; carry = p .after } in
     let m : List ℕ = encodeRows (rowsFrom n ps) ++ l in
@@ -183,7 +183,7 @@ fits-encode ps os l =
 pub moveRows-encode : (o w x : ℕ) (ps : List Piece) → AllEncodable (rowsFrom (o + x) ps) → (l : List ℕ)
     → moveRows (length ps) o w (encodeRows (rowsFrom (o + x) ps) ++ l) ≡ encodeRows (rowsFrom (w + x) ps)
 moveRows-encode o w x [] os l = refl
-moveRows-encode o w x (p ∷ ps) (more ok os) l =
+moveRows-encode o w x (p ∷ ps) (encodable-more ok os) l =
     let n : ℕ = length (p .text) in
     let r : Row = record { end = o + x + n; carry = p .after } in
     let m : List ℕ = encodeRows (rowsFrom (o + x + n) ps) ++ l in

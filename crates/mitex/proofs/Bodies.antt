@@ -38,7 +38,7 @@ use Rattle.mitex_meaning.specs.declared.CaptionPart.{CaptionPart}
 use Rattle.mitex_meaning.specs.declared.Place.{Place}
 use Rattle.mitex_meaning.specs.declared.Progress.{Progress}
 use Rattle.mitex_meaning.proofs.Outcomes.{after-nil, after-after, closing-after, closing-andThen, andThen-same, andThen-closing, shift-shift}
-use Rattle.mitex_meaning.proofs.Loops.{each-none, each-at}
+use Rattle.mitex_meaning.proofs.Loops.{each-none, each-from-zero}
 use Rattle.mitex_meaning.proofs.Agreeing.{agrees-as, agrees-refused, agrees-after, agrees-shift, then-done, then-refused, closes-refused}
 use Rattle.mitex_environments.specs.Captions.{isBare, captionPart, captionText, captionClose}
 use Rattle.mitex.specs.Walks.{looping, Walks}
@@ -116,7 +116,7 @@ begin-row {f} p b conv l c =
     let below : p .i / 8 + 1 ≡ 1 + p .i / 8 = omega arith in
     b .row conv l c
     ∙ sym
-    (ap (shift (p .i / 8)) (each-at conv 1 l (beginOf f) c) ∙ shift-shift (p .i / 8) 1 o ∙ ap (λ (s : ℕ). shift s o) below)
+    (ap (shift (p .i / 8)) (each-from-zero conv 1 l (beginOf f) c) ∙ shift-shift (p .i / 8) 1 o ∙ ap (λ (s : ℕ). shift s o) below)
 
 pub math-is :
     {f : Forest} {rows text : List ℕ} (p : Part) → BeginFound f rows text p → (rs : List Rule) (x : Place) (v : LaTeXEnv) (step : ℕ) → step ≡ stepOf v

@@ -21,7 +21,7 @@ use Rattle.mitex_meaning.specs.declared.LaTeXEnv.{LaTeXEnv}
 use Rattle.mitex_meaning.specs.declared.Part.{Part}
 use Rattle.mitex_meaning.specs.declared.Place.{Place}
 use Rattle.mitex_meaning.specs.declared.Progress.{Progress}
-use Rattle.mitex_meaning.proofs.Agreeing.{Good, good, agrees-after, agrees-closes}
+use Rattle.mitex_meaning.proofs.Agreeing.{Good, agrees-good, agrees-after, agrees-closes}
 use Rattle.mitex_meaning.specs.declared.Converter.{Converter}
 use Rattle.mitex_meaning.specs.declared.Walked.{Walked}
 use Rattle.mitex.specs.Walks.{Room, Siblings, Walks}
@@ -115,7 +115,7 @@ agrees-back (accepts u ex ec k w) = accepts u refl ec k w
 pub walks-good :
     {rules index rows text : List ℕ} {row : ℕ} (c : Converter) {at : ℕ} {out : List ℕ} {a : Walked} {out′ : List ℕ} (arm : Arm)
     → SomeRules rules index → Siblings rows text → Walks rules index rows text row c at out a out′ arm → a .refusal ≡ 0 → Good a (placeOf c)
-walks-good c arm s g m z = good (m (s .rules) (s .ready) (g .forest) (g .spells) (sizes (g .forest)) (omega arith)) z
+walks-good c arm s g m z = agrees-good (m (s .rules) (s .ready) (g .forest) (g .spells) (sizes (g .forest)) (omega arith)) z
 
 -- the context of an environment that is not further in
 pub env-in :

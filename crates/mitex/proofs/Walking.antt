@@ -50,8 +50,8 @@ use Rattle.mitex_meaning.specs.declared.Converter.{Converter}
 use Rattle.mitex_meaning.specs.declared.Progress.{Progress}
 use Rattle.mitex_meaning.specs.declared.Walked.{Walked}
 use Rattle.mitex_meaning.proofs.Outcomes.{shift-shift, shift-after, shift-closing}
-use Rattle.mitex_meaning.proofs.Agreeing.{Good, good, agrees-as, agrees-done, agrees-refused, agrees-reached, agrees-after, agrees-closes, agrees-shift, then-done, then-refused}
-use Rattle.mitex_meaning.proofs.Loops.{turn-converts, turn-passes, each-none, each-more, each-shift, each-at}
+use Rattle.mitex_meaning.proofs.Agreeing.{Good, agrees-good, agrees-as, agrees-done, agrees-refused, agrees-reached, agrees-after, agrees-closes, agrees-shift, then-done, then-refused}
+use Rattle.mitex_meaning.proofs.Loops.{turn-converts, turn-passes, each-none, each-more, each-shift, each-from-zero}
 use Rattle.mitex_meaning.proofs.Blocks.{turn-plain}
 use Rattle.mitex_meaning.proofs.Runs.{sizes-beside, flat-spells, steady-run, flat-step}
 use Rattle.mitex.specs.Walks.{Room, Siblings, Walks, Turns}
@@ -305,7 +305,7 @@ module _ {rules index rows text : List ℕ} {row : ℕ} {out₀ : List ℕ} {w�
         loop-next z same {l′} next =
             let x = child in
             let g : Good a (placeOf d)
-            = good (m (k .some-rules .rules) (k .some-rules .ready) (x .given .tree) (x .given .spells) (size (x .given .tree)) (omega arith)) z in
+            = agrees-good (m (k .some-rules .rules) (k .some-rules .ready) (x .given .tree) (x .given .spells) (size (x .given .tree)) (omega arith)) z in
             record {
               room = k .room;
               some-rules = k .some-rules;
@@ -330,7 +330,7 @@ alone-size t = omega arith
 
 -- comes to what the element comes to, one row below
 pub alone-is : (conv : Tree → Carry → Outcome) (t : Tree) (c : Carry) → each conv 1 Plain (more t none) c ≡ shift 1 (conv t c)
-alone-is conv t c = each-at conv 1 Plain (more t none) c ∙ ap (shift 1) (each-one conv t c)
+alone-is conv t c = each-from-zero conv 1 Plain (more t none) c ∙ ap (shift 1) (each-one conv t c)
 
 module _ {rules index rows text : List ℕ} {row : ℕ} (c : Converter) {at : ℕ} {out : List ℕ} {a : Walked} {out′ : List ℕ}
     (m : Walks rules index rows text row c at out a out′ children) where
@@ -666,7 +666,7 @@ module _ {rules index rows text : List ℕ} {row : ℕ} {out₀ : List ℕ} {w�
           → Looping rules index rows text row out₀ w₀ d₀ l₀ out′ (a .at) (a .converter) l (i + run .rows) (j + run .text)
       children-next z same =
           let y = steady-siblings in
-          let g : Good a (placeOf d) = good (m (k .some-rules .rules) (k .some-rules .ready) (y .forest) (y .spells) (sizes (y .forest)) (omega arith)) z in
+          let g : Good a (placeOf d) = agrees-good (m (k .some-rules .rules) (k .some-rules .ready) (y .forest) (y .spells) (sizes (y .forest)) (omega arith)) z in
           record {
             room = k .room;
             some-rules = k .some-rules;

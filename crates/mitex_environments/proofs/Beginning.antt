@@ -21,7 +21,7 @@ use Rattle.mitex_meaning.specs.Outcome.{shift}
 use Rattle.mitex_meaning.specs.Children.{each}
 use Rattle.mitex_meaning.specs.Parts.{BeginFound}
 use Rattle.mitex_meaning.proofs.Outcomes.{shift-shift}
-use Rattle.mitex_meaning.proofs.Loops.{each-at, each-none}
+use Rattle.mitex_meaning.proofs.Loops.{each-from-zero, each-none}
 
 -- what the children of a node begin with, they are
 node-exact : (t : Tree) {k : ℕ} {g : Forest} {l v m : List ℕ} → Spells t l v → Begins (childrenOf t) m v → t ≡ node k g → SpellsAll (childrenOf t) m v
@@ -49,7 +49,7 @@ module _ {f : Forest} {rows text : List ℕ} where
         spells = subst (λ (x : Forest). SpellsAll x (take (b - (a + 8)) (drop (a + 8) rows)) (take (d - c) (drop c text))) (sym is) (found-exact ItemBegin s refl);
         inside = record { low = some; high = s .end; begun = s .some-text; stop = s .stop };
         row = λ conv l c′.
-            ap (shift (1 + offsetOf ItemBegin f)) (each-at conv 1 l (beginOf f) c′)
+            ap (shift (1 + offsetOf ItemBegin f)) (each-from-zero conv 1 l (beginOf f) c′)
             ∙ shift-shift (1 + offsetOf ItemBegin f) 1 (each conv 0 l (beginOf f) c′)
             ∙ ap (λ (n : ℕ). shift n (each conv 0 l (beginOf f) c′)) (omega arith);
         fits = omega (arith, ap sizes is, size-children (s .tree), s .fits);

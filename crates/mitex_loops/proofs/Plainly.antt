@@ -17,14 +17,14 @@ use Rattle.mitex_meaning.proofs.Outcomes.{after-nil, andThen-same, andThen-done
 use Rattle.mitex_meaning.proofs.Loops.{turn-converts, each-none, each-more}
 
 -- no text before and none behind
-pub bare : (o : Outcome) → o ≡ after [] (closing [] o)
-bare o = sym (after-nil (closing [] o) ∙ closing-nil o)
+pub nothing-around : (o : Outcome) → o ≡ after [] (closing [] o)
+nothing-around o = sym (after-nil (closing [] o) ∙ closing-nil o)
 
 -- one element in a plain loop is that element
 pub each-one : (conv : Tree → Carry → Outcome) (t : Tree) (k : Carry) → each conv 0 Plain (more t none) k ≡ conv t k
 each-one conv t k =
     each-more conv 0 Plain t none k
-    ∙ ap (λ (o : Outcome). andThen (shift 0 o) (each conv (0 + size t) Plain none)) (turn-converts conv Convert t k refl ∙ sym (bare (conv t k)))
+    ∙ ap (λ (o : Outcome). andThen (shift 0 o) (each conv (0 + size t) Plain none)) (turn-converts conv Convert t k refl ∙ sym (nothing-around (conv t k)))
     ∙ ap (λ (o : Outcome). andThen o (each conv (0 + size t) Plain none)) (shift-zero (conv t k))
     ∙ andThen-same (conv t k) (each conv (0 + size t) Plain none) (λ c. done c []) (λ c. each-none conv (0 + size t) Plain c)
     ∙ andThen-done (conv t k)

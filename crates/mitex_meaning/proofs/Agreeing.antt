@@ -49,9 +49,9 @@ module _ {a : Walked} {x : Place} {row at : ℕ} {out out′ : List ℕ} where
   agrees-well e (declines h p q) = let z : _≡_ {A = ℕ} 0 1 = cc in absurd (omega arith)
   agrees-well e (accepts u ex ec l w) = u
 
-  pub good : {o : Outcome} → Agrees a x row at out out′ o → a .refusal ≡ 0 → Good a x
-  good (declines h p q) z = absurd (omega arith)
-  good (accepts u ex ec l w) z = record { place = wrote-low w; short = l; placed-so = ex }
+  pub agrees-good : {o : Outcome} → Agrees a x row at out out′ o → a .refusal ≡ 0 → Good a x
+  agrees-good (declines h p q) z = absurd (omega arith)
+  agrees-good (accepts u ex ec l w) z = record { place = wrote-low w; short = l; placed-so = ex }
 
   -- a child's rows are counted from its own first row
   pub agrees-shift : {o : Outcome} (n : ℕ) → Agrees a x (row + n) at out out′ o → Agrees a x row at out out′ (shift n o)

@@ -52,5 +52,5 @@ module _ (conv : Tree → Carry → Outcome) where
       (each conv (o + size t) (nextLoop l (kindOf t) (actOf l t f)) f)
       (λ c′. rw add-assoc (each-shift a (o + size t) (nextLoop l (kindOf t) (actOf l t f)) f c′))
 
-  pub each-at : (o : ℕ) (l : Loop) (f : Forest) (c : Carry) → each conv o l f c ≡ shift o (each conv 0 l f c)
-  each-at o l f c = ap (λ (p : ℕ). each conv p l f c) (sym (add-zero o)) ∙ each-shift o 0 l f c
+  pub each-from-zero : (o : ℕ) (l : Loop) (f : Forest) (c : Carry) → each conv o l f c ≡ shift o (each conv 0 l f c)
+  each-from-zero o l f c = ap (λ (p : ℕ). each conv p l f c) (sym (add-zero o)) ∙ each-shift o 0 l f c

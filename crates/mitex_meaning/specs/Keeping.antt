@@ -24,8 +24,8 @@ isWalkNumber n = leb 7 n && leb n 14
 
 -- what is kept of an outcome, from a start of which `begun` holds
 pub data KeptOutcome (begun : Type 0) : Outcome → Type 0 where
-  stops : {n r : ℕ} → T (isWalkNumber n) → KeptOutcome begun (refused n r)
-  goes : {c : Carry} {w : List ℕ} → (begun → Short c) → KeptOutcome begun (done c w)
+  kept-refused : {n r : ℕ} → T (isWalkNumber n) → KeptOutcome begun (refused n r)
+  kept-done : {c : Carry} {w : List ℕ} → (begun → Short c) → KeptOutcome begun (done c w)
 
 abbrev pub Keeps : (Carry → Outcome) → Type 0
 Keeps k = (c : Carry) → KeptOutcome (Short c) (k c)

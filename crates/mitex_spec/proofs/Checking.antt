@@ -22,7 +22,7 @@ use Rattle.mitex_spec.specs.Rules.{Rule}
 use Rattle.text.specs.Trailer.{ahead}
 use Rattle.mitex_spec.specs.RuleFile.{classMost, noAlias, padded, validAlias, ruleFits, risesFrom, rises, nameLength}
 use Rattle.mitex_spec.specs.RuleFile.{aliasLength, ruleTaken, aliasAt, ruleAt, ruleRowFits, rulesIn, rising}
-use Rattle.mitex_spec.specs.Index.{startsFrom, accepted}
+use Rattle.mitex_spec.specs.Index.{startsFrom, hasRules}
 use Rattle.mitex_spec.proofs.RuleFile.{RuleRowFits, rule-row-says}
 
 -- ---- one row
@@ -92,14 +92,14 @@ acceptedAfter first last (some rs) = risesAfter first last rs
 pub record RulesLeft (n : ℕ) (rows text : List ℕ) (first : Bool) (last l t : List ℕ) : Type 0 where
   pub m : ℕ
   pub long : length l ≡ 8 * m
-  pub still : accepted (rising (rulesIn n rows text)) ≡ acceptedAfter first last (rulesIn m l t)
+  pub still : hasRules (rising (rulesIn n rows text)) ≡ acceptedAfter first last (rulesIn m l t)
 
-rules-left-all : (last : List ℕ) (o : Option (List Rule)) → accepted (rising o) ≡ acceptedAfter true last o
+rules-left-all : (last : List ℕ) (o : Option (List Rule)) → hasRules (rising o) ≡ acceptedAfter true last o
 rules-left-all last none = refl
 rules-left-all last (some rs) =
     by-test (rises rs)
-    (λ e. ap (λ b. accepted (cond b (some rs) none)) e ∙ sym e)
-    (λ e. ap (λ b. accepted (cond b (some rs) none)) e ∙ sym e)
+    (λ e. ap (λ b. hasRules (cond b (some rs) none)) e ∙ sym e)
+    (λ e. ap (λ b. hasRules (cond b (some rs) none)) e ∙ sym e)
 
 pub rules-left-start : (n : ℕ) (rows text last : List ℕ) → length rows ≡ 8 * n → RulesLeft n rows text true last rows text
 rules-left-start n rows text last h = record { m = n; long = h; still = rules-left-all last (rulesIn n rows text) }
@@ -124,19 +124,19 @@ module _ {n : ℕ} {rows text : List ℕ} {first : Bool} {last l t : List ℕ} (
   abbrev others : ℕ → Option (List Rule)
   others k = rulesIn k (drop 8 l) (drop (ruleTaken l) t)
 
-  next-row : (k : ℕ) → s .m ≡ suc k → accepted (rising (rulesIn n rows text)) ≡ acceptedAfter first last (cond (ruleRowFits l t) (ahead (ruleAt l t) (others k)) none)
+  next-row : (k : ℕ) → s .m ≡ suc k → hasRules (rising (rulesIn n rows text)) ≡ acceptedAfter first last (cond (ruleRowFits l t) (ahead (ruleAt l t) (others k)) none)
   unfolding rulesIn
   next-row k e = s .still ∙ ap (λ j. acceptedAfter first last (rulesIn j l t)) e
 
   one-more : 8 ≤ length l → s .m ≡ suc (s .m - 1)
   one-more h = let q = s .long in omega arith
 
-  pub rules-left-unfit : 8 ≤ length l → ruleRowFits l t ≡ false → false ≡ accepted (rising (rulesIn n rows text))
+  pub rules-left-unfit : 8 ≤ length l → ruleRowFits l t ≡ false → false ≡ hasRules (rising (rulesIn n rows text))
   rules-left-unfit h e = sym (next-row (s .m - 1) (one-more h) ∙ ap (λ b. acceptedAfter first last (cond b (ahead (ruleAt l t) (others (s .m - 1))) none)) e)
 
   fit-row :
       (k : ℕ) (b : Bool) (i : ℕ) → s .m ≡ suc k → ruleRowFits l t ≡ true → i ≡ nameLength l → b ≡ (first || precedes last (take i t))
-      → accepted (rising (rulesIn n rows text)) ≡ (b && acceptedAfter false (take i t) (others k))
+      → hasRules (rising (rulesIn n rows text)) ≡ (b && acceptedAfter false (take i t) (others k))
   fit-row k b i q e p f =
       next-row k q
       ∙ ap (λ b. acceptedAfter first last (cond b (ahead (ruleAt l t) (others k)) none)) e
@@ -146,7 +146,7 @@ module _ {n : ℕ} {rows text : List ℕ} {first : Bool} {last l t : List ℕ} (
 
   pub rules-left-falls :
       (b : Bool) (i : ℕ) → 8 ≤ length l → ruleRowFits l t ≡ true → i ≡ nameLength l → b ≡ (first || precedes last (take i t)) → b ≡ false
-      → false ≡ accepted (rising (rulesIn n rows text))
+      → false ≡ hasRules (rising (rulesIn n rows text))
   rules-left-falls b i h e p f g =
       sym (fit-row (s .m - 1) b i (one-more h) e p f ∙ ap (λ b. b && acceptedAfter false (take i t) (others (s .m - 1))) g)
 
@@ -164,7 +164,7 @@ module _ {n : ℕ} {rows text : List ℕ} {first : Bool} {last l t : List ℕ} (
       (subst (λ x. RulesLeft n rows text false (take i t) (drop 8 l) x) (sym (part-rest t k))
       (subst (λ x. RulesLeft n rows text false (take i t) (drop 8 l) (drop x t)) (sym q) go))
 
-  pub rules-left-end : length l < 8 → eqb (length t) 0 ≡ accepted (rising (rulesIn n rows text))
+  pub rules-left-end : length l < 8 → eqb (length t) 0 ≡ hasRules (rising (rulesIn n rows text))
   rules-left-end h =
       let q = s .long in
       let z : s .m ≡ 0 = omega arith in

@@ -14,7 +14,7 @@ use Rattle.mitex_spec.specs.Rules.{Rule}
 use Rattle.text.specs.Trailer.{startOf, countOf, trailed, rowArea}
 use Rattle.text.proofs.Trailer.{Trailed, part-rows, part-many}
 use Rattle.mitex_spec.specs.RuleFile.{noAlias, rulesIn, rising, rulesOf, ruleText, textOfRules, rowsOfRules}
-use Rattle.mitex_spec.specs.Index.{offsetsFrom, startsFrom, firstsAt, indexSize, firsts, accepted, indexed, ChecksRules, Numbered, Ready, SomeRules}
+use Rattle.mitex_spec.specs.Index.{offsetsFrom, startsFrom, firstsAt, indexSize, firsts, hasRules, indexed, ChecksRules, Numbered, Ready, SomeRules}
 use Rattle.mitex_spec.proofs.RuleFile.{ruleRow-reads, rules-whole, rules-broken, file-rules}
 use Rattle.mitex_spec.proofs.Firsts.{length-firsts}
 
@@ -57,18 +57,18 @@ starts-offsets (r ∷ rs) at h =
 -- ---- what the check answers
 
 refused : (file index : List ℕ) → rulesOf file ≡ none → ChecksRules file index false index
-refused file index e = record { answer = sym (ap accepted e); fills = sym (ap (λ o. indexed o index) e) }
+refused file index e = record { answer = sym (ap hasRules e); fills = sym (ap (λ o. indexed o index) e) }
 
 pub checked-broken : (file index : List ℕ) → trailed file ≡ false → ChecksRules file index false index
 checked-broken file index h = refused file index (rules-broken file h)
 
-accepted-none : (o : Option (List Rule)) → accepted o ≡ false → o ≡ none
-accepted-none none e = refl
-accepted-none (some rs) e = absurd (true≢false e)
+hasRules-none : (o : Option (List Rule)) → hasRules o ≡ false → o ≡ none
+hasRules-none none e = refl
+hasRules-none (some rs) e = absurd (true≢false e)
 
-accepted-some : (o : Option (List Rule)) → accepted o ≡ true → (rs : List Rule) × (o ≡ some rs)
-accepted-some none e = absurd (true≢false (sym e))
-accepted-some (some rs) e = (rs, refl)
+hasRules-some : (o : Option (List Rule)) → hasRules o ≡ true → (rs : List Rule) × (o ≡ some rs)
+hasRules-some none e = absurd (true≢false (sym e))
+hasRules-some (some rs) e = (rs, refl)
 
 -- the file has rules, and their offsets were stored
 pub record Begun (file index index′ : List ℕ) : Type 0 where
@@ -82,23 +82,23 @@ module _ (file : List ℕ) (w : Trailed file) (start : ℕ) (e : start ≡ start
   rows = take (length file - 8 - start) (drop start file)
 
   abbrev Asks : Bool → Type 0
-  Asks fit = (n : ℕ) → length rows ≡ 8 * n → fit ≡ accepted (rising (rulesIn n rows (take start file)))
+  Asks fit = (n : ℕ) → length rows ≡ 8 * n → fit ≡ hasRules (rising (rulesIn n rows (take start file)))
 
-  fit-whole : (fit : Bool) → Asks fit → fit ≡ accepted (rulesOf file)
+  fit-whole : (fit : Bool) → Asks fit → fit ≡ hasRules (rulesOf file)
   fit-whole fit asks =
       asks (countOf file) (part-many file w start e)
-      ∙ ap (λ l. accepted (rising (rulesIn (countOf file) l (take start file)))) (part-rows file w start e)
-      ∙ ap (λ k. accepted (rising (rulesIn (countOf file) (rowArea file) (take k file)))) e
-      ∙ sym (ap accepted (rules-whole file w))
+      ∙ ap (λ l. hasRules (rising (rulesIn (countOf file) l (take start file)))) (part-rows file w start e)
+      ∙ ap (λ k. hasRules (rising (rulesIn (countOf file) (rowArea file) (take k file)))) e
+      ∙ sym (ap hasRules (rules-whole file w))
 
   pub checked-unfit : (index : List ℕ) (fit : Bool) → Asks fit → fit ≡ false → ChecksRules file index false index
-  checked-unfit index fit asks e = refused file index (accepted-none (rulesOf file) (sym (fit-whole fit asks) ∙ e))
+  checked-unfit index fit asks e = refused file index (hasRules-none (rulesOf file) (sym (fit-whole fit asks) ∙ e))
 
   pub begun-fit :
       (index index′ : List ℕ) (fit : Bool) → Bytes file → Asks fit → fit ≡ true
       → ((n : ℕ) → length rows ≡ 8 * n → index′ ≡ sets index 0 (startsFrom 0 n rows)) → Begun file index index′
   begun-fit index index′ fit by asks t fill =
-      let s = accepted-some (rulesOf file) (sym (fit-whole fit asks) ∙ t) in
+      let s = hasRules-some (rulesOf file) (sym (fit-whole fit asks) ∙ t) in
       let d = file-rules file (s .0) by (s .1) in
       let at = d .start in
       let sum = w .sum in
@@ -133,7 +133,7 @@ module _ {file index index′ : List ℕ} (b : Begun file index index′) where
       {index″ : List ℕ} → ((rs : List Rule) → rulesOf file ≡ some rs → index″ ≡ sets index′ firstsAt (firsts rs)) → ChecksRules file index true index″
   checked-fit {index″} fill =
       record {
-        answer = sym (ap accepted (b .decodes));
+        answer = sym (ap hasRules (b .decodes));
         fills =
             fill (b .rules) (b .decodes)
             ∙ ap (λ l. sets l firstsAt (firsts (b .rules))) (b .begins)
@@ -164,7 +164,7 @@ pub checked-rules :
     {file index : List ℕ} {ok : Bool} {index′ : List ℕ} → Bytes file → indexSize ≤ length index → ChecksRules file index ok index′ → ok ≡ true
     → SomeRules file index′
 checked-rules {file} {index} {ok} {index′} by room c t =
-    let s = accepted-some (rulesOf file) (sym (c .answer) ∙ t) in
+    let s = hasRules-some (rulesOf file) (sym (c .answer) ∙ t) in
     let few = rules-few file (s .0) by (s .1) in
     record { rules = s .0; ready = checked-ready file index index′ (s .0) (s .1) (omega arith) room (c .fills) }
 
@@ -173,7 +173,7 @@ pub checked-none :
     {file index : List ℕ} {ok : Bool} {index′ : List ℕ} → ChecksRules file index ok index′ → ok ≡ false
     → (rulesOf file ≡ none) × (index′ ≡ index)
 checked-none {file} {index} {ok} {index′} c f =
-    let e = accepted-none (rulesOf file) (sym (c .answer) ∙ f) in (e, c .fills ∙ ap (λ o. indexed o index) e)
+    let e = hasRules-none (rulesOf file) (sym (c .answer) ∙ f) in (e, c .fills ∙ ap (λ o. indexed o index) e)
 
 -- a file has one list of rules
 pub rules-one : (file : List ℕ) {rs ss : List Rule} → rulesOf file ≡ some rs → rulesOf file ≡ some ss → rs ≡ ss

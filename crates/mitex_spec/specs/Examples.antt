@@ -11,7 +11,7 @@ use Rattle.text.specs.Compare.{same, precedes}
 use Rattle.utf8.specs.Utf8.{charSteps, valid}
 use Rattle.mitex_spec.specs.Rules.{Rule, rule, get, getCmd, getEnv, writtenName}
 use Rattle.mitex_spec.specs.RuleFile.{risesFrom, ruleRowFits, rulesIn, rulesOf, rowsOfRules, textOfRules, fileOfRules}
-use Rattle.mitex_spec.specs.Index.{firstsBelow, accepted}
+use Rattle.mitex_spec.specs.Index.{firstsBelow, hasRules}
 
 -- ---- a file of four rules, the first with the empty name and an empty alias
 
@@ -47,7 +47,7 @@ abbrev laid : List ℕ → ℕ → List ℕ → List ℕ
 laid t n rows = t ++ (rows ++ four (length t) (four n []))
 
 abbrev isAccepted : List ℕ → Bool
-isAccepted l = accepted (rulesOf l)
+isAccepted l = hasRules (rulesOf l)
 
 abbrev goodFiles : List (List ℕ)
 goodFiles =

@@ -48,9 +48,9 @@ abbrev pub firsts : List Rule → List ℕ
 firsts rs = firstsFrom 0 257 rs
 
 -- whether there are rules, and what the check leaves in the index: what it had where there are none
-abbrev pub accepted : Option (List Rule) → Bool
-accepted none = false
-accepted (some rs) = true
+abbrev pub hasRules : Option (List Rule) → Bool
+hasRules none = false
+hasRules (some rs) = true
 
 abbrev pub indexed : Option (List Rule) → List ℕ → List ℕ
 indexed none index = index
@@ -58,7 +58,7 @@ indexed (some rs) index = sets (sets index 0 (offsetsFrom 0 rs)) firstsAt (first
 
 -- what the check promises: its answer, and the index after it
 pub record ChecksRules (file index : List ℕ) (ok : Bool) (index′ : List ℕ) : Type 0 where
-  pub answer : ok ≡ accepted (rulesOf file)
+  pub answer : ok ≡ hasRules (rulesOf file)
   pub fills : index′ ≡ indexed (rulesOf file) index
 
 -- the rule of a number, and how many of the first names come before a name

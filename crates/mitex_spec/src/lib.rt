@@ -11,7 +11,7 @@ ghost use Rattle.text.specs.Trailer.{fileMost};
 ghost use Rattle.utf8.specs.Utf8.{oneByteEach};
 ghost use Rattle.mitex_spec.specs.Rules.{Rule, get, getCmd, getEnv, aliasOr};
 ghost use Rattle.mitex_spec.specs.RuleFile.{rulesOf, rulesIn, rising, padded, ruleRowFits, aliasLength, ruleTaken};
-ghost use Rattle.mitex_spec.specs.Index.{startsFrom, firstsAt, indexSize, firstByte, firstsBelow, firsts, accepted};
+ghost use Rattle.mitex_spec.specs.Index.{startsFrom, firstsAt, indexSize, firstByte, firstsBelow, firsts, hasRules};
 ghost use Rattle.mitex_spec.specs.Index.{ChecksRules, ruleNo, rankOf, Numbered, SomeRule, SomeRules};
 ghost use Rattle.mitex_spec.specs.LookUp.{aliasOf, endOf, isCmd, Finds, Answers};
 ghost use Rattle.mitex_spec.specs.declared.Found.the-variants.{Absent};
@@ -109,7 +109,7 @@ fn may_follow(first: bool, last: &[u8], name: &[u8]) -> bool
 
 // Whether each row is one, the texts fill the text, and the names rise.
 fn rules_fit(rows: &[u8], text: &[u8]) -> bool
-    ensures { λ r. ⌜ ((n : ℕ) → length (now (rows .entry)) ≡ 8 * n → r ≡ accepted (rising (rulesIn n (now (rows .entry)) (now (text .entry))))) ⌝ }
+    ensures { λ r. ⌜ ((n : ℕ) → length (now (rows .entry)) ≡ 8 * n → r ≡ hasRules (rising (rulesIn n (now (rows .entry)) (now (text .entry))))) ⌝ }
 {
     let plain = utf8::one_byte_each(text);
     let mut l = rows;

@@ -26,7 +26,7 @@ use Rattle.edit_meaning.specs.Edit.{carryBefore, rowCarries}
 use Rattle.edit_meaning.proofs.Bytes.{carryBefore-at, rowCarries-at}
 use Rattle.manuscript.specs.Manuscript.{listed, block, blocksIn}
 use Rattle.passes.specs.Passes.{BlocksUpTo, rowNo, converterOf, Stepped, Steps, carriesOn, keptBlock, MeetsBefore, walkBy, Came}
-use Rattle.passes.specs.Passes.Came.{stops, comes}
+use Rattle.passes.specs.Passes.Came.{came-stopped, came-through}
 use Rattle.passes.specs.declared.Standing.{Standing}
 use Rattle.passes.proofs.Stepping.{fine, same-mode, onward}
 use Rattle.passes.proofs.Reaching.{count-sizes}
@@ -105,14 +105,14 @@ module _ (𝓒 : BlockConverter) where
 module _ {s r q : Standing} (p : Piece) (counted : r .block ≡ s .block + 1)
     (place : r .walked .at ≡ min cap (s .walked .at + length (p .text))) where
   came-onto : {v : Walk} → Came r q v → Came s q (onto p v)
-  came-onto (stops h e f) = stops h e f
-  came-onto (comes {ps} e f g) = comes {ps = p ∷ ps} e (omega arith) (omega (arith, length-append (p .text) (written ps)))
+  came-onto (came-stopped h e f) = came-stopped h e f
+  came-onto (came-through {ps} e f g) = came-through {ps = p ∷ ps} e (omega arith) (omega (arith, length-append (p .text) (written ps)))
 
 -- by what is known of a block's answer
 module _ {s r : Standing} {x : Place} {row : ℕ} {out out′ : List ℕ} (edits : Bool) (d : Carry) (k : Carry → Walk) where
   came-refused :
       {o : Outcome} → Agrees (r .walked) x row (s .walked .at) out out′ o → (r .walked .refusal ≡ 0 → ⊥) → Came s r (walkTurn edits o row d k)
-  came-refused (declines h e f) z = stops h e f
+  came-refused (declines h e f) z = came-stopped h e f
   came-refused (accepts u ex ec l w) z = absurd (z u)
 
   came-after :
@@ -127,7 +127,7 @@ module _ {s r : Standing} {x : Place} {row : ℕ} {out out′ : List ℕ} (edits
 
 -- nothing more was measured
 pub came-here : {r : Standing} → r .walked .refusal ≡ 0 → r .walked .at ≤ cap → Came r r (pieces [])
-came-here z low = comes {ps = []} z (omega arith) (omega arith)
+came-here z low = came-through {ps = []} z (omega arith) (omega arith)
 
 -- ---- the block at which a pass stands
 
@@ -174,8 +174,8 @@ module _ {rules index rows text : List ℕ} {s : Standing} {n : ℕ} (w : Blocks
     abbrev stepped : Stepped rules index rows text s (w .given .rs) tree others out r out′
     stepped = passes (w .given) tree others (here .1 .1)
 
-    pub one-more : r .block ≡ s .block + 1
-    one-more = stepped .counted
+    pub counts-one : r .block ≡ s .block + 1
+    counts-one = stepped .counted
 
     -- after the block
     module _ (z : r .walked .refusal ≡ 0) where
@@ -186,7 +186,7 @@ module _ {rules index rows text : List ℕ} {s : Standing} {n : ℕ} (w : Blocks
       next-given =
           record {
             given = onward (w .given) tree others (here .1 .1) stepped z;
-            many = omega (arith, w .many, one-more, ap count (here .1 .1), count-more tree others);
+            many = omega (arith, w .many, counts-one, ap count (here .1 .1), count-more tree others);
             few = w .few;
           }
 
@@ -222,7 +222,7 @@ module _ {rules index rows text : List ℕ} {s : Standing} {n : ℕ} (w : Blocks
         rest-after =
             let mode = sym (same-mode (w .given) tree others (here .1 .1) stepped z) in
             let row = sym (stepped .row) in
-            let k : suc compared ≡ keptBlock (suc (r .block)) n was = omega (arith, one-more) in
+            let k : suc compared ≡ keptBlock (suc (r .block)) n was = omega (arith, counts-one) in
             λ i. walkBy (blocksIn (mode i) (w .given .rs)) edits (carryOf (r .walked .converter)) (row i) (listed others)
             (carriesOn (k i) (decodeRows was kept))
 
@@ -232,7 +232,7 @@ module _ {rules index rows text : List ℕ} {s : Standing} {n : ℕ} (w : Blocks
             → Came r q (cond b (pieces []) (walkFrom (next-given z) was edits kept)) → Came s q (walkFrom w was edits kept)
         came-turn {q = q} is m =
             subst (Came s q) (sym walk-turn)
-            (came-after edits carry rest (stepped .agrees) z one-more
+            (came-after edits carry rest (stepped .agrees) z counts-one
             (subst (Came r q) (λ i. cond (is i) (pieces []) (sym rest-after i)) m))
 
 -- ---- the loop
@@ -253,7 +253,7 @@ module _ {rules index rows text : List ℕ} {from s : Standing} {n : ℕ} {w : B
 
     -- the kept block that is compared after this one
     pub compared-within : keptBlock (r .block) n was ≤ was
-    compared-within = omega (arith, one-more (p .whole) h passes)
+    compared-within = omega (arith, counts-one (p .whole) h passes)
 
     module _ (z : r .walked .refusal ≡ 0) (b : Bool)
         (is : b ≡ edits && sameCarry (carryOf (r .walked .converter)) (carryBefore (keptBlock (r .block) n was) (decodeRows was kept))) where
@@ -262,7 +262,7 @@ module _ {rules index rows text : List ℕ} {from s : Standing} {n : ℕ} {w : B
 
       is-met : b ≡ edits && sameCarry (carryOf (r .walked .converter)) (carryBefore (keptBlock (suc (s .block)) n was) (decodeRows was kept))
       is-met =
-          let k : keptBlock (r .block) n was ≡ keptBlock (suc (s .block)) n was = omega (arith, one-more (p .whole) h passes) in
+          let k : keptBlock (r .block) n was ≡ keptBlock (suc (s .block)) n was = omega (arith, counts-one (p .whole) h passes) in
           is ∙ ap (λ j. edits && sameCarry (carryOf (r .walked .converter)) (carryBefore j (decodeRows was kept))) k
 
       pub blocks-passed-met : b ≡ true → Came from r (walkFrom w was edits kept)
@@ -273,6 +273,6 @@ module _ {rules index rows text : List ℕ} {from s : Standing} {n : ℕ} {w : B
       blocks-passed-next e =
           record {
             whole = next-whole;
-            near = omega (arith, p .near, one-more (p .whole) h passes);
+            near = omega (arith, p .near, counts-one (p .whole) h passes);
             finish = λ q m. p .finish q (came-turn (p .whole) h passes was (p .near) edits kept z (sym e ∙ is-met) m);
           }

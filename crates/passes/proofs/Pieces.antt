@@ -12,12 +12,12 @@ use Rattle.mitex_meaning.specs.Outcome.Outcome.{refused, done}
 use Rattle.mitex_meaning.specs.Keeping.{Short}
 use Rattle.ledger.specs.Ledger.{sameCarry, Piece, written}
 use Rattle.ledger.proofs.Rows.{AllShort}
-use Rattle.ledger.proofs.Rows.AllShort.{none, more}
+use Rattle.ledger.proofs.Rows.AllShort.{short-none, short-more}
 use Rattle.edit_meaning.specs.Walk.{BlockConverter, KeepsShort, Walk, onto, next, nextUntil, walk, walkUntil}
 use Rattle.edit_meaning.specs.Walk.Walk.{stopped, pieces}
 use Rattle.passes.specs.Passes.{FirstPieces, walkBy, Came}
 use Rattle.passes.specs.Passes.FirstPieces.{none-yet, one-more}
-use Rattle.passes.specs.Passes.Came.{stops, comes}
+use Rattle.passes.specs.Passes.Came.{came-stopped, came-through}
 use Rattle.passes.specs.declared.Standing.{Standing}
 
 module _ (𝓒 : BlockConverter) where
@@ -76,15 +76,15 @@ module _ (𝓒 : BlockConverter) where
   gives-within (one-more e g) = omega (arith, gives-within g)
 
   pub gives-short : KeepsShort 𝓒 → {c : Carry} {bs : List Block} {ps : List Piece} → Short c → FirstPieces 𝓒 c bs ps → AllShort ps
-  gives-short keeps h none-yet = none
-  gives-short keeps h (one-more {c} {c′} {b} {t = t} e g) = let s = keeps c c′ b t h e in more s (gives-short keeps s g)
+  gives-short keeps h none-yet = short-none
+  gives-short keeps h (one-more {c} {c′} {b} {t = t} e g) = let s = keeps c c′ b t h e in short-more s (gives-short keeps s g)
 
 -- ---- what a measuring pass came to
 
 pub came-refused :
     {from r : Standing} {v : Walk} → Came from r v → (r .walked .refusal ≡ 0 → ⊥) → v ≡ stopped (r .walked .refusal) (r .walked .row)
-came-refused (stops h n i) z = λ k. stopped (sym n k) (sym i k)
-came-refused (comes w b p) z = absurd (z w)
+came-refused (came-stopped h n i) z = λ k. stopped (sym n k) (sym i k)
+came-refused (came-through w b p) z = absurd (z w)
 
 pub record Came-to (from r : Standing) (v : Walk) : Type 0 where
   pub ps : List Piece
@@ -93,5 +93,5 @@ pub record Came-to (from r : Standing) (v : Walk) : Type 0 where
   pub place : r .walked .at ≡ min cap (from .walked .at + length (written ps))
 
 pub came-pieces : {from r : Standing} {v : Walk} → Came from r v → r .walked .refusal ≡ 0 → Came-to from r v
-came-pieces (stops h n i) z = absurd (omega arith)
-came-pieces (comes {ps = ps} w b p) z = record { ps = ps; are = refl; block = b; place = p }
+came-pieces (came-stopped h n i) z = absurd (omega arith)
+came-pieces (came-through {ps = ps} w b p) z = record { ps = ps; are = refl; block = b; place = p }

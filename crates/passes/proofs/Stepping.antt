@@ -19,7 +19,7 @@ use Rattle.mitex_meaning.specs.declared.Place.{Place}
 use Rattle.mitex_meaning.specs.Conversion.{convert, levels, startContext}
 use Rattle.mitex_meaning.specs.declared.Converter.{Converter}
 use Rattle.mitex_meaning.specs.declared.Walked.{Walked}
-use Rattle.mitex_meaning.proofs.Agreeing.{Good, good}
+use Rattle.mitex_meaning.proofs.Agreeing.{Good, agrees-good}
 use Rattle.mitex.specs.Walks.{Room, ConvertsElement}
 use Rattle.passes.specs.Passes.{Outside, BlocksGiven, rowNo, Stepped}
 use Rattle.passes.specs.declared.Standing.{Standing}
@@ -111,7 +111,7 @@ module _ {rules index rows text : List ℕ} {s : Standing} (w : BlocksGiven rule
     module _ {out out′ : List ℕ} {r : Standing} (p : Stepped rules index rows text s (w .rs) t g out r out′)
         (z : r .walked .refusal ≡ 0) where
       pub fine : Good (r .walked) (placeOf (s .walked .converter))
-      fine = good (p .agrees) z
+      fine = agrees-good (p .agrees) z
 
       pub same-mode : r .walked .converter .mode ≡ s .walked .converter .mode
       same-mode = ap (λ (q : Place). q .mode) (fine .placed-so)

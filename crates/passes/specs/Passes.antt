@@ -147,8 +147,8 @@ walkBy 𝓒 true c r bs ds = walkUntil 𝓒 c r bs ds
 
 -- a measuring pass came to a walk: it was refused as the walk was; or it stands after the walk's pieces
 pub data Came (from r : Standing) : Walk → Type 0 where
-  stops : {n i : ℕ} → 0 < n → r .walked .refusal ≡ n → r .walked .row ≡ i → Came from r (stopped n i)
-  comes :
+  came-stopped : {n i : ℕ} → 0 < n → r .walked .refusal ≡ n → r .walked .row ≡ i → Came from r (stopped n i)
+  came-through :
       {ps : List Piece} → r .walked .refusal ≡ 0 → r .block ≡ from .block + length ps
       → r .walked .at ≡ min cap (from .walked .at + length (written ps)) → Came from r (pieces ps)
 

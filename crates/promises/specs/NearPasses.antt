@@ -14,7 +14,7 @@ use Rattle.edit_meaning.specs.Calls.{Gives, Converts, Edits}
 use Rattle.edit_meaning.specs.ChangeCalls.{Alters}
 use Rattle.manuscript.specs.Manuscript.{manuscript}
 use Rattle.promises.specs.Starred.{zeros, Call, Trial, trial, result, hand, starred, small, small-hold, altered, altered-hold}
-use Rattle.promises.specs.Starred.Call.{converts, edits, alters}
+use Rattle.promises.specs.Starred.Call.{convertCall, editCall, alterCall}
 
 -- ---- programs
 
@@ -24,11 +24,11 @@ Program = Call → Result
 
 -- what the contracts of `convert`, `edit`, `insert` and `remove` say of a call
 abbrev pub Right : Call → Result → Type 0
-Right (converts mode rules tree text ledger) r =
+Right (convertCall mode rules tree text ledger) r =
     Converts (manuscript mode rules) tree text ledger (r .answer) (r .text) (r .ledger)
-Right (edits mode rules tree block kept text ledger) r =
+Right (editCall mode rules tree block kept text ledger) r =
     Edits (manuscript mode rules) tree block kept text ledger (r .answer) (r .text) (r .ledger)
-Right (alters mode rules tree k kept text ledger) r =
+Right (alterCall mode rules tree k kept text ledger) r =
     Alters (manuscript mode rules) tree k kept text ledger (r .answer) (r .text) (r .ledger)
 
 abbrev pub Meets : Program → Type 0
@@ -37,15 +37,15 @@ Meets p = (c : Call) → Right c (p c)
 -- the definitions themselves meet it, and whatever meets it is the definitions at each call
 pub result-meets : Meets result
 unfolding result
-result-meets (converts mode rules tree text ledger) = record { gives = record { answer = refl; bytes = refl; rows = refl } }
-result-meets (edits mode rules tree block kept text ledger) = record { gives = record { answer = refl; bytes = refl; rows = refl } }
-result-meets (alters mode rules tree k kept text ledger) = record { gives = record { answer = refl; bytes = refl; rows = refl } }
+result-meets (convertCall mode rules tree text ledger) = record { gives = record { answer = refl; bytes = refl; rows = refl } }
+result-meets (editCall mode rules tree block kept text ledger) = record { gives = record { answer = refl; bytes = refl; rows = refl } }
+result-meets (alterCall mode rules tree k kept text ledger) = record { gives = record { answer = refl; bytes = refl; rows = refl } }
 
 right-gives : (c : Call) (r : Result) → Right c r → Gives (result c) (r .answer) (r .text) (r .ledger)
 unfolding result
-right-gives (converts mode rules tree text ledger) r h = h .gives
-right-gives (edits mode rules tree block kept text ledger) r h = h .gives
-right-gives (alters mode rules tree k kept text ledger) r h = h .gives
+right-gives (convertCall mode rules tree text ledger) r h = h .gives
+right-gives (editCall mode rules tree block kept text ledger) r h = h .gives
+right-gives (alterCall mode rules tree k kept text ledger) r h = h .gives
 
 meets-is : (p : Program) → Meets p → (c : Call) → p c ≡ result c
 meets-is p m c =
@@ -56,32 +56,32 @@ meets-is p m c =
 
 -- the text buffer as it is lent
 abbrev textLent : Call → List ℕ
-textLent (converts mode rules tree text ledger) = text
-textLent (edits mode rules tree block kept text ledger) = text
-textLent (alters mode rules tree k kept text ledger) = text
+textLent (convertCall mode rules tree text ledger) = text
+textLent (editCall mode rules tree block kept text ledger) = text
+textLent (alterCall mode rules tree k kept text ledger) = text
 
 abbrev ledgerLent : Call → List ℕ
-ledgerLent (converts mode rules tree text ledger) = ledger
-ledgerLent (edits mode rules tree block kept text ledger) = ledger
-ledgerLent (alters mode rules tree k kept text ledger) = ledger
+ledgerLent (convertCall mode rules tree text ledger) = ledger
+ledgerLent (editCall mode rules tree block kept text ledger) = ledger
+ledgerLent (alterCall mode rules tree k kept text ledger) = ledger
 
 -- the new document converted from its start, in the same buffers
 abbrev afresh : Call → Call
-afresh (converts mode rules tree text ledger) = converts mode rules tree text ledger
-afresh (edits mode rules tree block kept text ledger) = converts mode rules tree text ledger
-afresh (alters mode rules tree k kept text ledger) = converts mode rules tree text ledger
+afresh (convertCall mode rules tree text ledger) = convertCall mode rules tree text ledger
+afresh (editCall mode rules tree block kept text ledger) = convertCall mode rules tree text ledger
+afresh (alterCall mode rules tree k kept text ledger) = convertCall mode rules tree text ledger
 
 -- the same files in other buffers; the kept length goes with these, and an edit's block
 abbrev inBuffers : ℕ → ℕ → List ℕ → List ℕ → Call → Call
-inBuffers block kept text ledger (converts mode rules tree t l) = converts mode rules tree text ledger
-inBuffers block kept text ledger (edits mode rules tree b k t l) = edits mode rules tree block kept text ledger
-inBuffers block kept text ledger (alters mode rules tree k n t l) = alters mode rules tree k kept text ledger
+inBuffers block kept text ledger (convertCall mode rules tree t l) = convertCall mode rules tree text ledger
+inBuffers block kept text ledger (editCall mode rules tree b k t l) = editCall mode rules tree block kept text ledger
+inBuffers block kept text ledger (alterCall mode rules tree k n t l) = alterCall mode rules tree k kept text ledger
 
 abbrev noResult : Result
 noResult = record { answer = refused 0 0; text = []; ledger = [] }
 
 abbrev noTrial : Trial
-noTrial = record { call = converts 0 [] [] [] []; gives = noResult }
+noTrial = record { call = convertCall 0 [] [] [] []; gives = noResult }
 
 abbrev callAt : ℕ → List Trial → Call
 callAt k trials = (getD trials k noTrial) .call

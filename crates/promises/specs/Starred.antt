@@ -38,9 +38,9 @@ use Rattle.manuscript.specs.Manuscript.{manuscript}
 
 -- what a call is given
 pub data Call : Type 0 where
-  converts : (mode : ℕ) (rules tree text ledger : List ℕ) → Call
-  edits : (mode : ℕ) (rules tree : List ℕ) (block kept : ℕ) (text ledger : List ℕ) → Call
-  alters : (mode : ℕ) (rules tree : List ℕ) (k : Kind) (kept : ℕ) (text ledger : List ℕ) → Call
+  convertCall : (mode : ℕ) (rules tree text ledger : List ℕ) → Call
+  editCall : (mode : ℕ) (rules tree : List ℕ) (block kept : ℕ) (text ledger : List ℕ) → Call
+  alterCall : (mode : ℕ) (rules tree : List ℕ) (k : Kind) (kept : ℕ) (text ledger : List ℕ) → Call
 
 -- what it answers and leaves; whoever unfolds this unfolds all that a call computes by, of which `hold` has the conversion's part
 unfoldable pub result : Call → Result
@@ -48,9 +48,9 @@ unfolding rulesOf rulesIn ruleRowFits risesFrom valid charSteps precedes checkTr
     walk walkUntil conversion convertDocument settle room roomForText edit editFits again write textAfter ledgerAfter
     change changeFits remake puttingIn takingOut exchange frontOver
     encodeRow encodeCarry decodeRow fits rowFits marksFit allZero moveRow sameCarry
-result (converts mode rules tree text ledger) = convertDocument (manuscript mode rules) tree text ledger
-result (edits mode rules tree block kept text ledger) = edit (manuscript mode rules) tree block kept text ledger
-result (alters mode rules tree k kept text ledger) = change (manuscript mode rules) tree k kept text ledger
+result (convertCall mode rules tree text ledger) = convertDocument (manuscript mode rules) tree text ledger
+result (editCall mode rules tree block kept text ledger) = edit (manuscript mode rules) tree block kept text ledger
+result (alterCall mode rules tree k kept text ledger) = change (manuscript mode rules) tree k kept text ledger
 
 -- a call, and what it is to give: an answer, the text buffer and the ledger
 pub record Trial : Type 0 where
@@ -188,41 +188,41 @@ keptLedger = labelRow 33 ++ ledgerRow (160 ∷ []) ++ sevens 4
 abbrev pub hand : List Trial
 hand =
     -- the empty root
-    trial (converts textMode ruleFile (treeWith "" []) (sevens 2) (sevens 2)) (converted 0 0) (sevens 2) (sevens 2)
+    trial (convertCall textMode ruleFile (treeWith "" []) (sevens 2) (sevens 2)) (converted 0 0) (sevens 2) (sevens 2)
     -- Math `ab`
-    ∷ trial (converts mathMode ruleFile (treeWith "ab" (wordRow 2 ∷ [])) (sevens 6) (ledgerFor 1))
+    ∷ trial (convertCall mathMode ruleFile (treeWith "ab" (wordRow 2 ∷ [])) (sevens 6) (ledgerFor 1))
     (converted 4 1) (ascii "a b " ++ sevens 2) (ledgerRow (4 ∷ []) ++ sevens 2)
     -- line feed, space, space: the flag is set after the first
-    ∷ trial (converts textMode ruleFile (treeWith "\n  " (breakRow ∷ spaceRow ∷ spaceRow ∷ [])) (sevens 4) (ledgerFor 3))
+    ∷ trial (convertCall textMode ruleFile (treeWith "\n  " (breakRow ∷ spaceRow ∷ spaceRow ∷ [])) (sevens 4) (ledgerFor 3))
     (converted 2 3) (ascii "\n " ++ sevens 2) (flagRow 1 ++ ledgerRow (1 ∷ []) ++ ledgerRow (2 ∷ []) ++ sevens 2)
     -- one leading space
-    ∷ trial (converts textMode ruleFile (treeWith " " (spaceRow ∷ [])) (sevens 3) (ledgerFor 1))
+    ∷ trial (convertCall textMode ruleFile (treeWith " " (spaceRow ∷ [])) (sevens 3) (ledgerFor 1))
     (converted 1 1) (ascii " " ++ sevens 2) (ledgerRow (1 ∷ []) ++ sevens 2)
     -- Math `{}`
-    ∷ trial (converts mathMode ruleFile (treeWith "{}" (bracesRows [])) (sevens 6) (ledgerFor 1))
+    ∷ trial (convertCall mathMode ruleFile (treeWith "{}" (bracesRows [])) (sevens 6) (ledgerFor 1))
     (converted 4 1) (ascii "zws " ++ sevens 2) (ledgerRow (4 ∷ []) ++ sevens 2)
     -- Math `{a}`
-    ∷ trial (converts mathMode ruleFile (treeWith "{a}" (bracesRows (wordRow 1 ∷ []))) (sevens 4) (ledgerFor 1))
+    ∷ trial (convertCall mathMode ruleFile (treeWith "{a}" (bracesRows (wordRow 1 ∷ []))) (sevens 4) (ledgerFor 1))
     (converted 2 1) (ascii "a " ++ sevens 2) (ledgerRow (2 ∷ []) ++ sevens 2)
     -- Math `x^2`
-    ∷ trial (converts mathMode ruleFile (treeWith "x^2" (nodeBytes ItemAttachComponent 3 ∷ wordRow 1 ∷ caretRow ∷ wordRow 1 ∷ [])) (sevens 9) (ledgerFor 1))
+    ∷ trial (convertCall mathMode ruleFile (treeWith "x^2" (nodeBytes ItemAttachComponent 3 ∷ wordRow 1 ∷ caretRow ∷ wordRow 1 ∷ [])) (sevens 9) (ledgerFor 1))
     (converted 7 1) (ascii "x ^(2 )" ++ sevens 2) (ledgerRow (7 ∷ []) ++ sevens 2)
     -- Math `^2`
-    ∷ trial (converts mathMode ruleFile (treeWith "^2" (nodeBytes ItemAttachComponent 2 ∷ caretRow ∷ wordRow 1 ∷ [])) (sevens 10) (ledgerFor 1))
+    ∷ trial (convertCall mathMode ruleFile (treeWith "^2" (nodeBytes ItemAttachComponent 2 ∷ caretRow ∷ wordRow 1 ∷ [])) (sevens 10) (ledgerFor 1))
     (converted 8 1) (ascii "zws^(2 )" ++ sevens 2) (ledgerRow (8 ∷ []) ++ sevens 2)
     -- `$x$`
-    ∷ trial (converts textMode ruleFile (treeWith "$x$" (nodeBytes ItemFormula 3 ∷ dollarRow ∷ wordRow 1 ∷ dollarRow ∷ [])) (sevens 37) (ledgerFor 1))
+    ∷ trial (convertCall textMode ruleFile (treeWith "$x$" (nodeBytes ItemFormula 3 ∷ dollarRow ∷ wordRow 1 ∷ dollarRow ∷ [])) (sevens 37) (ledgerFor 1))
     (converted 35 1) (ascii "#math.equation(block: false, $x $);" ++ sevens 2) (ledgerRow (35 ∷ []) ++ sevens 2)
     -- `\item` as row 1
-    ∷ trial (converts textMode ruleFile (treeWith "\\item" itemRows) (sevens 2) (ledgerFor 1)) (refused 11 1) (sevens 2) (ledgerFor 1)
+    ∷ trial (convertCall textMode ruleFile (treeWith "\\item" itemRows) (sevens 2) (ledgerFor 1)) (refused 11 1) (sevens 2) (ledgerFor 1)
     -- the table
-    ∷ trial (converts textMode ruleFile tableTree (sevens 126) (ledgerFor 1))
+    ∷ trial (convertCall textMode ruleFile tableTree (sevens 126) (ledgerFor 1))
     (converted 124 1) (tableText ++ sevens 2) (ledgerRow (124 ∷ []) ++ sevens 2)
     -- `${\label{e}}$` then that table
-    ∷ trial (converts textMode ruleFile labelledTree (sevens 165) (sevens (rowSize * 2 + 4)))
+    ∷ trial (convertCall textMode ruleFile labelledTree (sevens 165) (sevens (rowSize * 2 + 4)))
     (converted 160 2) keptText keptLedger
     -- block 0 edited to `a`, in the buffers that this left
-    ∷ trial (edits textMode ruleFile unlabelledTree 0 160 keptText keptLedger)
+    ∷ trial (editCall textMode ruleFile unlabelledTree 0 160 keptText keptLedger)
     (edited 125 (minus 35) 2) (ascii "a" ++ tableText ++ zeros 35 ++ sevens 5) (ledgerRow (1 ∷ []) ++ ledgerRow (125 ∷ []) ++ sevens 4)
     ∷ []
 
@@ -246,34 +246,34 @@ wordsLedger = ledgerRow (3 ∷ []) ++ ledgerRow (6 ∷ []) ++ ledgerRow (9 ∷ [
 abbrev pub small : List Trial
 small =
     -- the edit stops at once; what follows is moved, and zeros stand where the text shrank
-    trial (edits textMode ruleFile (wordsTree "onexsix" 1) 1 9 wordsText wordsLedger)
+    trial (editCall textMode ruleFile (wordsTree "onexsix" 1) 1 9 wordsText wordsLedger)
     (edited 7 (minus 2) 1) (ascii "onexsix" ++ zeros 2 ++ sevens 3) (ledgerRow (3 ∷ []) ++ ledgerRow (4 ∷ []) ++ ledgerRow (7 ∷ []) ++ sevens 2)
     -- the text fills its buffer; the buffer is one byte too short, and nothing changes
-    ∷ trial (edits textMode ruleFile (wordsTree "oneelevensix" 6) 1 9 wordsText wordsLedger)
+    ∷ trial (editCall textMode ruleFile (wordsTree "oneelevensix" 6) 1 9 wordsText wordsLedger)
     (edited 12 (pos 3) 1) (ascii "oneelevensix") (ledgerRow (3 ∷ []) ++ ledgerRow (9 ∷ []) ++ ledgerRow (12 ∷ []) ++ sevens 2)
-    ∷ trial (edits textMode ruleFile (wordsTree "oneseventhsix" 7) 1 9 wordsText wordsLedger) (refused 15 0) wordsText wordsLedger
+    ∷ trial (editCall textMode ruleFile (wordsTree "oneseventhsix" 7) 1 9 wordsText wordsLedger) (refused 15 0) wordsText wordsLedger
     -- whatever the text came from: what stands before the block and after it is kept
-    ∷ trial (edits textMode ruleFile (wordsTree "onexsix" 1) 1 9 (ascii "ONETWOSIX") wordsLedger)
+    ∷ trial (editCall textMode ruleFile (wordsTree "onexsix" 1) 1 9 (ascii "ONETWOSIX") wordsLedger)
     (edited 7 (minus 2) 1) (ascii "ONExSIX" ++ zeros 2) (ledgerRow (3 ∷ []) ++ ledgerRow (4 ∷ []) ++ ledgerRow (7 ∷ []) ++ sevens 2)
     -- a block begins with the flag of the row before: a space after a line feed writes nothing
-    ∷ trial (edits textMode ruleFile (treeWith "\n " (breakRow ∷ spaceRow ∷ [])) 1 2 (ascii "\na") (flagRow 1 ++ ledgerRow (2 ∷ [])))
+    ∷ trial (editCall textMode ruleFile (treeWith "\n " (breakRow ∷ spaceRow ∷ [])) 1 2 (ascii "\na") (flagRow 1 ++ ledgerRow (2 ∷ [])))
     (edited 1 (minus 1) 1) (ascii "\n" ++ zeros 1) (flagRow 1 ++ ledgerRow (1 ∷ []))
     -- 6: no such block; the kept length is not the last row's, or exceeds the buffer; a row one byte too short; lengths that fall
-    ∷ trial (edits textMode ruleFile (wordsTree "onexsix" 1) 3 9 wordsText wordsLedger) (refused 6 0) wordsText wordsLedger
-    ∷ trial (edits textMode ruleFile (wordsTree "onexsix" 1) 1 8 wordsText wordsLedger) (refused 6 0) wordsText wordsLedger
-    ∷ trial (edits textMode ruleFile (wordsTree "onexsix" 1) 1 9 (ascii "onetwosi") wordsLedger) (refused 6 0) (ascii "onetwosi") wordsLedger
-    ∷ trial (edits textMode ruleFile (wordsTree "onexsix" 1) 1 9 wordsText (take (rowSize * 3 - 1) wordsLedger)) (refused 6 0) wordsText (take (rowSize * 3 - 1) wordsLedger)
-    ∷ trial (edits textMode ruleFile (wordsTree "onexsix" 1) 1 9 wordsText (ledgerRow (6 ∷ []) ++ ledgerRow (3 ∷ []) ++ ledgerRow (9 ∷ [])))
+    ∷ trial (editCall textMode ruleFile (wordsTree "onexsix" 1) 3 9 wordsText wordsLedger) (refused 6 0) wordsText wordsLedger
+    ∷ trial (editCall textMode ruleFile (wordsTree "onexsix" 1) 1 8 wordsText wordsLedger) (refused 6 0) wordsText wordsLedger
+    ∷ trial (editCall textMode ruleFile (wordsTree "onexsix" 1) 1 9 (ascii "onetwosi") wordsLedger) (refused 6 0) (ascii "onetwosi") wordsLedger
+    ∷ trial (editCall textMode ruleFile (wordsTree "onexsix" 1) 1 9 wordsText (take (rowSize * 3 - 1) wordsLedger)) (refused 6 0) wordsText (take (rowSize * 3 - 1) wordsLedger)
+    ∷ trial (editCall textMode ruleFile (wordsTree "onexsix" 1) 1 9 wordsText (ledgerRow (6 ∷ []) ++ ledgerRow (3 ∷ []) ++ ledgerRow (9 ∷ [])))
     (refused 6 0) wordsText (ledgerRow (6 ∷ []) ++ ledgerRow (3 ∷ []) ++ ledgerRow (9 ∷ []))
     -- 1 comes before 6, and 6 before 11; the row of an 11 is counted from the root
-    ∷ trial (edits 2 ruleFile (wordsTree "onexsix" 1) 3 9 wordsText wordsLedger) (refused 1 0) wordsText wordsLedger
-    ∷ trial (edits textMode ruleFile (treeWith "one\\itemsix" (wordRow 3 ∷ itemRows ++ wordRow 3 ∷ [])) 1 8 wordsText wordsLedger)
+    ∷ trial (editCall 2 ruleFile (wordsTree "onexsix" 1) 3 9 wordsText wordsLedger) (refused 1 0) wordsText wordsLedger
+    ∷ trial (editCall textMode ruleFile (treeWith "one\\itemsix" (wordRow 3 ∷ itemRows ++ wordRow 3 ∷ [])) 1 8 wordsText wordsLedger)
     (refused 6 0) wordsText wordsLedger
-    ∷ trial (edits textMode ruleFile (treeWith "one\\itemsix" (wordRow 3 ∷ itemRows ++ wordRow 3 ∷ [])) 1 9 wordsText wordsLedger)
+    ∷ trial (editCall textMode ruleFile (treeWith "one\\itemsix" (wordRow 3 ∷ itemRows ++ wordRow 3 ∷ [])) 1 9 wordsText wordsLedger)
     (refused 11 2) wordsText wordsLedger
     -- Convert: the text buffer is one byte too short, or the ledger
-    ∷ trial (converts mathMode ruleFile (treeWith "ab" (wordRow 2 ∷ [])) (sevens 3) (sevens rowSize)) (refused 15 0) (sevens 3) (sevens rowSize)
-    ∷ trial (converts mathMode ruleFile (treeWith "ab" (wordRow 2 ∷ [])) (sevens 4) (sevens (rowSize - 1))) (refused 15 0) (sevens 4) (sevens (rowSize - 1))
+    ∷ trial (convertCall mathMode ruleFile (treeWith "ab" (wordRow 2 ∷ [])) (sevens 3) (sevens rowSize)) (refused 15 0) (sevens 3) (sevens rowSize)
+    ∷ trial (convertCall mathMode ruleFile (treeWith "ab" (wordRow 2 ∷ [])) (sevens 4) (sevens (rowSize - 1))) (refused 15 0) (sevens 4) (sevens (rowSize - 1))
     ∷ []
 
 pub small-hold : map (λ c. result (c .call)) small ≡ map (λ c. c .gives) small
@@ -303,25 +303,25 @@ abbrev pub altered : List Trial
 altered =
     -- `x` put in after `one`: the later rows move by a place and in length; `two` taken out: nothing is converted, and the row left over
     -- is zeros
-    trial (alters textMode ruleFile fourTree (putIn 1) 9 wordsText (wordsLedger ++ sevens rowSize))
+    trial (alterCall textMode ruleFile fourTree (putIn 1) 9 wordsText (wordsLedger ++ sevens rowSize))
     (edited 10 (pos 1) 1) (ascii "onextwosix" ++ sevens 2) (ledgerRow (3 ∷ []) ++ ledgerRow (4 ∷ []) ++ ledgerRow (7 ∷ []) ++ ledgerRow (10 ∷ []) ++ sevens 2)
-    ∷ trial (alters textMode ruleFile twoTree (takeOut 1) 9 wordsText wordsLedger)
+    ∷ trial (alterCall textMode ruleFile twoTree (takeOut 1) 9 wordsText wordsLedger)
     (edited 6 (minus 3) 0) (ascii "onesix" ++ zeros 3 ++ sevens 3) (ledgerRow (3 ∷ []) ++ ledgerRow (6 ∷ []) ++ zeros rowSize ++ sevens 2)
     -- a line feed after one, before a space that writes nothing: the flag is the one that stood before the position
-    ∷ trial (alters textMode ruleFile (treeWith "\n\n " (breakRow ∷ breakRow ∷ spaceRow ∷ [])) (putIn 1) 1 (ascii "\n" ++ sevens 2) (flagRow 1 ++ ledgerRow (1 ∷ []) ++ sevens (rowSize + 2)))
+    ∷ trial (alterCall textMode ruleFile (treeWith "\n\n " (breakRow ∷ breakRow ∷ spaceRow ∷ [])) (putIn 1) 1 (ascii "\n" ++ sevens 2) (flagRow 1 ++ ledgerRow (1 ∷ []) ++ sevens (rowSize + 2)))
     (edited 2 (pos 1) 1) (ascii "\n\n" ++ sevens 1) (flagRow 1 ++ flagRow 2 ++ ledgerRow (2 ∷ []) ++ sevens 2)
     -- a space put in after the label's block, which is held on, and taken out again
-    ∷ trial (alters textMode ruleFile spacedTree (putIn 1) 160 keptText (keptLedger ++ sevens rowSize)) (edited 161 (pos 1) 1) spacedText spacedLedger
-    ∷ trial (alters textMode ruleFile labelledTree (takeOut 1) 161 spacedText spacedLedger)
+    ∷ trial (alterCall textMode ruleFile spacedTree (putIn 1) 160 keptText (keptLedger ++ sevens rowSize)) (edited 161 (pos 1) 1) spacedText spacedLedger
+    ∷ trial (alterCall textMode ruleFile labelledTree (takeOut 1) 161 spacedText spacedLedger)
     (edited 160 (minus 1) 0) (formulaText ++ tableText ++ ascii "<e>" ++ zeros 1 ++ sevens 4) (labelRow 33 ++ ledgerRow (160 ∷ []) ++ zeros rowSize ++ sevens 4)
     -- the label's block taken out: the table is converted again, and loses its label
-    ∷ trial (alters textMode ruleFile tableTree (takeOut 0) 160 keptText keptLedger)
+    ∷ trial (alterCall textMode ruleFile tableTree (takeOut 0) 160 keptText keptLedger)
     (edited 124 (minus 36) 1) (tableText ++ zeros 36 ++ sevens 5) (ledgerRow (124 ∷ []) ++ zeros rowSize ++ sevens 4)
     -- 15: the ledger has no place for the row put in. 6: a position beyond the old count, no block to put in, no block to take out
-    ∷ trial (alters textMode ruleFile fourTree (putIn 1) 9 wordsText wordsLedger) (refused 15 0) wordsText wordsLedger
-    ∷ trial (alters textMode ruleFile fourTree (putIn 4) 9 wordsText wordsLedger) (refused 6 0) wordsText wordsLedger
-    ∷ trial (alters textMode ruleFile (treeWith "" []) (putIn 0) 0 wordsText wordsLedger) (refused 6 0) wordsText wordsLedger
-    ∷ trial (alters textMode ruleFile twoTree (takeOut 3) 9 wordsText wordsLedger) (refused 6 0) wordsText wordsLedger
+    ∷ trial (alterCall textMode ruleFile fourTree (putIn 1) 9 wordsText wordsLedger) (refused 15 0) wordsText wordsLedger
+    ∷ trial (alterCall textMode ruleFile fourTree (putIn 4) 9 wordsText wordsLedger) (refused 6 0) wordsText wordsLedger
+    ∷ trial (alterCall textMode ruleFile (treeWith "" []) (putIn 0) 0 wordsText wordsLedger) (refused 6 0) wordsText wordsLedger
+    ∷ trial (alterCall textMode ruleFile twoTree (takeOut 3) 9 wordsText wordsLedger) (refused 6 0) wordsText wordsLedger
     ∷ []
 
 pub altered-hold : map (λ c. result (c .call)) altered ≡ map (λ c. c .gives) altered
@@ -331,9 +331,9 @@ altered-hold = refl
 -- ---- the files once more
 
 abbrev treeLent : Call → List ℕ
-treeLent (converts mode rules tree text ledger) = tree
-treeLent (edits mode rules tree block kept text ledger) = tree
-treeLent (alters mode rules tree k kept text ledger) = tree
+treeLent (convertCall mode rules tree text ledger) = tree
+treeLent (editCall mode rules tree block kept text ledger) = tree
+treeLent (alterCall mode rules tree k kept text ledger) = tree
 
 -- one of them byte by byte; and those of the twelve conversions spell the rules and the trees of the worked ones in `mitex_meaning`
 files :

@@ -68,9 +68,9 @@ accepted-says b by t e =
     go (decode b) refl e
 
 -- and every such file is accepted
-pub accepts : (b : List ℕ) (t : Tree) → Laid t b → depth t ≤ depthMost → Shaped 0 t → checkTree b ≡ accepted t
+pub accepts-laid : (b : List ℕ) (t : Tree) → Laid t b → depth t ≤ depthMost → Shaped 0 t → checkTree b ≡ accepted t
 unfolding checkTree
-accepts b t l d s =
+accepts-laid b t l d s =
     ap byDepth (decode-complete b t l) ∙ ap (λ x. cond x (byShape t (lowest 0 0 t)) (refused 4 0)) (le-leb (depth t) depthMost d)
     ∙ ap (byShape t) (shaped-lowest 0 0 t s)
 

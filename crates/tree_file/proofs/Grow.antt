@@ -16,7 +16,7 @@ use Rattle.mitex_syntax.specs.Tree.Tree.{token, node}
 use Rattle.mitex_syntax.specs.Tree.Forest.{none, more}
 use Rattle.mitex_syntax.proofs.Trees.{size-some}
 use Rattle.tree_file.specs.Layout.{Line, grow, split, treeAhead, closed, splits, cutWith, Cut}
-use Rattle.tree_file.specs.Layout.Line.{tok, nod}
+use Rattle.tree_file.specs.Layout.Line.{tokenLine, nodeLine}
 use Rattle.tree_file.specs.Layout.Cut.{cut}
 
 -- two forests, one after the other
@@ -27,8 +27,8 @@ join (more t f) g = more t (join f g)
 -- the rows of a tree
 unfoldable mutual
   pub linesOf : Tree → List Line
-  linesOf (token k s) = tok k s ∷ []
-  linesOf (node k f) = nod k (sizes f) ∷ linesOfs f
+  linesOf (token k s) = tokenLine k s ∷ []
+  linesOf (node k f) = nodeLine k (sizes f) ∷ linesOfs f
 
   pub linesOfs : Forest → List Line
   linesOfs none = []
@@ -149,16 +149,16 @@ closed-some k n (some u) f e =
 pub grow-sound : (ls : List Line) (f : Forest) → grow ls ≡ some f → ls ≡ linesOfs f
 unfolding grow linesOf
 grow-sound [] f e = ap linesOfs (let p : none ≡ f = cc in p)
-grow-sound (tok k s ∷ ls) f e =
+grow-sound (tokenLine k s ∷ ls) f e =
     let w = treeAhead-some (token k s) (grow ls) f e in
-    ap (λ l. tok k s ∷ l) (grow-sound ls (w .0) (w .1 .0)) ∙ ap linesOfs (sym (w .1 .1))
-grow-sound (nod k n ∷ ls) f e =
+    ap (λ l. tokenLine k s ∷ l) (grow-sound ls (w .0) (w .1 .0)) ∙ ap linesOfs (sym (w .1 .1))
+grow-sound (nodeLine k n ∷ ls) f e =
     let w = closed-some k n (grow ls) f e in
     let g = w .under in
     let h = w .others in
     let s = split-sound (w .whole) n g h (w .cuts) in
-    ap (λ l. nod k n ∷ l) (grow-sound ls (w .whole) (w .grown) ∙ ap linesOfs (s .whole) ∙ linesOfs-join g h)
-    ∙ ap (λ m. nod k m ∷ linesOfs g ++ linesOfs h) (sym (s .so-many))
+    ap (λ l. nodeLine k n ∷ l) (grow-sound ls (w .whole) (w .grown) ∙ ap linesOfs (s .whole) ∙ linesOfs-join g h)
+    ∙ ap (λ m. nodeLine k m ∷ linesOfs g ++ linesOfs h) (sym (s .so-many))
     ∙ ap linesOfs (sym (w .is))
 
 forestAhead-treeAhead : (t : Tree) (f : Forest) (o : Option Forest) → treeAhead t (forestAhead f o) ≡ forestAhead (more t f) o

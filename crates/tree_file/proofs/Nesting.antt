@@ -18,7 +18,7 @@ use Rattle.mitex_syntax.specs.Tree.{Tree, Forest, size, sizes}
 use Rattle.mitex_syntax.specs.Tree.Tree.{token, node}
 use Rattle.mitex_syntax.specs.Tree.Forest.{none, more}
 use Rattle.tree_file.specs.Layout.{Line, grow, split, treeAhead, closed, splits, cutWith, Cut}
-use Rattle.tree_file.specs.Layout.Line.{tok, nod}
+use Rattle.tree_file.specs.Layout.Line.{tokenLine, nodeLine}
 use Rattle.tree_file.specs.Layout.Cut.{cut}
 use Rattle.tree_file.specs.Depth.{depth, depths}
 use Rattle.tree_file.specs.Shape.{isSome}
@@ -31,30 +31,30 @@ use Rattle.tree_file.proofs.Rows.{fits-drop}
 
 -- how many rows lie under a row
 abbrev pub underLine : Line → ℕ
-underLine (tok k s) = 0
-underLine (nod k n) = n
+underLine (tokenLine k s) = 0
+underLine (nodeLine k n) = n
 
 pub length-bytes : (ls : List Line) → length (bytesOf ls) ≡ 8 * length ls
 unfolding bytesOf
 length-bytes [] = refl
-length-bytes (tok k s ∷ ls) = omega (arith, length-bytes ls)
-length-bytes (nod k n ∷ ls) = omega (arith, length-bytes ls)
+length-bytes (tokenLine k s ∷ ls) = omega (arith, length-bytes ls)
+length-bytes (nodeLine k n ∷ ls) = omega (arith, length-bytes ls)
 
 pub bytes-append : (xs ys : List Line) → bytesOf (xs ++ ys) ≡ bytesOf xs ++ bytesOf ys
 unfolding bytesOf
 bytes-append [] ys = refl
-bytes-append (tok k s ∷ xs) ys = ap (λ l. k ∷ 1 ∷ 0 ∷ 0 ∷ four (length s) l) (bytes-append xs ys)
-bytes-append (nod k n ∷ xs) ys = ap (λ l. k ∷ 0 ∷ 0 ∷ 0 ∷ four n l) (bytes-append xs ys)
+bytes-append (tokenLine k s ∷ xs) ys = ap (λ l. k ∷ 1 ∷ 0 ∷ 0 ∷ four (length s) l) (bytes-append xs ys)
+bytes-append (nodeLine k n ∷ xs) ys = ap (λ l. k ∷ 0 ∷ 0 ∷ 0 ∷ four n l) (bytes-append xs ys)
 
 pub lines-one : (l : Line) (ls : List Line) → drop 8 (bytesOf (l ∷ ls)) ≡ bytesOf ls
 unfolding bytesOf
-lines-one (tok k s) ls = refl
-lines-one (nod k n) ls = refl
+lines-one (tokenLine k s) ls = refl
+lines-one (nodeLine k n) ls = refl
 
 pub under-is : (l : Line) (ls : List Line) → LinesFit (l ∷ ls) → underOf (bytesOf (l ∷ ls)) ≡ underLine l
 unfolding bytesOf LinesFit
-under-is (tok k s) ls h = refl
-under-is (nod k n) ls h = four-says n (h .1)
+under-is (tokenLine k s) ls h = refl
+under-is (nodeLine k n) ls h = four-says n (h .1)
 
 module _ (ls : List Line) (n : ℕ) (le : n ≤ length ls) where
   cut-length : length (take n ls) ≡ n
@@ -76,44 +76,44 @@ pub lines-fit-first : (n : ℕ) (ls : List Line) → LinesFit ls → LinesFit (t
 unfolding LinesFit
 lines-fit-first zero ls h = tt
 lines-fit-first (suc n) [] h = tt
-lines-fit-first (suc n) (tok k s ∷ ls) h = (h .0, h .1, lines-fit-first n ls (h .2))
-lines-fit-first (suc n) (nod k m ∷ ls) h = (h .0, h .1, lines-fit-first n ls (h .2))
+lines-fit-first (suc n) (tokenLine k s ∷ ls) h = (h .0, h .1, lines-fit-first n ls (h .2))
+lines-fit-first (suc n) (nodeLine k m ∷ ls) h = (h .0, h .1, lines-fit-first n ls (h .2))
 
 pub lines-fit-past : (n : ℕ) (ls : List Line) → LinesFit ls → LinesFit (drop n ls)
 unfolding LinesFit
 lines-fit-past zero ls h = h
 lines-fit-past (suc n) [] h = tt
-lines-fit-past (suc n) (tok k s ∷ ls) h = lines-fit-past n ls (h .2)
-lines-fit-past (suc n) (nod k m ∷ ls) h = lines-fit-past n ls (h .2)
+lines-fit-past (suc n) (tokenLine k s ∷ ls) h = lines-fit-past n ls (h .2)
+lines-fit-past (suc n) (nodeLine k m ∷ ls) h = lines-fit-past n ls (h .2)
 
 -- the tree of a row over a forest
 abbrev pub treeOf : Line → Forest → Tree
-treeOf (tok k s) g = token k s
-treeOf (nod k n) g = node k g
+treeOf (tokenLine k s) g = token k s
+treeOf (nodeLine k n) g = node k g
 
 abbrev pub built : Line → Option Cut → Option Forest
 built l nothing = nothing
 built l (some (cut g h)) = some (more (treeOf l g) h)
 
-closed-built : (k n : ℕ) (c : Option Cut) → closed k c ≡ built (nod k n) c
+closed-built : (k n : ℕ) (c : Option Cut) → closed k c ≡ built (nodeLine k n) c
 closed-built k n nothing = refl
 closed-built k n (some (cut g h)) = refl
 
-treeAhead-built : (k : ℕ) (s : List ℕ) (o : Option Forest) → treeAhead (token k s) o ≡ built (tok k s) (cutOf (some none) o)
+treeAhead-built : (k : ℕ) (s : List ℕ) (o : Option Forest) → treeAhead (token k s) o ≡ built (tokenLine k s) (cutOf (some none) o)
 treeAhead-built k s nothing = refl
 treeAhead-built k s (some f) = refl
 
 -- a row, the rows under it and those after
 pub grow-step : (l : Line) (ns : List Line) → underLine l ≤ length ns → grow (l ∷ ns) ≡ built l (cutOf (grow (take (underLine l) ns)) (grow (drop (underLine l) ns)))
 unfolding grow
-grow-step (tok k s) ns h = treeAhead-built k s (grow ns)
-grow-step (nod k n) ns h = ap (closed k) (grow-cut ns n h) ∙ closed-built k n (cutOf (grow (take n ns)) (grow (drop n ns)))
+grow-step (tokenLine k s) ns h = treeAhead-built k s (grow ns)
+grow-step (nodeLine k n) ns h = ap (closed k) (grow-cut ns n h) ∙ closed-built k n (cutOf (grow (take n ns)) (grow (drop n ns)))
 
 -- rows that are too few under a node
 pub grow-short : (l : Line) (ns : List Line) → length ns < underLine l → grow (l ∷ ns) ≡ nothing
 unfolding grow
-grow-short (tok k s) ns h = absurd (omega arith)
-grow-short (nod k n) ns h =
+grow-short (tokenLine k s) ns h = absurd (omega arith)
+grow-short (nodeLine k n) ns h =
     let go : (o : Option Forest) → grow ns ≡ o → closed k (splits n o) ≡ nothing = λ o. elim o [
       | nothing ↦ λ e. refl
       | some f ↦ λ e.
@@ -229,8 +229,8 @@ over-child l d g (some h) = ap some (sym (join-assoc d (more (treeOf l g) none) 
 
 depth-child : (l : Line) (g : Forest) (left : ℕ) → 1 ≤ left → depths g ≤ left - 1 → depth (treeOf l g) ≤ left
 unfolding depth
-depth-child (tok k s) g left h p = h
-depth-child (nod k n) g left h p = omega arith
+depth-child (tokenLine k s) g left h p = h
+depth-child (nodeLine k n) g left h p = omega arith
 
 -- a row that has none under it
 pub none-under : (ns : List Line) (n left : ℕ) → n ≤ 0 → Nested (grow (take n ns)) left Fine
@@ -274,11 +274,11 @@ deep-tree :
     (l : Line) (n : ℕ) (ns : List Line) (g : Forest) (left : ℕ) → n ≡ underLine l → grow (take n ns) ≡ some g → suc (left - 1) ≤ depths g → 1 ≤ left
     → suc left ≤ depth (treeOf l g)
 unfolding depth grow
-deep-tree (tok k s) n ns g left e p q h =
+deep-tree (tokenLine k s) n ns g left e p q h =
     let z : some none ≡ some g = ap (λ m. grow (take m ns)) (sym e) ∙ p in
     let w : none ≡ g = cc in
     absurd (omega (arith, ap depths w))
-deep-tree (nod k m) n ns g left e p q h = omega arith
+deep-tree (nodeLine k m) n ns g left e p q h = omega arith
 
 pub at-deep :
     {ls : List Line} {left : ℕ} {rest : List ℕ} {n : ℕ} → (a : At ls left rest n) → 8 + 8 * n ≤ length rest → 1 ≤ left
@@ -347,7 +347,7 @@ first-grown l ns g e =
     let a = c .0 in let b = c .1 .0 in
     let p = cutOf-some (grow (take (underLine l) ns)) (grow (drop (underLine l) ns)) a b (c .1 .1 .0) in
     let la : sizes a ≡ underLine l = sym (length-liness a) ∙ ap length (sym (grow-sound (take (underLine l) ns) a (p .0))) ∙ length-take (underLine l) ns ∙ omega arith in
-    let big : (l : Line) → underLine l ≡ sizes a → size (treeOf l a) ≡ 1 + underLine l = λ l. elim l [ tok k s ↦ λ q. refl | nod k m ↦ λ q. omega arith ] in
+    let big : (l : Line) → underLine l ≡ sizes a → size (treeOf l a) ≡ 1 + underLine l = λ l. elim l [ tokenLine k s ↦ λ q. refl | nodeLine k m ↦ λ q. omega arith ] in
     record { inside = le; tree = treeOf l a; others = b; grown = p .1; is = c .1 .1 .1; so-big = big l (sym la) }
 
 -- hopping from tree to tree
@@ -483,19 +483,19 @@ row-lands :
     (l : Line) (ns : List Line) (b : Bool) → ((f : Forest) → grow ns ≡ some f → b ≡ isSome (split (underLine l) f)) → b ≡ true
     → isSome (grow (l ∷ ns)) ≡ isSome (grow ns)
 unfolding grow
-row-lands (tok k s) ns b h e = isSome-treeAhead (token k s) (grow ns)
-row-lands (nod k n) ns b h e =
+row-lands (tokenLine k s) ns b h e = isSome-treeAhead (token k s) (grow ns)
+row-lands (nodeLine k n) ns b h e =
     let go : (o : Option Forest) → ((f : Forest) → o ≡ some f → b ≡ isSome (split n f)) → isSome (closed k (splits n o)) ≡ isSome o = λ o. elim o
     [ nothing ↦ λ q. refl | some f ↦ λ q. isSome-closed k (split n f) ∙ sym (q f refl) ∙ e ] in
     go (grow ns) h
 
 row-falls : (l : Line) (ns : List Line) (b : Bool) → ((f : Forest) → grow ns ≡ some f → b ≡ isSome (split (underLine l) f)) → b ≡ false → isSome (grow (l ∷ ns)) ≡ false
 unfolding grow
-row-falls (tok k s) ns b h e =
+row-falls (tokenLine k s) ns b h e =
     let go : (o : Option Forest) → ((f : Forest) → o ≡ some f → b ≡ isSome (split 0 f)) → isSome (treeAhead (token k s) o) ≡ false = λ o. elim o
     [ nothing ↦ λ q. refl | some f ↦ λ q. absurd (let z : false ≡ true = sym e ∙ q f refl ∙ split-zero f in let y : _≡_ {A = ℕ} 0 1 = cc in omega arith) ] in
     go (grow ns) h
-row-falls (nod k n) ns b h e =
+row-falls (nodeLine k n) ns b h e =
     let go : (o : Option Forest) → ((f : Forest) → o ≡ some f → b ≡ isSome (split n f)) → isSome (closed k (splits n o)) ≡ false = λ o. elim o
     [ nothing ↦ λ q. refl | some f ↦ λ q. isSome-closed k (split n f) ∙ sym (q f refl) ∙ e ] in
     go (grow ns) h

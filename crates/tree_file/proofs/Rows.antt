@@ -18,7 +18,7 @@ use Rattle.mitex_syntax.specs.Spells.{tokenFits}
 use Rattle.text.specs.Trailer.{ahead}
 use Rattle.text.proofs.Trailer.{ahead-some}
 use Rattle.tree_file.specs.Layout.{Line, lines, treeRowAt, rowAhead, rowTaken}
-use Rattle.tree_file.specs.Layout.Line.{tok, nod}
+use Rattle.tree_file.specs.Layout.Line.{tokenLine, nodeLine}
 use Rattle.tree_file.specs.Parts.{bytesOf, textsIn, LinesFit}
 use Rattle.tree_file.specs.declared.TreeRow.{TreeRow}
 use Rattle.tree_file.specs.declared.TreeRow.the-variants.{Bad, Token, Node}
@@ -103,7 +103,7 @@ num-low rows by = four-low (getD rows 4 0) (getD rows 5 0) (getD rows 6 0) (getD
 
 lines-token :
     (rows text : List ℕ) (m : ℕ) (ms : List Line) → Bytes rows → 8 ≤ length rows → IsToken rows text m → Read (drop 8 rows) (drop m text) ms
-    → Read rows text (tok (getD rows 0 0) (take m text) ∷ ms)
+    → Read rows text (tokenLine (getD rows 0 0) (take m text) ∷ ms)
 unfolding bytesOf textsIn LinesFit
 lines-token rows text m ms by h i r =
     let lt : length (take m text) ≡ m = length-take m text ∙ (let q = i .room in omega arith) in
@@ -115,7 +115,7 @@ lines-token rows text m ms by h i r =
 
 lines-node :
     (rows text : List ℕ) (m : ℕ) (ms : List Line) → Bytes rows → 8 ≤ length rows → IsNode rows m → Read (drop 8 rows) text ms
-    → Read rows text (nod (getD rows 0 0) m ∷ ms)
+    → Read rows text (nodeLine (getD rows 0 0) m ∷ ms)
 unfolding bytesOf textsIn LinesFit
 lines-node rows text m ms by h i r =
     record {
@@ -153,8 +153,8 @@ lines-sound (suc n) rows text ls by h e =
 -- the other way
 pub fits-drop : (l : Line) (ls : List Line) → LinesFit (l ∷ ls) → LinesFit ls
 unfolding LinesFit
-fits-drop (tok k s) ls h = h .2
-fits-drop (nod k n) ls h = h .2
+fits-drop (tokenLine k s) ls h = h .2
+fits-drop (nodeLine k n) ls h = h .2
 
 row-of-token : (k : ℕ) (s : List ℕ) (r text : List ℕ) → T (tokenFits k s) → length s < cap → treeRowAt (k ∷ 1 ∷ 0 ∷ 0 ∷ four (length s) r) (s ++ text) ≡ Token (length s)
 unfolding treeRowAt
@@ -173,13 +173,13 @@ row-of-node k n r text h lo =
 pub lines-complete : (ls : List Line) → LinesFit ls → lines (length ls) (bytesOf ls) (textsIn ls) ≡ some ls
 unfolding lines bytesOf textsIn LinesFit
 lines-complete [] h = refl
-lines-complete (tok k s ∷ ls) h =
-    let rows = bytesOf (tok k s ∷ ls) in let text = s ++ textsIn ls in
+lines-complete (tokenLine k s ∷ ls) h =
+    let rows = bytesOf (tokenLine k s ∷ ls) in let text = s ++ textsIn ls in
     ap (λ r. rowAhead r rows text (lines (length ls) (bytesOf ls) (drop (rowTaken r) text))) (row-of-token k s (bytesOf ls) (textsIn ls) (h .0) (h .1))
-    ∙ ap (λ x. ahead (tok k x) (lines (length ls) (bytesOf ls) (drop (length s) text))) (take-append-seam s (textsIn ls))
-    ∙ ap (λ x. ahead (tok k s) (lines (length ls) (bytesOf ls) x)) (drop-append-seam s (textsIn ls))
-    ∙ ap (ahead (tok k s)) (lines-complete ls (h .2))
-lines-complete (nod k n ∷ ls) h =
-    let rows = bytesOf (nod k n ∷ ls) in let text = textsIn ls in
+    ∙ ap (λ x. ahead (tokenLine k x) (lines (length ls) (bytesOf ls) (drop (length s) text))) (take-append-seam s (textsIn ls))
+    ∙ ap (λ x. ahead (tokenLine k s) (lines (length ls) (bytesOf ls) x)) (drop-append-seam s (textsIn ls))
+    ∙ ap (ahead (tokenLine k s)) (lines-complete ls (h .2))
+lines-complete (nodeLine k n ∷ ls) h =
+    let rows = bytesOf (nodeLine k n ∷ ls) in let text = textsIn ls in
     ap (λ r. rowAhead r rows text (lines (length ls) (bytesOf ls) (drop (rowTaken r) text))) (row-of-node k n (bytesOf ls) text (h .0) (h .1))
-    ∙ ap (ahead (nod k n)) (lines-complete ls (h .2))
+    ∙ ap (ahead (nodeLine k n)) (lines-complete ls (h .2))

@@ -1,5 +1,5 @@
 -- What the check of a tree file answers: refusal 3, 4 or 5, the first that holds, or the tree. Each answer is right, and given
--- wherever it is (proofs/Bridge.antt): `accepted-says` and `accepts`, `refused-3` and `refuses-3`, `refuses-4`, `refuses-5`.
+-- wherever it is (proofs/Bridge.antt): `accepted-says` and `accepts-laid`, `refused-3` and `refuses-3`, `refuses-4`, `refuses-5`.
 use mathlib.Core.Bool.{cond}
 use mathlib.Core.Option.{Option}
 use mathlib.Core.Option.Option.{none as nothing, some}

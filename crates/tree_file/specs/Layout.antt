@@ -41,8 +41,8 @@ treeRowAt rows text =
 
 -- a row that was read: a token with its text, or a node with how many rows lie under it
 pub data Line : Type 0 where
-  tok : ℕ → List ℕ → Line
-  nod : ℕ → ℕ → Line
+  tokenLine : ℕ → List ℕ → Line
+  nodeLine : ℕ → ℕ → Line
 
 -- the bytes of text that a row takes
 abbrev pub rowTaken : TreeRow → ℕ
@@ -53,8 +53,8 @@ rowTaken (Node m) = 0
 -- a row before those that come after it
 abbrev pub rowAhead : TreeRow → List ℕ → List ℕ → Option (List Line) → Option (List Line)
 rowAhead Bad rows text o = nothing
-rowAhead (Token m) rows text o = ahead (tok (getD rows 0 0) (take m text)) o
-rowAhead (Node m) rows text o = ahead (nod (getD rows 0 0) m) o
+rowAhead (Token m) rows text o = ahead (tokenLine (getD rows 0 0) (take m text)) o
+rowAhead (Node m) rows text o = ahead (nodeLine (getD rows 0 0) m) o
 
 -- as many rows as said, whose token texts fill the text in order
 unfoldable pub lines : ℕ → List ℕ → List ℕ → Option (List Line)
@@ -92,8 +92,8 @@ splits n (some f) = split n f
 -- the trees of rows: those under a node are whole trees
 unfoldable pub grow : List Line → Option Forest
 grow [] = some none
-grow (tok k s ∷ ls) = treeAhead (token k s) (grow ls)
-grow (nod k n ∷ ls) = closed k (splits n (grow ls))
+grow (tokenLine k s ∷ ls) = treeAhead (token k s) (grow ls)
+grow (nodeLine k n ∷ ls) = closed k (splits n (grow ls))
 
 abbrev pub grows : Option (List Line) → Option Forest
 grows nothing = nothing

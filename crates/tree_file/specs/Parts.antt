@@ -19,7 +19,7 @@ use Rattle.mitex_syntax.specs.Spells.{tokenFits, SpellsAll, Begins, SomeTree}
 use Rattle.mitex_syntax.specs.declared.Spot.{Spot}
 use Rattle.mitex_syntax.specs.declared.Spot.the-variants.{Nowhere, At}
 use Rattle.tree_file.specs.Layout.{blocksMost, Line, root}
-use Rattle.tree_file.specs.Layout.Line.{tok, nod}
+use Rattle.tree_file.specs.Layout.Line.{tokenLine, nodeLine}
 use Rattle.tree_file.specs.Depth.{depths, depthMost}
 use Rattle.tree_file.specs.Shape.{symFits, nodeFits, lowests, ShapedAll}
 use Rattle.tree_file.specs.Check.{byDepth, checkedAnswer}
@@ -42,19 +42,19 @@ use Rattle.tree_file.specs.declared.Survey.the-variants.{Unsure, Covers}
 -- their bytes, and the text of their tokens
 unfoldable pub bytesOf : List Line → List ℕ
 bytesOf [] = []
-bytesOf (tok k s ∷ ls) = k ∷ 1 ∷ 0 ∷ 0 ∷ four (length s) (bytesOf ls)
-bytesOf (nod k n ∷ ls) = k ∷ 0 ∷ 0 ∷ 0 ∷ four n (bytesOf ls)
+bytesOf (tokenLine k s ∷ ls) = k ∷ 1 ∷ 0 ∷ 0 ∷ four (length s) (bytesOf ls)
+bytesOf (nodeLine k n ∷ ls) = k ∷ 0 ∷ 0 ∷ 0 ∷ four n (bytesOf ls)
 
 unfoldable pub textsIn : List Line → List ℕ
 textsIn [] = []
-textsIn (tok k s ∷ ls) = s ++ textsIn ls
-textsIn (nod k n ∷ ls) = textsIn ls
+textsIn (tokenLine k s ∷ ls) = s ++ textsIn ls
+textsIn (nodeLine k n ∷ ls) = textsIn ls
 
 -- each is one of its kind, and its number fits four bytes
 unfoldable pub LinesFit : List Line → Type 0
 LinesFit [] = Unit {0}
-LinesFit (tok k s ∷ ls) = T (tokenFits k s) × (length s < cap) × LinesFit ls
-LinesFit (nod k n ∷ ls) = T (isNode k) × (n < cap) × LinesFit ls
+LinesFit (tokenLine k s ∷ ls) = T (tokenFits k s) × (length s < cap) × LinesFit ls
+LinesFit (nodeLine k n ∷ ls) = T (isNode k) × (n < cap) × LinesFit ls
 
 abbrev pub isBad : TreeRow → Bool
 isBad Bad = true

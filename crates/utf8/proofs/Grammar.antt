@@ -11,7 +11,7 @@ use lib.Dec.{eqb, leb}
 use borrow.Author.Tests.{ne-eqb, le-leb, lt-leb, leb-true, eqb-true, eqb-false}
 use Rattle.utf8.specs.declared.State.{State}
 use Rattle.utf8.specs.Utf8.{Between, Tail, Char, Text, lengthBy, secondLow, secondHigh, state, whole, dead, begun, charStep, charSteps, valid}
-use Rattle.utf8.specs.Utf8.Char.{one, two, three-e0, three-e1, three-ed, three-ee, four-f0, four-f1, four-f4}
+use Rattle.utf8.specs.Utf8.Char.{one-00, two-c2, three-e0, three-e1, three-ed, three-ee, four-f0, four-f1, four-f4}
 use Rattle.utf8.specs.Utf8.Text.{end, then}
 use Rattle.utf8.proofs.Steps.{steps-append}
 
@@ -99,8 +99,8 @@ module _ {a lo hi b : ℕ} (w : Between lo hi b) where
 
 steps-char : {c : List ℕ} → Char c → charSteps whole c ≡ whole
 unfolding charSteps
-steps-char (one w) = begun-leads (leads-1 w)
-steps-char (two w t) = steps-2 t (leads-2 w)
+steps-char (one-00 w) = begun-leads (leads-1 w)
+steps-char (two-c2 w t) = steps-2 t (leads-2 w)
 steps-char (three-e0 w t) = steps-3 w leads-e0 t
 steps-char (three-e1 w t v) = steps-3 t (leads-e1 w) v
 steps-char (three-ed w t) = steps-3 w leads-ed t
@@ -175,8 +175,8 @@ asked : {a n lo hi : ℕ} (s : List ℕ) → Leads a n lo hi → Completes (leng
 asked {a} {n} s l e = rw (l .by, l .from, l .to, less-one n) at e
 
 completes-text : {a : ℕ} (s : List ℕ) → GrammarLine a → (lengthBy a ≡ 0 → ⊥) → Completes (lengthBy a - 1) (secondLow a) (secondHigh a) s → Text (a ∷ s)
-completes-text {a} s (line-1 w) z e = then (one w) (asked s (leads-1 w) e)
-completes-text {a} s (line-2 w) z e = ends-2 a (λ b t. two w t) s (asked s (leads-2 w) e)
+completes-text {a} s (line-1 w) z e = then (one-00 w) (asked s (leads-1 w) e)
+completes-text {a} s (line-2 w) z e = ends-2 a (λ b t. two-c2 w t) s (asked s (leads-2 w) e)
 completes-text s line-e0 z e = ends-3 0xE0 (λ b c w t. three-e0 w t) s e
 completes-text {a} s (line-e1 w) z e = ends-3 a (λ b c t v. three-e1 w t v) s (asked s (leads-e1 w) e)
 completes-text s line-ed z e = ends-3 0xED (λ b c w t. three-ed w t) s e

@@ -14,7 +14,7 @@ use lib.ListN.{length, take, drop, getD, drop-of-length-le}
 use lib.Seq.{drop-cons}
 use Rattle.utf8.specs.declared.State.{State}
 use Rattle.utf8.specs.Utf8.{Between, Tail, Char, Text, lengthBy, whole, charSteps, oneByteEach, valid}
-use Rattle.utf8.specs.Utf8.Char.{one, two, three-e0, three-e1, three-ed, three-ee, four-f0, four-f1, four-f4}
+use Rattle.utf8.specs.Utf8.Char.{one-00, two-c2, three-e0, three-e1, three-ed, three-ee, four-f0, four-f1, four-f4}
 use Rattle.utf8.specs.Utf8.Text.{end, then}
 use Rattle.utf8.specs.Chars.{continues, goesOn, chars, firstChar, charLen, AllChar}
 use Rattle.utf8.proofs.Steps.{steps-append}
@@ -39,8 +39,8 @@ high-starts : {lo hi b : ℕ} → Between lo hi b → 0xC0 ≤ lo → continues 
 high-starts {lo} {hi} {b} w l = let x = w .low in rw (lt-leb b 0xBF (omega arith), and-false)
 
 char-starts : {c : List ℕ} (s : List ℕ) → Char c → goesOn (c ++ s) ≡ false
-char-starts s (one w) = low-starts (w .high)
-char-starts s (two w t) = high-starts w (omega arith)
+char-starts s (one-00 w) = low-starts (w .high)
+char-starts s (two-c2 w t) = high-starts w (omega arith)
 char-starts s (three-e0 w t) = refl
 char-starts s (three-e1 w t v) = high-starts w (omega arith)
 char-starts s (three-ed w t) = refl
@@ -63,8 +63,8 @@ char-4 t v x = rw (tail-on t, tail-on v, tail-on x)
 
 char-alone : {c : List ℕ} → Char c → chars c ≡ c ∷ []
 unfolding chars
-char-alone (one w) = refl
-char-alone (two w t) = char-2 t
+char-alone (one-00 w) = refl
+char-alone (two-c2 w t) = char-2 t
 char-alone (three-e0 w t) = char-3 (tail (omega arith) (omega arith) w) t
 char-alone (three-e1 w t v) = char-3 t v
 char-alone (three-ed w t) = char-3 (tail (omega arith) (omega arith) w) t
@@ -74,8 +74,8 @@ char-alone (four-f1 w t v x) = char-4 t v x
 char-alone (four-f4 w t v) = char-4 (tail (omega arith) (omega arith) w) t v
 
 char-length : {c : List ℕ} (s : List ℕ) → Char c → length c ≡ lengthBy (getD (c ++ s) 0 0)
-char-length s (one w) = sym (leads-1 w .by)
-char-length s (two w t) = sym (leads-2 w .by)
+char-length s (one-00 w) = sym (leads-1 w .by)
+char-length s (two-c2 w t) = sym (leads-2 w .by)
 char-length s (three-e0 w t) = refl
 char-length s (three-e1 w t v) = sym (leads-e1 w .by)
 char-length s (three-ed w t) = refl
@@ -115,7 +115,7 @@ valid-append a b e = ap (λ (u : State). eqb (u .more) 0) (steps-append whole a 
 
 -- a one-byte character in front
 pub valid-one : (a : ℕ) (s : List ℕ) → a ≤ 0x7F → valid (a ∷ s) ≡ valid s
-valid-one a s h = valid-append (a ∷ []) s (valid-text (a ∷ []) .1 (then (one (record { low = omega arith; high = h })) end))
+valid-one a s h = valid-append (a ∷ []) s (valid-text (a ∷ []) .1 (then (one-00 (record { low = omega arith; high = h })) end))
 
 -- ---- characters of one byte
 

@@ -19,8 +19,8 @@ Tail x = Between 0x80 0xBF x
 
 -- UTF8-char = UTF8-1 / UTF8-2 / UTF8-3 / UTF8-4, each line by line
 pub data Char : List ℕ → Type 0 where
-  one : {a : ℕ} → Between 0x00 0x7F a → Char (a ∷ [])
-  two : {a b : ℕ} → Between 0xC2 0xDF a → Tail b → Char (a ∷ b ∷ [])
+  one-00 : {a : ℕ} → Between 0x00 0x7F a → Char (a ∷ [])
+  two-c2 : {a b : ℕ} → Between 0xC2 0xDF a → Tail b → Char (a ∷ b ∷ [])
   three-e0 : {b c : ℕ} → Between 0xA0 0xBF b → Tail c → Char (0xE0 ∷ b ∷ c ∷ [])
   three-e1 : {a b c : ℕ} → Between 0xE1 0xEC a → Tail b → Tail c → Char (a ∷ b ∷ c ∷ [])
   three-ed : {b c : ℕ} → Between 0x80 0x9F b → Tail c → Char (0xED ∷ b ∷ c ∷ [])

@@ -3,7 +3,7 @@ use Prim.Native.Nat.{_-_}
 use mathlib.Core.Path.{_∙_}
 use native.Mathlib.Omega.{arith}
 use Rattle.passes.specs.Passes.{BlocksUpTo}
-use Rattle.passes.proofs.Measuring.{rows-left, one-more, label-short}
+use Rattle.passes.proofs.Measuring.{rows-left, counts-one, label-short}
 use Rattle.passes.proofs.Drafting.{Drafted, drafted-start, drafted-end, drafted-refused, drafted-next}
 use Rattle.passes.proofs.draft_blocks.Statement.{statement}
 use Rattle.passes.proofs.draft_blocks.Tie as tie
@@ -66,7 +66,7 @@ loop-less : tie.Need-loop-less Inv-loop μ-loop
 loop-less c =
     let d = answered (accepted (c .before .before) .before) in
     let h = d .before .before .if1 .taken in
-    omega (arith, h, one-more (whole (turn d)) h (d .next-block .ensures))
+    omega (arith, h, counts-one (whole (turn d)) h (d .next-block .ensures))
 
 loop-again : tie.Need-loop-again Inv-loop μ-loop
 loop-again c =

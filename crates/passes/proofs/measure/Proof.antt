@@ -6,7 +6,7 @@ use Prim.Native.Nat.{_+_, _-_}
 use native.Mathlib.Omega.{arith}
 use Rattle.passes.specs.Passes.{BlocksUpTo}
 use Rattle.passes.proofs.Measuring.{BlocksPassed, blocks-passed-start, blocks-passed-end, blocks-passed-refused, blocks-passed-met, blocks-passed-next}
-use Rattle.passes.proofs.Measuring.{rows-left, one-more, label-short, compared-within}
+use Rattle.passes.proofs.Measuring.{rows-left, counts-one, label-short, compared-within}
 use Rattle.passes.proofs.measure.Statement.{statement}
 use Rattle.passes.proofs.measure.Tie as tie
 
@@ -52,7 +52,7 @@ returns c =
 
 -- the block that the turn passed is one after the standing
 next-is : (c : tie.Else2 Inv-loop μ-loop) → stepped c .next-block .result .block ≡ standing (stepped c) .loop .s .block + 1
-next-is c = let d = stepped c in one-more (standing d .loop .inv (given (standing d)) .whole) (d .before .before .if1 .taken) (d .next-block .ensures)
+next-is c = let d = stepped c in counts-one (standing d .loop .inv (given (standing d)) .whole) (d .before .before .if1 .taken) (d .next-block .ensures)
 
 add-j : tie.Need-add-j Inv-loop μ-loop
 add-j c =

@@ -15,7 +15,7 @@ use Rattle.mitex_meaning.specs.Parts.{LiesIn, GreedyStands}
 use Rattle.mitex_meaning.specs.declared.Arguments.{Arguments}
 use Rattle.mitex_meaning.specs.declared.Arguments.the-variants.{NoArguments, GreedyArgument, MathArguments, TextArguments}
 use Rattle.mitex_meaning.specs.declared.Part.{Part}
-use Rattle.mitex_meaning.proofs.Agreeing.{agrees-as, agrees-shift, agrees-reached, agrees-halted, agrees-closes, good}
+use Rattle.mitex_meaning.proofs.Agreeing.{agrees-as, agrees-shift, agrees-reached, agrees-halted, agrees-closes, agrees-good}
 use Rattle.mitex.proofs.Rooms.{siblings-forest, room-between, room-whole, framed, between-short}
 use Rattle.mitex.proofs.Taking.{greedy-refused, greedy-stands, greedy-is}
 use borrow.Author.Needs.{needs}
@@ -150,7 +150,7 @@ args-close-requires t c κs =
     let g = start .pre .1 .1 .1 in
     let k = start .pre .1 .1 .0 in
     let stands = stands-here t found (g .forest) (g .spells) in (
-      λ z. good (at-each .each .ensures (k .rules) (k .ready) (stands .forest) (stands .spells) (sizes (stands .forest)) (omega arith)) z .place,
+      λ z. agrees-good (at-each .each .ensures (k .rules) (k .ready) (stands .forest) (stands .spells) (sizes (stands .forest)) (omega arith)) z .place,
       omega (arith, start .pre .1 .0 .room, at-put .put2 .kept .0, at-each .each .kept .0),
     )
 
@@ -183,7 +183,7 @@ args-close-requires-2 t c κs =
     let start = entry t (told .before) in
     let k = start .pre .1 .1 .0 in
     let g = start .pre .1 .1 .1 in (
-      λ z. good (at-each .each2 .ensures (k .rules) (k .ready) (g .forest) (g .spells) (sizes (g .forest)) (omega arith)) z .place,
+      λ z. agrees-good (at-each .each2 .ensures (k .rules) (k .ready) (g .forest) (g .spells) (sizes (g .forest)) (omega arith)) z .place,
       omega (arith, start .pre .1 .0 .room, at-put .put3 .kept .0, at-each .each2 .kept .0),
     )
 
@@ -207,7 +207,7 @@ args-close-requires-3 t c κs =
     let start = entry t (told .before) in
     let k = start .pre .1 .1 .0 in
     let g = start .pre .1 .1 .1 in (
-      λ z. good (at-each .each3 .ensures (k .rules) (k .ready) (g .forest) (g .spells) (sizes (g .forest)) (omega arith)) z .place,
+      λ z. agrees-good (at-each .each3 .ensures (k .rules) (k .ready) (g .forest) (g .spells) (sizes (g .forest)) (omega arith)) z .place,
       omega (arith, start .pre .1 .0 .room, at-each .each3 .kept .0),
     )
 

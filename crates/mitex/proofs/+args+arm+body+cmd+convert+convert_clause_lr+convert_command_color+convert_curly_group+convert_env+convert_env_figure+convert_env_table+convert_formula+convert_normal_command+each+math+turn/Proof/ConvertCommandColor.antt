@@ -26,7 +26,7 @@ use Rattle.mitex_meaning.specs.declared.Place.{Place}
 use Rattle.mitex_meaning.specs.declared.Progress.{Progress}
 use Rattle.mitex_meaning.specs.declared.Converter.{Converter}
 use Rattle.mitex_meaning.specs.declared.Walked.{Walked}
-use Rattle.mitex_meaning.proofs.Agreeing.{agrees-as, agrees-after, agrees-closes, agrees-shift, agrees-reached, then-done, then-refused, Good, good}
+use Rattle.mitex_meaning.proofs.Agreeing.{agrees-as, agrees-after, agrees-closes, agrees-shift, agrees-reached, then-done, then-refused, Good, agrees-good}
 use Rattle.mitex.proofs.Rooms.{room-between, framed, between-short, between-length}
 use Rattle.mitex.proofs.Walking.{alone-agrees}
 use Rattle.mitex.proofs.Commanding.{color-head}
@@ -208,7 +208,7 @@ good-here t c =
     let start = entry t (head-of t (ended t c)) in
     let k = start .pre .1 .1 .0 in
     let g = start .pre .1 .1 .1 .1 in
-    good (closed-here t (ended t c) (k .rules) (k .ready) (g .model) (g .forest) (g .found) (sizes (g .forest)) (omega arith)) (c .if2 .left)
+    agrees-good (closed-here t (ended t c) (k .rules) (k .ready) (g .model) (g .forest) (g .found) (sizes (g .forest)) (omega arith)) (c .if2 .left)
 
 -- what is written up to there is as long as it was
 long-here : (t : ℕ) (c : Ended t) → length (c .close-color .last .0) ≡ length (entry t (head-of t c) .args .out .now)
@@ -374,7 +374,7 @@ convert-command-color-close-color-requires t c κs =
     let start = entry t at-head in
     let k = start .pre .1 .1 .0 in
     let h = given-here t at-span in (
-      λ z. good
+      λ z. agrees-good
           (alone-agrees (color-state t at-head) (at-color .convert .ensures) (k .rules) (k .ready) (h .tree) (h .first) (size (h .tree)) (omega arith))
           z .place,
       omega (arith, start .pre .1 .0 .room, at-head .put-color-head .kept .0, at-color .convert .kept .0),
@@ -451,7 +451,7 @@ convert-command-color-close-body-requires-2 t c κs =
     let start = entry t (head-of t at-end) in
     let k = start .pre .1 .1 .0 in
     let q = given-here t (span-of t at-end) in (
-      λ z. good (at-each .each .ensures (k .rules) (k .ready) (q .others) (q .behind) (sizes (q .others)) (omega arith)) z .place,
+      λ z. agrees-good (at-each .each .ensures (k .rules) (k .ready) (q .others) (q .behind) (sizes (q .others)) (omega arith)) z .place,
       omega (arith, start .pre .1 .0 .room, long-here t at-end, at-each .each .kept .0),
     )
 

@@ -13,7 +13,7 @@ use Rattle.mitex_syntax.specs.Tree.{sizes}
 use Rattle.mitex_syntax.specs.Tree.Forest.{none, more}
 use Rattle.mitex_syntax.proofs.Trees.{spells-alone}
 use Rattle.mitex_meaning.specs.Children.{converts}
-use Rattle.mitex_meaning.proofs.Agreeing.{good}
+use Rattle.mitex_meaning.proofs.Agreeing.{agrees-good}
 use Rattle.mitex.specs.Walks.{Siblings}
 use Rattle.mitex.proofs.Rooms.{room-behind}
 use Rattle.mitex.proofs.Walking.{turned-passed, turned}
@@ -96,7 +96,7 @@ turn-close-act-requires t c κs =
     let those = alone (start .pre .1 .1 .1) in
     let level = sizes (those .forest) in
     let met = at-convert .convert .ensures (some-rules .rules) (some-rules .ready) (those .forest) (those .spells) level (omega arith) in (
-      λ z. good met z .place,
+      λ z. agrees-good met z .place,
       omega (arith, at-convert .convert .kept .0, room-put t at-put),
     )
 
