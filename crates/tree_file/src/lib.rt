@@ -157,7 +157,7 @@ fn node_row(rows: &[u8]) -> TreeRow
 }
 
 // The row that stands first, where `text` is left.
-fn row_at(rows: &[u8], text: &[u8], plain: bool) -> TreeRow
+fn tree_row_at(rows: &[u8], text: &[u8], plain: bool) -> TreeRow
     requires { ⌜ (8 ≤ length (now rows)) × (plain ≡ true → oneByteEach (now text) ≡ true) ⌝ }
     ensures { λ r. ⌜ r ≡ treeRowAt (now (rows .entry)) (now (text .entry)) ⌝ }
 {
@@ -202,7 +202,7 @@ fn lines_fit(rows: &[u8], text: &[u8]) -> bool
     let mut l = rows;
     let mut t = text;
     while 8 <= l.len() {
-        let row = row_at(l, t, plain);
+        let row = tree_row_at(l, t, plain);
         if is_bad(row) {
             return false;
         }

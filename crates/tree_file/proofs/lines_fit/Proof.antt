@@ -24,21 +24,21 @@ abbrev μ-loop : tie.MeasureT-loop
 room : (c : tie.After-row-taken Inv-loop μ-loop) → c .row-taken .result ≤ length (c .before .before .before .before .before .loop .t .now)
 room c =
     let row = c .before .before .before in
-    let h = taken-room (row .before .before .loop .l .now) (row .before .before .loop .t .now) (row .row-at .result) (row .row-at .ensures) in
+    let h = taken-room (row .before .before .loop .l .now) (row .before .before .loop .t .now) (row .tree-row-at .result) (row .tree-row-at .ensures) in
     omega (arith, c .row-taken .ensures)
 
 loop-holds : tie.Need-loop-holds Inv-loop μ-loop
 loop-holds c = (λ e. sym (c .one-byte-each .ensures) ∙ e, λ n e. lines-left-start n _ _ e)
 
-row-at-requires : tie.Need-row-at-requires Inv-loop μ-loop
-row-at-requires c κs = (c .loop-test .taken, c .before .loop .inv .0)
+tree-row-at-requires : tie.Need-tree-row-at-requires Inv-loop μ-loop
+tree-row-at-requires c κs = (c .loop-test .taken, c .before .loop .inv .0)
 
 returns : tie.Need-returns Inv-loop μ-loop
 returns c =
     let row = c .before .before in
     let in-loop = row .before in
     λ n e. lines-left-bad (in-loop .before .loop .inv .1 n e) (in-loop .loop-test .taken)
-    (ap isBad (sym (row .row-at .ensures)) ∙ sym (c .before .is-bad .ensures) ∙ c .if1 .taken)
+    (ap isBad (sym (row .tree-row-at .ensures)) ∙ sym (c .before .is-bad .ensures) ∙ c .if1 .taken)
 
 sub-t : tie.Need-sub-t Inv-loop μ-loop
 sub-t c = room c
@@ -56,7 +56,7 @@ loop-again c =
     let at = row .before .before .loop in (
       λ e. ap oneByteEach (part-rest (at .t .now) (now .row-taken .result)) ∙ one-drop (now .row-taken .result) (at .t .now) (at .inv .0 e),
       λ n e.
-          lines-left-next (at .inv .1 n e) (row .before .loop-test .taken) (row .row-at .result) (row .row-at .ensures)
+          lines-left-next (at .inv .1 n e) (row .before .loop-test .taken) (row .tree-row-at .result) (row .tree-row-at .ensures)
           (sym (now .before .before .is-bad .ensures) ∙ now .before .if1 .left) (now .row-taken .result) (now .row-taken .ensures),
     )
 
@@ -71,7 +71,7 @@ lines-fit-spec =
     μ-loop
     (λ c κs. search needs)
     loop-holds
-    row-at-requires
+    tree-row-at-requires
     (λ c κs. search needs)
     returns
     (λ c κs. search needs)

@@ -2,8 +2,8 @@
 use Rattle.tree_file.specs.Layout.{treeRowAt}
 use borrow.Author.Tests.{eq-eqb, ne-eqb}
 use borrow.Author.Needs.{needs}
-use Rattle.tree_file.proofs.row_at.Statement.{statement}
-use Rattle.tree_file.proofs.row_at.Tie as tie
+use Rattle.tree_file.proofs.tree_row_at.Statement.{statement}
+use Rattle.tree_file.proofs.tree_row_at.Tie as tie
 
 returns : tie.Need-returns
 unfolding treeRowAt
@@ -27,8 +27,8 @@ returns-4 c =
     let past-if1 = past-if2 .before .before in
     rw (eq-eqb _ _ (past-if1 .if1 .left), eq-eqb _ _ (past-if2 .if2 .left), ne-eqb _ _ (c .before .if3 .left)) (c .node-row .ensures)
 
-pub row-at-spec : {M : Type 1} → statement M
-row-at-spec =
+pub tree-row-at-spec : {M : Type 1} → statement M
+tree-row-at-spec =
     tie.close
     (tie.spec
     (λ c. search needs)
