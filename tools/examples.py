@@ -3,11 +3,10 @@
 
 usage: tools/examples.py VECTORS
 
-VECTORS is a folder of cases, each a folder with `rules.bin` and `tree.bin` (the files that a conversion takes), `stdin`
-(`t` or `m`: Text, Math), `expected` (what the program writes) and `name` (what the case shows; a made
-document has none). A case becomes one entry of
-a table; the tables go by the family of arms that the cases show, and each is one statement that antt computes. Run
-`rt fmt` afterwards.
+VECTORS is a folder of cases, each a folder with `rules.bin` and `tree.bin` (the files that a conversion takes), `stdin` (`t` or
+`m`: Text, Math), `expected` (what the program writes) and `name` (what the case shows; a made document has none). Cases from
+several folders are put together in one first. A case becomes one entry of a table; the tables go by the family of arms that the
+cases show, and each is one statement that antt computes. Run `rt fmt` afterwards.
 """
 
 import re
@@ -26,6 +25,9 @@ TokenRBracket TokenTilde TokenAmpersand ItemNewLine TokenCommandSym ItemCmd Item
 # the longest label in the cases, which the tables name
 LABEL_MOST = 120
 
+# words of a case's name, and how the tables say it
+WORDS = [(str(LABEL_MOST + 1), "one byte more"), (str(LABEL_MOST), "the most bytes"), (" behind ", " after ")]
+
 # the tables: a name, what it shows, and its cases
 TABLES = [
     ("Hand", "the cases tried by hand that concern conversion.", ["hand-00..11", "hand-14..15", "hand-18"]),
@@ -41,6 +43,8 @@ TABLES = [
      ["convert-000011", "convert-000069", "convert-000083", "convert-000167", "convert-000231", "convert-000256",
       "convert-000267", "convert-000294"]),
     ("Cells", "tables.", ["trap-086..098", "trap-107", "trap-149"]),
+    ("Endings", "how tables end, with a cell still open or not.",
+     ["table-01..03", "table-06..07", "table-11..12", "table-14..18", "table-21..28"]),
 ]
 
 
@@ -211,8 +215,8 @@ def named(rules, root):
     return [r for r in rules if r[0] in words]
 
 
-def rules_text(rules, usual, few):
-    """The rules: a case's own stand before the usual ones."""
+def rules_text(rules, root, usual, few):
+    """The rules: a case's own stand before the usual ones; where these are not all there, only those that it names."""
     if rules == usual:
         return "usual"
     if rules == few:
@@ -221,7 +225,7 @@ def rules_text(rules, usual, few):
     names = {r[0] for r in own}
     if set(rules) == set(own) | {r for r in usual if r[0] not in names}:
         return paren(" ∷ ".join([rule(r) for r in own] + ["usual"]))
-    return paren(listed([rule(r) for r in rules]))
+    return paren(listed([rule(r) for r in named(rules, root)]))
 
 
 def answer(expected):
@@ -300,8 +304,9 @@ def case(folder, usual, few):
     rules = read_rules((folder / "rules.bin").read_bytes())
     has_name = (folder / "name").exists()
     shows = (folder / "name").read_text().strip() if has_name else f"{len(root[1])} block" + "s" * (len(root[1]) > 1)
-    shows = shows.replace(str(LABEL_MOST + 1), "one byte more").replace(str(LABEL_MOST), "the most bytes")
-    rules = rules_text(rules if has_name else named(rules, root), usual, few)
+    for words, here in WORDS:
+        shows = shows.replace(words, here)
+    rules = rules_text(rules if has_name else named(rules, root), root, usual, few)
     parts = [f"example {rules} {mode}", trees(root[1]), f"({answer((folder / 'expected').read_bytes())})"]
     line = " ".join(parts)
     if len(line) <= WIDTH:

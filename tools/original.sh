@@ -38,7 +38,7 @@ take rowan 2021 '[dependencies]' 'countme = { path = "../countme" }' 'rustc-hash
 cat "$converter" rust/original/run.rs | sed 's/^\(pub \)\{0,1\}use mitex_/\1use crate::mitex_/' >"$to/src/converter.rs"
 sed '/^use mitex_lexer/d; /^impl From<Token> for SyntaxKind/,/^}/d' "$syntax" >"$to/src/syntax.rs"
 sed '/^\/\/!/d; /^pub mod preludes;/d; /^pub mod query;/d; /^mod stream;/d; /^pub use query::/d' "$spec" >"$to/src/mitex_spec.rs"
-cp rust/original/main.rs "$to/src/main.rs"
+cp rust/original/main.rs rust/original/expected.rs "$to/src/"
 cat >"$to/Cargo.toml" <<'TOML'
 [package]
 name = "original"

@@ -3,6 +3,7 @@
 #![allow(dead_code, unused_imports, unexpected_cfgs)]
 
 mod converter;
+mod expected;
 pub mod mitex_spec;
 pub mod syntax;
 
@@ -21,7 +22,7 @@ pub mod mitex_spec_gen {
 
 use std::collections::BTreeMap;
 use std::hint::black_box;
-use std::panic::catch_unwind;
+use std::panic::{catch_unwind, AssertUnwindSafe};
 
 use converter::LaTeXMode;
 use mitex_spec::{
@@ -135,8 +136,59 @@ fn mode_of(mode: u8) -> LaTeXMode {
     }
 }
 
-/// Past refusals 1 to 5 and apart from 14 and 15 the original gives the same text; an error where the library refuses, and a panic
-/// where that is by 12.
+/// What the original answers. A text stands here with its open cells closed, and how many these are.
+enum Original {
+    Text(String, usize),
+    Unclear,
+    Error,
+    Panic,
+}
+
+impl Original {
+    fn told(&self) -> &'static str {
+        match self {
+            Original::Text(_, 0) => "a text",
+            Original::Text(..) => "a text with cells to close",
+            Original::Unclear => "a text that tells no cells",
+            Original::Error => "an error",
+            Original::Panic => "a panic",
+        }
+    }
+
+    /// Whether the library answers the same: a refusal's number, or 0 and a text.
+    fn agrees(&self, refusal: u8, text: &[u8]) -> bool {
+        match self {
+            Original::Text(closed, _) => refusal == 0 && closed.as_bytes() == text,
+            Original::Unclear => false,
+            Original::Error => matches!(refusal, 7..=11 | 13),
+            Original::Panic => refusal == 12,
+        }
+    }
+}
+
+fn original(mode: u8, rules: &[u8], tree: &[u8]) -> Original {
+    let (node, spec) = (node_of(tree), spec_of(rules));
+    let longer = SyntaxNode::new_root(expected::with_new_lines(&node, &spec));
+    let run = |node| {
+        let converting = || converter::run(node, mode_of(mode), spec.clone());
+        catch_unwind(AssertUnwindSafe(converting))
+    };
+    let text = match run(node) {
+        Ok(Ok(text)) => text,
+        Ok(Err(_)) => return Original::Error,
+        Err(_) => return Original::Panic,
+    };
+    let Ok(Ok(longer)) = run(longer) else {
+        return Original::Unclear;
+    };
+    match expected::closed(&text, &longer) {
+        Some((closed, cells)) => Original::Text(closed, cells),
+        None => Original::Unclear,
+    }
+}
+
+/// Past refusals 1 to 5 and apart from 14 and 15 the original gives the same text but for open cells; an error where the library
+/// refuses, and a panic where that is by 12.
 fn compare(cases: u64, seed: u64) {
     std::panic::set_hook(Box::new(|_| ()));
     let mut counts = BTreeMap::<String, u64>::new();
@@ -155,16 +207,9 @@ fn compare(cases: u64, seed: u64) {
                     .or_default() += 1;
                 continue;
             }
-            let original =
-                catch_unwind(|| converter::run(node_of(&tree), mode_of(mode), spec_of(&rules)));
-            let (same, told) = match &original {
-                Ok(Ok(written)) => (
-                    refusal == 0 && written.as_bytes() == &text[..answer.place],
-                    "a text",
-                ),
-                Ok(Err(_)) => (matches!(refusal, 7..=11 | 13), "an error"),
-                Err(_) => (refusal == 12, "a panic"),
-            };
+            let original = original(mode, &rules, &tree);
+            let told = original.told();
+            let same = original.agrees(refusal, &text[..answer.place]);
             if !same {
                 println!(
                     "different: seed {seed}, mode {mode}, library {answer:?}, original {told}"

@@ -10,6 +10,7 @@ fn rules() -> Vec<u8> {
     RuleFile::new()
         .rule("long", Some(&"long ".repeat(2_000)), Class::Symbol)
         .rule("quote", None, Class::Text)
+        .rule("tabular", Some("table"), Class::Table)
         .build()
         .expect("a short file")
 }
@@ -206,6 +207,34 @@ fn a_label_goes_where_blocks_let_it() {
     let removed = document.remove(&built(&[add_quote]), 0).unwrap();
     assert_eq!(removed.count, 1);
     assert_eq!(document.text(), b"#quote[];");
+}
+
+/// A table of one cell, with a `\\` after it or not.
+fn table(new_line: bool) -> Vec<u8> {
+    let mut tree = TreeFile::new();
+    tree.start(Kind::ItemEnv);
+    tree.start(Kind::ItemBegin);
+    tree.token(Kind::TokenCommandSym, "tabular");
+    tree.start(Kind::ClauseArgument);
+    tree.token(Kind::TokenWord, "{l}");
+    tree.finish();
+    tree.finish();
+    tree.token(Kind::TokenWord, "a");
+    if new_line {
+        tree.token(Kind::ItemNewLine, "\\\\");
+    }
+    tree.finish();
+    tree.build().expect("a short file")
+}
+
+#[test]
+fn a_last_cell_is_closed() {
+    let mut document = Document::open(Mode::Text, &rules(), &table(true)).unwrap();
+    let whole = document.text().to_vec();
+    assert!(whole.ends_with(b"\n[a],\n);"));
+    let edited = document.edit(&table(false), 0).unwrap();
+    assert_eq!((edited.growth, edited.count), (0, 1));
+    assert_eq!(document.text(), whole);
 }
 
 /// A document that went out of the program and came back.

@@ -12,7 +12,7 @@ ghost use Rattle.mitex_syntax.specs.Views.{childrenOf, cmdName};
 ghost use Rattle.mitex_syntax.specs.Spells.{Spells, SpellsAll, SomeForest};
 ghost use Rattle.mitex_meaning.specs.Children.{isBlank, isDot, isSplit, isEnds, follows, othersFollow, isNamed, actOf, attachAct, ruleAct, cellAct, before, converts, behind, nextAttach, nextExterior, nextLoop, attachEnd, loopEnd};
 ghost use Rattle.mitex_meaning.specs.Texts.{leftParen, colonSpace, formulaBegin, formulaEnd};
-ghost use Rattle.mitex_meaning.specs.Texts.{blankGroup, noBase, namedArg};
+ghost use Rattle.mitex_meaning.specs.Texts.{blankGroup, noBase, namedArg, lastCellEnd, tableEnd};
 ghost use Rattle.mitex_meaning.specs.Groups.{groupEnv, lrBegin, lrEnd, attachLoop};
 ghost use Rattle.mitex_meaning.specs.Colors.{bodyLoop, argumentsLoop};
 ghost use Rattle.mitex_meaning.specs.Contract.{Closes};
@@ -697,6 +697,17 @@ pub fn put_curly_end(out: &mut [u8], at: usize, blank: bool) -> usize
     at
 }
 
+// What a table ends with: a cell that is still open is closed.
+fn put_table_end(out: &mut [u8], at: usize, exterior: bool) -> usize
+    requires { ⌜ (at ≤ cap) × (length (now out) ≤ cap) ⌝ }
+    ensures { λ r. ⌜ Wrote at (now (out .entry)) (cond exterior [] lastCellEnd ++ tableEnd) r (now (out .exit)) ⌝ }
+{
+    if exterior {
+        return text::put(out, at, b");");
+    }
+    text::put(out, at, b"],\n);")
+}
+
 // What a loop ends with.
 pub fn put_loop_end(out: &mut [u8], at: usize, l: Loop) -> usize
     requires { ⌜ (at ≤ cap) × (length (now out) ≤ cap) ⌝ }
@@ -715,7 +726,7 @@ pub fn put_loop_end(out: &mut [u8], at: usize, l: Loop) -> usize
         Loop::Named(_) => at,
         Loop::Inside => at,
         Loop::Figure => at,
-        Loop::Table(_) => text::put(out, at, b");"),
+        Loop::Table(exterior) => put_table_end(out, at, exterior),
     }
 }
 

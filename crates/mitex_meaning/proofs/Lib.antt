@@ -2,6 +2,7 @@ pub mod Holding
 pub mod Agreeing
 pub mod Outcomes
 pub mod Loops
+pub mod LastCells
 pub mod Keeping
 pub mod Blocks
 pub mod Sizes

@@ -214,7 +214,7 @@ attachEnd Bare = []
 attachEnd Based = []
 attachEnd Split = rightParen
 
--- what a loop ends with: a blank curly group in Math writes zws; a table's cell still open is left unclosed
+-- what a loop ends with: a blank curly group in Math writes zws; a table closes a cell that is still open
 abbrev pub loopEnd : Loop → List ℕ
 loopEnd Plain = []
 loopEnd (Curly blank) = cond blank blankGroup []
@@ -228,7 +228,7 @@ loopEnd (Arguments dollars) = []
 loopEnd (Named n) = []
 loopEnd Inside = []
 loopEnd Figure = []
-loopEnd (Table exterior) = tableEnd
+loopEnd (Table exterior) = cond exterior [] lastCellEnd ++ tableEnd
 
 -- one child
 unfoldable pub turn : (Tree → Carry → Outcome) → Act → Tree → Carry → Outcome

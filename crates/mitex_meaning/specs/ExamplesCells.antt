@@ -44,11 +44,11 @@ cellExamples =
     envNode "tabular" (braced (tokWord "l" ∷ []) ∷ []) (tokAmpersand ∷ tokNewLine ∷ cmdNode "\\hline" (braced (tok TokenError "?" ∷ []) ∷ []) ∷ tokSpace ∷ tokWord "a" ∷ tokSpace ∷ tokAmpersand ∷ tokWord "b" ∷ [])
     ∷ []
     )
-    (writes "#table(stroke: none,\ncolumns: 1,\nalign: (left, ),\n\n[], [],\ntable.hline(stroke: .5pt),\n[a ], [b);")
+    (writes "#table(stroke: none,\ncolumns: 1,\nalign: (left, ),\n\n[], [],\ntable.hline(stroke: .5pt),\n[a ], [b],\n);")
     -- table: a comment outside a cell opens one
     ∷ example usual Text
     (envNode "tabular" (braced (tokWord "l" ∷ []) ∷ []) (tokComment ∷ tokSpace ∷ tokWord "a" ∷ tokNewLine ∷ tokComment ∷ []) ∷ [])
-    (writes "#table(stroke: none,\ncolumns: 1,\nalign: (left, ),\n\n[ a],\n[);")
+    (writes "#table(stroke: none,\ncolumns: 1,\nalign: (left, ),\n\n[ a],\n[],\n);")
     -- table: \hline inside a cell is a normal command
     ∷ example usual Text
     (envNode "tabular" (braced (tokWord "l" ∷ []) ∷ []) (tokWord "a" ∷ cmdNode "\\hline" [] ∷ []) ∷ [])
@@ -56,7 +56,7 @@ cellExamples =
     -- table: \hline as a symbol opens a cell
     ∷ example (ruleFor "hline" 0 ∷ usual) Text
     (envNode "tabular" (braced (tokWord "l" ∷ []) ∷ []) (tokSym "\\hline" ∷ []) ∷ [])
-    (writes "#table(stroke: none,\ncolumns: 1,\nalign: (left, ),\n\n[hline);")
+    (writes "#table(stroke: none,\ncolumns: 1,\nalign: (left, ),\n\n[hline],\n);")
     -- table: \item in a list's table is 11
     ∷ example usual Text
     (envNode "itemize" [] (envNode "tabular" (braced (tokWord "l" ∷ []) ∷ []) (cmdNode "\\item" [] ∷ []) ∷ []) ∷ [])
@@ -64,7 +64,7 @@ cellExamples =
     -- table: all direct ItemBegin and ItemEnd are passed over
     ∷ example usual Text
     (envNode "tabular" (braced (tokWord "l" ∷ []) ∷ []) (over ItemBegin [] ∷ tokWord "a" ∷ over ItemEnd [] ∷ []) ∷ [])
-    (writes "#table(stroke: none,\ncolumns: 1,\nalign: (left, ),\n\n[a);")
+    (writes "#table(stroke: none,\ncolumns: 1,\nalign: (left, ),\n\n[a],\n);")
     -- numbers are decimal: 12 columns, lines at 10 and 12
     ∷ example usual Text
     (envNode "tabular" (braced (tokWord "llllllllll|ll|" ∷ []) ∷ []) [] ∷ [])

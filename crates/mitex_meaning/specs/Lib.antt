@@ -6,6 +6,7 @@ pub mod Groups
 pub mod Images
 pub mod Colors
 pub mod Commands
+pub mod LastCells
 pub mod Tables
 pub mod Environments
 pub mod Conversion
@@ -19,6 +20,7 @@ pub mod ExamplesColors
 pub mod ExamplesImages
 pub mod ExamplesEnvironments
 pub mod ExamplesCells
+pub mod ExamplesEndings
 pub mod ExamplesDocuments
 pub mod State
 pub mod Contract

@@ -1,7 +1,7 @@
 -- The starred ones of the cases tried by hand, as one statement over a table: files and buffers in, an answer and buffers out, all
 -- of them bytes, by the definitions that the contracts of the calls cite (`result`). The table is `hand`, the statement `starred`. A second
--- table, `small`, has edits of three words, refused ones among them, and buffers one byte too short; a third, `altered`, has insertions and
--- removals.
+-- table, `small`, has edits of three words, refused ones among them, buffers one byte too short, and a table whose last cell is open; a
+-- third, `altered`, has insertions and removals.
 -- A file is written as it stands: the text area, which reads like LaTeX, its rows of 8 bytes, and the trailer. Bytes that no call
 -- has written are 7, so that one sees what is left alone.
 use mathlib.Core.Path.{_≡_, refl}
@@ -144,18 +144,21 @@ abbrev formulaRows : List (List ℕ)
 formulaRows =
     nodeBytes ItemFormula 12 ∷ dollarRow ∷ bracesRows (nodeBytes ItemCmd 6 ∷ tokenBytes ClauseCommandName 6 ∷ argumentRows 1) ++ dollarRow ∷ []
 
--- a table with the argument `{|l|}`, a cell `a` and `\\`; of its `\begin` and `\end` the text has the name alone
-abbrev tableRows : List (List ℕ)
-tableRows =
-    nodeBytes ItemEnv 11
+-- a table with the argument `{|l|}` around some rows; of its `\begin` and `\end` the text has the name alone
+abbrev tableAround : List (List ℕ) → List (List ℕ)
+tableAround rows =
+    nodeBytes ItemEnv (9 + length rows)
     ∷ nodeBytes ItemBegin 6
     ∷ tokenBytes TokenCommandSym 7
     ∷ argumentRows 3
-    ++ wordRow 1
-    ∷ tokenBytes ItemNewLine 2
-    ∷ nodeBytes ItemEnd 1
+    ++ rows
+    ++ nodeBytes ItemEnd 1
     ∷ tokenBytes TokenCommandSym 7
     ∷ []
+
+-- a cell `a` and `\\` in it
+abbrev tableRows : List (List ℕ)
+tableRows = tableAround (wordRow 1 ∷ tokenBytes ItemNewLine 2 ∷ [])
 
 abbrev tableText : List ℕ
 tableText =
@@ -231,11 +234,15 @@ pub starred : map (λ c. result (c .call)) hand ≡ map (λ c. c .gives) hand
 unfolding result flatten
 starred = refl
 
--- ---- small edits, and buffers one byte too short
+-- ---- small edits, buffers one byte too short, and a table whose last cell is open
 
 -- three words, of which the second has so many bytes; and `one`, `two`, `six` as they are kept
 abbrev wordsTree : String → ℕ → List ℕ
 wordsTree s n = treeWith s (wordRow 3 ∷ wordRow n ∷ wordRow 3 ∷ [])
+
+-- the table with nothing after its cell
+abbrev openCellTree : List ℕ
+openCellTree = treeWith "tabular{|l|}atabular" (tableAround (wordRow 1 ∷ []))
 
 abbrev wordsText : List ℕ
 wordsText = ascii "onetwosix" ++ sevens 3
@@ -271,6 +278,10 @@ small =
     (refused 6 0) wordsText wordsLedger
     ∷ trial (editCall textMode ruleFile (treeWith "one\\itemsix" (wordRow 3 ∷ itemRows ++ wordRow 3 ∷ [])) 1 9 wordsText wordsLedger)
     (refused 11 2) wordsText wordsLedger
+    -- the table without its `\\`: the same text fills the buffer, and a buffer one byte shorter is 15; the `\\` taken away by an edit
+    ∷ trial (convertCall textMode ruleFile openCellTree (sevens 124) (ledgerFor 1)) (converted 124 1) tableText (ledgerRow (124 ∷ []) ++ sevens 2)
+    ∷ trial (convertCall textMode ruleFile openCellTree (sevens 123) (ledgerFor 1)) (refused 15 0) (sevens 123) (ledgerFor 1)
+    ∷ trial (editCall textMode ruleFile openCellTree 0 124 tableText (ledgerRow (124 ∷ []))) (edited 124 (pos 0) 1) tableText (ledgerRow (124 ∷ []))
     -- Convert: the text buffer is one byte too short, or the ledger
     ∷ trial (convertCall mathMode ruleFile (treeWith "ab" (wordRow 2 ∷ [])) (sevens 3) (sevens rowSize)) (refused 15 0) (sevens 3) (sevens rowSize)
     ∷ trial (convertCall mathMode ruleFile (treeWith "ab" (wordRow 2 ∷ [])) (sevens 4) (sevens (rowSize - 1))) (refused 15 0) (sevens 4) (sevens (rowSize - 1))

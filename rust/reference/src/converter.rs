@@ -644,6 +644,9 @@ impl<'a> Converter<'a> {
             }
             open = false;
         }
+        if open {
+            self.out.put("],\n");
+        }
         Ok(())
     }
 }

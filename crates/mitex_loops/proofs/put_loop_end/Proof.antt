@@ -48,14 +48,11 @@ enum-told-9 c = search needs
 enum-told-10 : tie.Need-enum-told-10
 enum-told-10 c = search needs
 
-enum-told-11 : tie.Need-enum-told-11
-enum-told-11 c = search needs
+enum-known-l-3 : tie.Need-enum-known-l-3
+enum-known-l-3 c = search needs
 
-slice-aggregate-put : tie.Need-slice-aggregate-put
-slice-aggregate-put c = search needs
-
-put-requires : tie.Need-put-requires
-put-requires c κs = search needs
+put-table-end-requires : tie.Need-put-table-end-requires
+put-table-end-requires c κs = search needs
 
 returns : tie.Need-returns
 returns c = wrote-as (sym (ap loopEnd (c .enum-told .given .1))) (wrote-nil _ _ (c .before .before .before .pre .0))
@@ -103,7 +100,7 @@ same-length-3 : tie.Need-same-length-3
 same-length-3 c = search needs
 
 returns-13 : tie.Need-returns-13
-returns-13 c = wrote-as (sym (ap loopEnd (c .before .before .before .before .before .enum-told11 .given .1))) (c .before .before .put .ensures)
+returns-13 c = wrote-as (sym (ap loopEnd (c .before .before .before .before .before .l3 .given .1))) (c .before .before .put-table-end .ensures)
 
 pub put-loop-end-spec : {M : Type 1} → statement M
 put-loop-end-spec =
@@ -123,9 +120,8 @@ put-loop-end-spec =
     enum-told-8
     enum-told-9
     enum-told-10
-    enum-told-11
-    slice-aggregate-put
-    put-requires
+    enum-known-l-3
+    put-table-end-requires
     returns
     same-length
     returns-2
