@@ -128,7 +128,7 @@ fn take_over(from: &[u8], to: &mut [u8; BUFFER], n: usize) {
 
 // ---- a call
 
-fn converted(answer: Converted) -> Reply {
+fn convert_reply(answer: Converted) -> Reply {
     match answer {
         Converted::Refused { number, row } => Reply {
             number: text::wide(number),
@@ -145,7 +145,7 @@ fn converted(answer: Converted) -> Reply {
     }
 }
 
-fn edited(answer: Edited) -> Reply {
+fn change_reply(answer: Edited) -> Reply {
     match answer {
         Edited::Refused { number, row } => Reply {
             number: text::wide(number),
@@ -221,12 +221,12 @@ fn changed<'a>(
     ledger: &mut [u8],
 ) -> Reply {
     if kind == EDIT {
-        return edited(calls::edit(mode, rules, tree, block, kept, text, ledger));
+        return change_reply(calls::edit(mode, rules, tree, block, kept, text, ledger));
     }
     if kind == INSERT {
-        return edited(calls::insert(mode, rules, tree, block, kept, text, ledger));
+        return change_reply(calls::insert(mode, rules, tree, block, kept, text, ledger));
     }
-    edited(calls::remove(mode, rules, tree, block, kept, text, ledger))
+    change_reply(calls::remove(mode, rules, tree, block, kept, text, ledger))
 }
 
 // Makes a call on a case's files and buffers.
@@ -247,7 +247,7 @@ fn ask(input: &[u8], at: usize, c: Case, text: &mut [u8], ledger: &mut [u8]) -> 
     let mode = input[at + 4];
     let kind = text::read_u32(input, at);
     if kind == CONVERT {
-        return converted(calls::convert(
+        return convert_reply(calls::convert(
             mode,
             rules,
             tree,
