@@ -1,3 +1,4 @@
+pub mod Chart
 pub mod Steps
 pub mod White
 pub mod Chars

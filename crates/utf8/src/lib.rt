@@ -18,26 +18,33 @@ pub struct State {
     pub high: u8,
 }
 
+// The length of a character by its first byte, 0 where none begins so: a line for the byte's first hexadecimal digit, a column
+// for its second.
+const LENGTHS: [[u8; 16]; 16] = [
+    [1, 1, 1, 1, 1, 1, 1, 1, 1, 1, 1, 1, 1, 1, 1, 1],
+    [1, 1, 1, 1, 1, 1, 1, 1, 1, 1, 1, 1, 1, 1, 1, 1],
+    [1, 1, 1, 1, 1, 1, 1, 1, 1, 1, 1, 1, 1, 1, 1, 1],
+    [1, 1, 1, 1, 1, 1, 1, 1, 1, 1, 1, 1, 1, 1, 1, 1],
+    [1, 1, 1, 1, 1, 1, 1, 1, 1, 1, 1, 1, 1, 1, 1, 1],
+    [1, 1, 1, 1, 1, 1, 1, 1, 1, 1, 1, 1, 1, 1, 1, 1],
+    [1, 1, 1, 1, 1, 1, 1, 1, 1, 1, 1, 1, 1, 1, 1, 1],
+    [1, 1, 1, 1, 1, 1, 1, 1, 1, 1, 1, 1, 1, 1, 1, 1],
+    [0, 0, 0, 0, 0, 0, 0, 0, 0, 0, 0, 0, 0, 0, 0, 0],
+    [0, 0, 0, 0, 0, 0, 0, 0, 0, 0, 0, 0, 0, 0, 0, 0],
+    [0, 0, 0, 0, 0, 0, 0, 0, 0, 0, 0, 0, 0, 0, 0, 0],
+    [0, 0, 0, 0, 0, 0, 0, 0, 0, 0, 0, 0, 0, 0, 0, 0],
+    [0, 0, 2, 2, 2, 2, 2, 2, 2, 2, 2, 2, 2, 2, 2, 2],
+    [2, 2, 2, 2, 2, 2, 2, 2, 2, 2, 2, 2, 2, 2, 2, 2],
+    [3, 3, 3, 3, 3, 3, 3, 3, 3, 3, 3, 3, 3, 3, 3, 3],
+    [4, 4, 4, 4, 4, 0, 0, 0, 0, 0, 0, 0, 0, 0, 0, 0],
+];
+
 // The length of a character by its first byte; 0 where none begins so.
 pub fn length_by(b: u8) -> u8
     ensures { λ r. ⌜ r ≡ lengthBy b ⌝ }
 {
-    if b <= 0x7F {
-        return 1;
-    }
-    if b <= 0xC1 {
-        return 0;
-    }
-    if b <= 0xDF {
-        return 2;
-    }
-    if b <= 0xEF {
-        return 3;
-    }
-    if b <= 0xF4 {
-        return 4;
-    }
-    0
+    let i = text::wide(b);
+    LENGTHS[i / 16][i % 16]
 }
 
 // A bound of the second byte, by the first: two first bytes have one of their own.

@@ -1,5 +1,5 @@
-//! Documents of one construct each, a mixture of all and a LaTeX-like one, made from a seed, all of them accepted: what speed is
-//! measured on, and how.
+//! Documents of one construct each, a mixture of all, a LaTeX-like one and one of many-byte characters, made from a seed, all of them
+//! accepted: what speed is measured on, and how.
 
 use std::time::Instant;
 
@@ -83,7 +83,8 @@ impl Document {
     }
 }
 
-/// A document of each construct and a mixture, in few blocks and then in as many as there may be; last a LaTeX-like one.
+/// A document of each construct and a mixture, in few blocks and then in as many as there may be; last a LaTeX-like one
+/// and one of words of many-byte characters, in few blocks.
 pub fn documents(seed: u64) -> Vec<Document> {
     let mut random = Random::new(seed);
     let mut documents = Vec::new();
@@ -95,6 +96,8 @@ pub fn documents(seed: u64) -> Vec<Document> {
         documents.push(Document::new("mixture", mixture(count, &mut random)));
     }
     documents.push(Document::new("LaTeX-like", latex_like(seed)));
+    let blocks = filled(8, || vec![many_byte_word(&mut random), space()]);
+    documents.push(Document::new("many-byte words", blocks));
     documents
 }
 
@@ -192,6 +195,14 @@ fn letters(random: &mut Random, least: usize, most: usize) -> String {
 
 pub fn word(random: &mut Random) -> Made {
     token(TokenWord, letters(random, 2, 9))
+}
+
+/// A word of characters of two, three or four bytes: Greek, Chinese or Gothic.
+fn many_byte_word(random: &mut Random) -> Made {
+    let first = *random.pick(&['α', '一', '𐌰']);
+    let size = 2 + random.below(8);
+    let letter = |_| char::from_u32(first as u32 + random.below(24) as u32).expect("a character");
+    token(TokenWord, (0..size).map(letter).collect::<String>())
 }
 
 pub fn space() -> Made {

@@ -1,45 +1,15 @@
--- Each answer's tests, in order, choose the same case of the definition.
-use borrow.Author.Tests.{le-leb, lt-leb}
+-- The chart has the lengths of the rule (`chart-right`), so the entry at the byte's line and column is the byte's.
+use mathlib.Core.Path.{ap, _∙_}
+use borrow.Author.Needs.{needs}
+use Rattle.utf8.specs.Utf8.{lengthBy}
+use Rattle.utf8.proofs.Chart.{chart-right}
 use Rattle.utf8.proofs.length_by.Statement.{statement}
 use Rattle.utf8.proofs.length_by.Tie as tie
 
 returns : tie.Need-returns
-returns c = simp (le-leb _ _ (c .if1 .taken))
-
-returns-2 : tie.Need-returns-2
-returns-2 c = simp (lt-leb _ _ (c .before .if1 .left), le-leb _ _ (c .if2 .taken))
-
-returns-3 : tie.Need-returns-3
-returns-3 c = simp (lt-leb _ _ (c .before .before .if1 .left), lt-leb _ _ (c .before .if2 .left), le-leb _ _ (c .if3 .taken))
-
-returns-4 : tie.Need-returns-4
-returns-4 c =
-    simp (
-      lt-leb _ _ (c .before .before .before .if1 .left),
-      lt-leb _ _ (c .before .before .if2 .left),
-      lt-leb _ _ (c .before .if3 .left),
-      le-leb _ _ (c .if4 .taken),
-    )
-
-returns-5 : tie.Need-returns-5
-returns-5 c =
-    simp (
-      lt-leb _ _ (c .before .before .before .before .if1 .left),
-      lt-leb _ _ (c .before .before .before .if2 .left),
-      lt-leb _ _ (c .before .before .if3 .left),
-      lt-leb _ _ (c .before .if4 .left),
-      le-leb _ _ (c .if5 .taken),
-    )
-
-returns-6 : tie.Need-returns-6
-returns-6 c =
-    simp (
-      lt-leb _ _ (c .before .before .before .before .if1 .left),
-      lt-leb _ _ (c .before .before .before .if2 .left),
-      lt-leb _ _ (c .before .before .if3 .left),
-      lt-leb _ _ (c .before .if4 .left),
-      lt-leb _ _ (c .if5 .left),
-    )
+returns c =
+    let w = c .before .wide in
+    chart-right (w .result) (w .ensures .1) ∙ ap lengthBy (w .ensures .0)
 
 pub length-by-spec : {M : Type 1} → statement M
-length-by-spec = tie.close (tie.spec returns returns-2 returns-3 returns-4 returns-5 returns-6)
+length-by-spec = tie.close (tie.spec (λ c κs. search needs) (λ c. search needs) (λ c. search needs) (λ c. search needs) returns)
