@@ -14,38 +14,11 @@ use Rattle.mitex_environments.proofs.put_figure_begin.Tie as tie
 no-caption : (w : List ℕ) {p q : CaptionPart} → p ≡ q → captionText q ≡ [] → w ≡ w ++ captionText p
 no-caption w e h = sym (append-nil w) ∙ ap (λ s. w ++ s) (sym (ap captionText e ∙ h))
 
-put-hash-begin-requires : tie.Need-put-hash-begin-requires
-put-hash-begin-requires c κs = search needs
-
-enum-told : tie.Need-enum-told
-enum-told c = search needs
-
-enum-told-2 : tie.Need-enum-told-2
-enum-told-2 c = search needs
-
-enum-told-3 : tie.Need-enum-told-3
-enum-told-3 c = search needs
-
-slice-aggregate-put : tie.Need-slice-aggregate-put
-slice-aggregate-put c = search needs
-
-put-requires : tie.Need-put-requires
-put-requires c κs = search needs
-
-same-length : tie.Need-same-length
-same-length c = search needs
-
 returns : tie.Need-returns
 returns c = wrote-as (no-caption _ (c .enum-told .given .1) refl) (c .before .before .before .before .put-hash-begin .ensures)
 
-same-length-2 : tie.Need-same-length-2
-same-length-2 c = search needs
-
 returns-2 : tie.Need-returns-2
 returns-2 c = wrote-as (no-caption _ (c .enum-told2 .given .1) refl) (c .before .before .before .before .put-hash-begin .ensures)
-
-same-length-3 : tie.Need-same-length-3
-same-length-3 c = search needs
 
 returns-3 : tie.Need-returns-3
 returns-3 c =
@@ -60,15 +33,15 @@ pub put-figure-begin-spec : {M : Type 1} → statement M
 put-figure-begin-spec =
     tie.close
     (tie.spec
-    put-hash-begin-requires
-    enum-told
-    enum-told-2
-    enum-told-3
-    slice-aggregate-put
-    put-requires
-    same-length
+    (λ c κs. search needs)
+    (λ c. search needs)
+    (λ c. search needs)
+    (λ c. search needs)
+    (λ c. search needs)
+    (λ c κs. search needs)
+    (λ c. search needs)
     returns
-    same-length-2
+    (λ c. search needs)
     returns-2
-    same-length-3
+    (λ c. search needs)
     returns-3)

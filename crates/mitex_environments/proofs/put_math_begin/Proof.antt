@@ -4,21 +4,6 @@ use borrow.Author.Needs.{needs}
 use Rattle.mitex_environments.proofs.put_math_begin.Statement.{statement}
 use Rattle.mitex_environments.proofs.put_math_begin.Tie as tie
 
-put-dollar-begin-requires : tie.Need-put-dollar-begin-requires
-put-dollar-begin-requires c κs = search needs
-
-put-requires : tie.Need-put-requires
-put-requires c κs = search needs
-
-slice-aggregate-put : tie.Need-slice-aggregate-put
-slice-aggregate-put c = search needs
-
-put-requires-2 : tie.Need-put-requires-2
-put-requires-2 c κs = search needs
-
-same-length : tie.Need-same-length
-same-length c = search needs
-
 returns : tie.Need-returns
 returns c =
     let paren = c .before .before in
@@ -31,9 +16,9 @@ pub put-math-begin-spec : {M : Type 1} → statement M
 put-math-begin-spec =
     tie.close
     (tie.spec
-    put-dollar-begin-requires
-    put-requires
-    slice-aggregate-put
-    put-requires-2
-    same-length
+    (λ c κs. search needs)
+    (λ c κs. search needs)
+    (λ c. search needs)
+    (λ c κs. search needs)
+    (λ c. search needs)
     returns)

@@ -6,15 +6,6 @@ use borrow.Author.Needs.{needs}
 use Rattle.mitex_environments.proofs.put_table_begin.Statement.{statement}
 use Rattle.mitex_environments.proofs.put_table_begin.Tie as tie
 
-put-hash-begin-requires : tie.Need-put-hash-begin-requires
-put-hash-begin-requires c κs = search needs
-
-put-table-head-requires : tie.Need-put-table-head-requires
-put-table-head-requires c κs = search needs
-
-same-length : tie.Need-same-length
-same-length c = search needs
-
 returns : tie.Need-returns
 returns c =
     let known = c .before .before .before in
@@ -26,4 +17,4 @@ returns c =
 
 pub put-table-begin-spec : {M : Type 1} → statement M
 put-table-begin-spec =
-    tie.close (tie.spec put-hash-begin-requires put-table-head-requires same-length returns)
+    tie.close (tie.spec (λ c κs. search needs) (λ c κs. search needs) (λ c. search needs) returns)

@@ -16,78 +16,6 @@ use Rattle.mitex_loops.proofs.act_of.Tie as tie
 shared-slice-read-kind : tie.Need-shared-slice-read-kind
 shared-slice-read-kind c = omega (arith, rows-some (c .before .before .before .before .pre .0 .child .spells))
 
-enum-told : tie.Need-enum-told
-enum-told c = search needs
-
-enum-told-2 : tie.Need-enum-told-2
-enum-told-2 c = search needs
-
-enum-told-3 : tie.Need-enum-told-3
-enum-told-3 c = search needs
-
-spaced-act-requires : tie.Need-spaced-act-requires
-spaced-act-requires c κs = search needs
-
-enum-known-l : tie.Need-enum-known-l
-enum-known-l c = search needs
-
-attach-act-requires : tie.Need-attach-act-requires
-attach-act-requires c κs = search needs
-
-enum-told-4 : tie.Need-enum-told-4
-enum-told-4 c = search needs
-
-greedy-act-requires : tie.Need-greedy-act-requires
-greedy-act-requires c κs = search needs
-
-enum-told-5 : tie.Need-enum-told-5
-enum-told-5 c = search needs
-
-separated-act-requires : tie.Need-separated-act-requires
-separated-act-requires c κs = search needs
-
-enum-told-6 : tie.Need-enum-told-6
-enum-told-6 c = search needs
-
-argument-act-requires : tie.Need-argument-act-requires
-argument-act-requires c κs = search needs
-
-enum-told-7 : tie.Need-enum-told-7
-enum-told-7 c = search needs
-
-enum-known-l-2 : tie.Need-enum-known-l-2
-enum-known-l-2 c = search needs
-
-dollars-act-requires : tie.Need-dollars-act-requires
-dollars-act-requires c κs = search needs
-
-argument-act-requires-2 : tie.Need-argument-act-requires-2
-argument-act-requires-2 c κs = search needs
-
-enum-known-l-3 : tie.Need-enum-known-l-3
-enum-known-l-3 c = search needs
-
-argument-act-requires-3 : tie.Need-argument-act-requires-3
-argument-act-requires-3 c κs = search needs
-
-enum-told-8 : tie.Need-enum-told-8
-enum-told-8 c = search needs
-
-inside-act-requires : tie.Need-inside-act-requires
-inside-act-requires c κs = search needs
-
-enum-told-9 : tie.Need-enum-told-9
-enum-told-9 c = search needs
-
-figure-act-requires : tie.Need-figure-act-requires
-figure-act-requires c κs = search needs
-
-enum-known-l-4 : tie.Need-enum-known-l-4
-enum-known-l-4 c = search needs
-
-table-act-requires : tie.Need-table-act-requires
-table-act-requires c κs = search needs
-
 returns : tie.Need-returns
 returns c = λ t f sp e. ap (λ l. actOf l t f) (sym (c .enum-told .given .1))
 
@@ -141,30 +69,30 @@ act-of-spec =
     tie.close
     (tie.spec
     shared-slice-read-kind
-    enum-told
-    enum-told-2
-    enum-told-3
-    spaced-act-requires
-    enum-known-l
-    attach-act-requires
-    enum-told-4
-    greedy-act-requires
-    enum-told-5
-    separated-act-requires
-    enum-told-6
-    argument-act-requires
-    enum-told-7
-    enum-known-l-2
-    dollars-act-requires
-    argument-act-requires-2
-    enum-known-l-3
-    argument-act-requires-3
-    enum-told-8
-    inside-act-requires
-    enum-told-9
-    figure-act-requires
-    enum-known-l-4
-    table-act-requires
+    (λ c. search needs)
+    (λ c. search needs)
+    (λ c. search needs)
+    (λ c κs. search needs)
+    (λ c. search needs)
+    (λ c κs. search needs)
+    (λ c. search needs)
+    (λ c κs. search needs)
+    (λ c. search needs)
+    (λ c κs. search needs)
+    (λ c. search needs)
+    (λ c κs. search needs)
+    (λ c. search needs)
+    (λ c. search needs)
+    (λ c κs. search needs)
+    (λ c κs. search needs)
+    (λ c. search needs)
+    (λ c κs. search needs)
+    (λ c. search needs)
+    (λ c κs. search needs)
+    (λ c. search needs)
+    (λ c κs. search needs)
+    (λ c. search needs)
+    (λ c κs. search needs)
     returns
     returns-2
     returns-3

@@ -6,26 +6,11 @@ use borrow.Author.Needs.{needs}
 use Rattle.mitex_loops.proofs.attach_act.Statement.{statement}
 use Rattle.mitex_loops.proofs.attach_act.Tie as tie
 
-is-split-requires : tie.Need-is-split-requires
-is-split-requires c κs = search needs
-
-enum-told : tie.Need-enum-told
-enum-told c = search needs
-
-enum-told-2 : tie.Need-enum-told-2
-enum-told-2 c = search needs
-
-enum-told-3 : tie.Need-enum-told-3
-enum-told-3 c = search needs
-
 returns : tie.Need-returns
 returns c = attach-as (c .enum-told .given .1) (sym (c .before .before .before .is-split .ensures) ∙ c .before .before .if1 .taken)
 
 returns-2 : tie.Need-returns-2
 returns-2 c = attach-as (c .enum-told2 .given .1) (sym (c .before .before .before .is-split .ensures) ∙ c .before .before .if1 .taken)
-
-returns-3 : tie.Need-returns-3
-returns-3 c = search needs
 
 returns-4 : tie.Need-returns-4
 returns-4 c = attach-on (c .before .before .args .state) ∙ ap (attachAct (c .before .before .args .state)) (sym (sym (c .before .is-split .ensures) ∙ c .if1 .left))
@@ -34,11 +19,11 @@ pub attach-act-spec : {M : Type 1} → statement M
 attach-act-spec =
     tie.close
     (tie.spec
-    is-split-requires
-    enum-told
-    enum-told-2
-    enum-told-3
+    (λ c κs. search needs)
+    (λ c. search needs)
+    (λ c. search needs)
+    (λ c. search needs)
     returns
     returns-2
-    returns-3
+    (λ c. search needs)
     returns-4)

@@ -5,17 +5,8 @@ use borrow.Author.Needs.{needs}
 use Rattle.mitex_loops.proofs.attach_loop.Statement.{statement}
 use Rattle.mitex_loops.proofs.attach_loop.Tie as tie
 
-enum-told : tie.Need-enum-told
-enum-told c = search needs
-
-enum-told-2 : tie.Need-enum-told-2
-enum-told-2 c = search needs
-
-returns : tie.Need-returns
-returns c = search needs
-
 returns-2 : tie.Need-returns-2
 returns-2 c = sym (ap attachLoop (c .enum-told2 .given .1))
 
 pub attach-loop-spec : {M : Type 1} → statement M
-attach-loop-spec = tie.close (tie.spec enum-told enum-told-2 returns returns-2)
+attach-loop-spec = tie.close (tie.spec (λ c. search needs) (λ c. search needs) (λ c. search needs) returns-2)

@@ -10,12 +10,6 @@ returns c = closes-refused _ (c .if1 .taken)
 put-behind-requires : tie.Need-put-behind-requires
 put-behind-requires c κs = (c .before .before .before .before .pre .0 (c .before .if1 .left), c .before .before .before .before .pre .1)
 
-reach-requires : tie.Need-reach-requires
-reach-requires c κs = search needs
-
-same-length : tie.Need-same-length
-same-length c = search needs
-
 returns-2 : tie.Need-returns-2
 returns-2 c =
     let at-put = c .before .before .before in
@@ -23,4 +17,4 @@ returns-2 c =
 
 pub close-act-spec : {M : Type 1} → statement M
 close-act-spec =
-    tie.close (tie.spec returns put-behind-requires reach-requires same-length returns-2)
+    tie.close (tie.spec returns put-behind-requires (λ c κs. search needs) (λ c. search needs) returns-2)

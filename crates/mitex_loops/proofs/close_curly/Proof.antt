@@ -8,15 +8,6 @@ use borrow.Author.Needs.{needs}
 use Rattle.mitex_loops.proofs.close_curly.Statement.{statement}
 use Rattle.mitex_loops.proofs.close_curly.Tie as tie
 
-slice-aggregate-close : tie.Need-slice-aggregate-close
-slice-aggregate-close c = search needs
-
-close-requires : tie.Need-close-requires
-close-requires c κs = search needs
-
-same-length : tie.Need-same-length
-same-length c = search needs
-
 returns : tie.Need-returns
 returns c =
     let at-close = c .before .before in
@@ -27,4 +18,4 @@ returns-2 c = closes-nothing (ap (λ (b : Bool). cond b blankGroup []) (c .if1 .
 
 pub close-curly-spec : {M : Type 1} → statement M
 close-curly-spec =
-    tie.close (tie.spec slice-aggregate-close close-requires same-length returns returns-2)
+    tie.close (tie.spec (λ c. search needs) (λ c κs. search needs) (λ c. search needs) returns returns-2)

@@ -8,18 +8,6 @@ use borrow.Author.Needs.{needs}
 use Rattle.mitex_loops.proofs.close_formula.Statement.{statement}
 use Rattle.mitex_loops.proofs.close_formula.Tie as tie
 
-enum-told : tie.Need-enum-told
-enum-told c = search needs
-
-slice-aggregate-close : tie.Need-slice-aggregate-close
-slice-aggregate-close c = search needs
-
-close-requires : tie.Need-close-requires
-close-requires c κs = search needs
-
-same-length : tie.Need-same-length
-same-length c = search needs
-
 returns : tie.Need-returns
 returns c =
     let at-close = c .before .before in
@@ -27,18 +15,6 @@ returns c =
     let inline = at-then .before .before .before .before .args .inline in
     closes-as (ap (λ (m : LaTeXMode). formulaEnd m inline) (at-then .before .enum-told .given .1) ∙ ap (formulaEnd Text) (at-then .if1 .taken))
     (at-close .close .ensures)
-
-slice-aggregate-close-2 : tie.Need-slice-aggregate-close-2
-slice-aggregate-close-2 c = search needs
-
-close-requires-2 : tie.Need-close-requires-2
-close-requires-2 c κs = search needs
-
-enum-told-2 : tie.Need-enum-told-2
-enum-told-2 c = search needs
-
-same-length-2 : tie.Need-same-length-2
-same-length-2 c = search needs
 
 returns-2 : tie.Need-returns-2
 returns-2 c =
@@ -57,14 +33,14 @@ pub close-formula-spec : {M : Type 1} → statement M
 close-formula-spec =
     tie.close
     (tie.spec
-    enum-told
-    slice-aggregate-close
-    close-requires
-    same-length
+    (λ c. search needs)
+    (λ c. search needs)
+    (λ c κs. search needs)
+    (λ c. search needs)
     returns
-    slice-aggregate-close-2
-    close-requires-2
-    enum-told-2
-    same-length-2
+    (λ c. search needs)
+    (λ c κs. search needs)
+    (λ c. search needs)
+    (λ c. search needs)
     returns-2
     returns-3)

@@ -8,21 +8,6 @@ use borrow.Author.Needs.{needs}
 use Rattle.mitex_loops.proofs.close_lr.Statement.{statement}
 use Rattle.mitex_loops.proofs.close_lr.Tie as tie
 
-slice-aggregate-same : tie.Need-slice-aggregate-same
-slice-aggregate-same c = search needs
-
-same-requires : tie.Need-same-requires
-same-requires c κs = search needs
-
-slice-aggregate-close : tie.Need-slice-aggregate-close
-slice-aggregate-close c = search needs
-
-close-requires : tie.Need-close-requires
-close-requires c κs = search needs
-
-same-length : tie.Need-same-length
-same-length c = search needs
-
 returns : tie.Need-returns
 returns c =
     let at-close = c .before .before in
@@ -38,10 +23,10 @@ pub close-lr-spec : {M : Type 1} → statement M
 close-lr-spec =
     tie.close
     (tie.spec
-    slice-aggregate-same
-    same-requires
-    slice-aggregate-close
-    close-requires
-    same-length
+    (λ c. search needs)
+    (λ c κs. search needs)
+    (λ c. search needs)
+    (λ c κs. search needs)
+    (λ c. search needs)
     returns
     returns-2)

@@ -6,18 +6,9 @@ use borrow.Author.Needs.{needs}
 use Rattle.mitex_loops.proofs.command_act.Statement.{statement}
 use Rattle.mitex_loops.proofs.command_act.Tie as tie
 
-command-name-requires : tie.Need-command-name-requires
-command-name-requires c κs = search needs
-
-past-first-requires : tie.Need-past-first-requires
-past-first-requires c κs = search needs
-
-rule-act-requires : tie.Need-rule-act-requires
-rule-act-requires c κs = search needs
-
 returns : tie.Need-returns
 returns c = λ t sp. c .rule-act .ensures ∙ ap ruleAct (c .before .past-first .ensures ∙ ap (drop 1) (c .before .before .command-name .ensures t sp))
 
 pub command-act-spec : {M : Type 1} → statement M
 command-act-spec =
-    tie.close (tie.spec command-name-requires past-first-requires rule-act-requires returns)
+    tie.close (tie.spec (λ c κs. search needs) (λ c κs. search needs) (λ c κs. search needs) returns)

@@ -14,9 +14,6 @@ sub-name-tok c = omega (arith, rows-some (c .before .before .pre .child .spells)
 part-name-tok-start : tie.Need-part-name-tok-start
 part-name-tok-start c = omega (arith, rows-some (c .before .before .pre .child .spells))
 
-part-name-tok-end : tie.Need-part-name-tok-end
-part-name-tok-end c = search needs
-
 name-tok-requires : tie.Need-name-tok-requires
 name-tok-requires c κs = rw part-rest (children-given (c .before .before .before .pre))
 
@@ -26,4 +23,4 @@ returns c = λ t sp. c .name-tok .ensures (childrenOf t) (rw part-rest (children
 pub command-name-spec : {M : Type 1} → statement M
 command-name-spec =
     tie.close
-    (tie.spec sub-name-tok part-name-tok-start part-name-tok-end name-tok-requires returns)
+    (tie.spec sub-name-tok part-name-tok-start (λ c. search needs) name-tok-requires returns)

@@ -10,17 +10,11 @@ use Rattle.mitex_loops.proofs.figure_act.Tie as tie
 shared-slice-read-is-ends : tie.Need-shared-slice-read-is-ends
 shared-slice-read-is-ends c = omega (arith, rows-some (c .before .before .before .pre .child .spells))
 
-is-ends-requires : tie.Need-is-ends-requires
-is-ends-requires c κs = search needs
-
 returns : tie.Need-returns
 returns c =
     λ t f sp.
     let ends = ap isEnds (sym (kind-spelt t sp)) ∙ sym (c .before .is-ends .ensures) in
     rw (ends ∙ c .if1 .taken)
-
-is-named-requires : tie.Need-is-named-requires
-is-named-requires c κs = search needs
 
 returns-2 : tie.Need-returns-2
 returns-2 c =
@@ -39,8 +33,8 @@ figure-act-spec =
     tie.close
     (tie.spec
     shared-slice-read-is-ends
-    is-ends-requires
+    (λ c κs. search needs)
     returns
-    is-named-requires
+    (λ c κs. search needs)
     returns-2
     returns-3)

@@ -4,9 +4,6 @@ use borrow.Author.Needs.{needs}
 use Rattle.mitex_loops.proofs.inside_act.Statement.{statement}
 use Rattle.mitex_loops.proofs.inside_act.Tie as tie
 
-is-ends-requires : tie.Need-is-ends-requires
-is-ends-requires c κs = search needs
-
 returns : tie.Need-returns
 returns c = rw (sym (c .before .is-ends .ensures) ∙ c .if1 .taken)
 
@@ -14,4 +11,4 @@ returns-2 : tie.Need-returns-2
 returns-2 c = rw (sym (c .before .is-ends .ensures) ∙ c .if1 .left)
 
 pub inside-act-spec : {M : Type 1} → statement M
-inside-act-spec = tie.close (tie.spec is-ends-requires returns returns-2)
+inside-act-spec = tie.close (tie.spec (λ c κs. search needs) returns returns-2)

@@ -24,9 +24,6 @@ loop-holds c = λ f text sp. blank-start sp
 shared-slice-read-is-blank : tie.Need-shared-slice-read-is-blank Inv-loop μ-loop
 shared-slice-read-is-blank c = omega arith
 
-is-blank-requires : tie.Need-is-blank-requires Inv-loop μ-loop
-is-blank-requires c κs = search needs
-
 returns : tie.Need-returns Inv-loop μ-loop
 returns c =
     let turn = c .before .before .before in
@@ -56,7 +53,7 @@ is-blank-group-spec =
     μ-loop
     loop-holds
     shared-slice-read-is-blank
-    is-blank-requires
+    (λ c κs. search needs)
     returns
     add-i
     loop-less

@@ -8,14 +8,8 @@ use Rattle.mitex_loops.proofs.is_dot.Tie as tie
 returns : tie.Need-returns
 returns c = rw (ne-eqb (c .before .before .args .kind) TokenWord (c .if1 .taken))
 
-slice-aggregate-same : tie.Need-slice-aggregate-same
-slice-aggregate-same c = search needs
-
-same-requires : tie.Need-same-requires
-same-requires c κs = search needs
-
 returns-2 : tie.Need-returns-2
 returns-2 c = rw (eq-eqb (c .before .before .before .before .args .kind) TokenWord (c .before .before .if1 .left)) (c .same .ensures)
 
 pub is-dot-spec : {M : Type 1} → statement M
-is-dot-spec = tie.close (tie.spec returns slice-aggregate-same same-requires returns-2)
+is-dot-spec = tie.close (tie.spec returns (λ c. search needs) (λ c κs. search needs) returns-2)

@@ -18,20 +18,8 @@ always-flat Math k e = sym e
 text-flat : (k : ℕ) → isChildren k ≡ false → (eqb k ItemCurly || eqb k ItemAttachComponent) ≡ isFlat Text k
 text-flat k e = rw e
 
-is-children-requires : tie.Need-is-children-requires
-is-children-requires c κs = search needs
-
 returns : tie.Need-returns
 returns c = always-flat (c .before .before .args .mode) (c .before .before .args .kind) (sym (c .before .is-children .ensures) ∙ c .if1 .taken)
-
-enum-told : tie.Need-enum-told
-enum-told c = search needs
-
-is-group-requires : tie.Need-is-group-requires
-is-group-requires c κs = search needs
-
-enum-told-2 : tie.Need-enum-told-2
-enum-told-2 c = search needs
 
 returns-2 : tie.Need-returns-2
 returns-2 c =
@@ -48,10 +36,10 @@ pub is-flat-spec : {M : Type 1} → statement M
 is-flat-spec =
     tie.close
     (tie.spec
-    is-children-requires
+    (λ c κs. search needs)
     returns
-    enum-told
-    is-group-requires
-    enum-told-2
+    (λ c. search needs)
+    (λ c κs. search needs)
+    (λ c. search needs)
     returns-2
     returns-3)

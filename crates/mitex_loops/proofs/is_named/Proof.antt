@@ -17,15 +17,6 @@ shared-slice-read-if1 c = omega (arith, rows-some (c .before .before .before .pr
 returns : tie.Need-returns
 returns c = λ t sp. rw (ne-eqb (kindOf t) ItemCmd (λ q. c .if1 .taken (kind-spelt t sp ∙ q)))
 
-command-name-requires : tie.Need-command-name-requires
-command-name-requires c κs = search needs
-
-slice-aggregate-same : tie.Need-slice-aggregate-same
-slice-aggregate-same c = search needs
-
-same-requires : tie.Need-same-requires
-same-requires c κs = search needs
-
 returns-2 : tie.Need-returns-2
 returns-2 c =
     let c₁ = c .before .before .before in
@@ -34,12 +25,6 @@ returns-2 c =
     let cmd = eq-eqb (kindOf t) ItemCmd (sym (kind-spelt t sp) ∙ c₂ .if1 .left) in
     let caption = c .before .same .ensures ∙ ap (λ n. same n captionName) (c₁ .command-name .ensures t sp) in
     rw (cmd, sym caption ∙ c .if2 .taken)
-
-slice-aggregate-same-2 : tie.Need-slice-aggregate-same-2
-slice-aggregate-same-2 c = search needs
-
-same-requires-2 : tie.Need-same-requires-2
-same-requires-2 c κs = search needs
 
 returns-3 : tie.Need-returns-3
 returns-3 c =
@@ -57,10 +42,10 @@ is-named-spec =
     (tie.spec
     shared-slice-read-if1
     returns
-    command-name-requires
-    slice-aggregate-same
-    same-requires
+    (λ c κs. search needs)
+    (λ c. search needs)
+    (λ c κs. search needs)
     returns-2
-    slice-aggregate-same-2
-    same-requires-2
+    (λ c. search needs)
+    (λ c κs. search needs)
     returns-3)

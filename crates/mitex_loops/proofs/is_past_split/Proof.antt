@@ -7,15 +7,6 @@ use borrow.Author.Needs.{needs}
 use Rattle.mitex_loops.proofs.is_past_split.Statement.{statement}
 use Rattle.mitex_loops.proofs.is_past_split.Tie as tie
 
-enum-told : tie.Need-enum-told
-enum-told c = search needs
-
-enum-told-2 : tie.Need-enum-told-2
-enum-told-2 c = search needs
-
-enum-told-3 : tie.Need-enum-told-3
-enum-told-3 c = search needs
-
 returns : tie.Need-returns
 returns c = λ k. sym (ap (λ (s : Attach). isSteady (Attached s) k) (c .enum-told .given .1))
 
@@ -26,4 +17,4 @@ returns-3 : tie.Need-returns-3
 returns-3 c = λ k. sym (ap (λ (s : Attach). isSteady (Attached s) k) (c .enum-told3 .given .1))
 
 pub is-past-split-spec : {M : Type 1} → statement M
-is-past-split-spec = tie.close (tie.spec enum-told enum-told-2 enum-told-3 returns returns-2 returns-3)
+is-past-split-spec = tie.close (tie.spec (λ c. search needs) (λ c. search needs) (λ c. search needs) returns returns-2 returns-3)

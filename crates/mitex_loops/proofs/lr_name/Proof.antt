@@ -6,18 +6,12 @@ use borrow.Author.Needs.{needs}
 use Rattle.mitex_loops.proofs.lr_name.Statement.{statement}
 use Rattle.mitex_loops.proofs.lr_name.Tie as tie
 
-first-span-requires : tie.Need-first-span-requires
-first-span-requires c κs = search needs
-
 slice-aggregate-past-first : tie.Need-slice-aggregate-past-first
 slice-aggregate-past-first c = sym (length-take-le _ _ (c .before .first-span .ensures .0 .1))
-
-past-first-requires : tie.Need-past-first-requires
-past-first-requires c κs = search needs
 
 returns : tie.Need-returns
 returns c = λ f sp. c .past-first .ensures ∙ name-apart (c .before .before .first-span .ensures .1 f sp)
 
 pub lr-name-spec : {M : Type 1} → statement M
 lr-name-spec =
-    tie.close (tie.spec first-span-requires slice-aggregate-past-first past-first-requires returns)
+    tie.close (tie.spec (λ c κs. search needs) slice-aggregate-past-first (λ c κs. search needs) returns)

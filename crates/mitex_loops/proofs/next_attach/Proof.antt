@@ -7,20 +7,8 @@ use borrow.Author.Needs.{needs}
 use Rattle.mitex_loops.proofs.next_attach.Statement.{statement}
 use Rattle.mitex_loops.proofs.next_attach.Tie as tie
 
-is-split-requires : tie.Need-is-split-requires
-is-split-requires c κs = search needs
-
 returns : tie.Need-returns
 returns c = attach-split (c .before .before .args .state) (c .before .before .args .kind) (sym (c .before .is-split .ensures) ∙ c .if1 .taken)
-
-enum-told : tie.Need-enum-told
-enum-told c = search needs
-
-enum-told-2 : tie.Need-enum-told-2
-enum-told-2 c = search needs
-
-enum-told-3 : tie.Need-enum-told-3
-enum-told-3 c = search needs
 
 returns-2 : tie.Need-returns-2
 returns-2 c =
@@ -39,19 +27,16 @@ returns-3 c =
 returns-4 : tie.Need-returns-4
 returns-4 c = rw (c .enum-told2 .given .1, sym (c .before .before .before .is-split .ensures) ∙ c .before .before .if1 .left)
 
-returns-5 : tie.Need-returns-5
-returns-5 c = search needs
-
 pub next-attach-spec : {M : Type 1} → statement M
 next-attach-spec =
     tie.close
     (tie.spec
-    is-split-requires
+    (λ c κs. search needs)
     returns
-    enum-told
-    enum-told-2
-    enum-told-3
+    (λ c. search needs)
+    (λ c. search needs)
+    (λ c. search needs)
     returns-2
     returns-3
     returns-4
-    returns-5)
+    (λ c. search needs))

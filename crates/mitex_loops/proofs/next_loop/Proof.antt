@@ -12,56 +12,8 @@ use borrow.Author.Needs.{needs}
 use Rattle.mitex_loops.proofs.next_loop.Statement.{statement}
 use Rattle.mitex_loops.proofs.next_loop.Tie as tie
 
-enum-told : tie.Need-enum-told
-enum-told c = search needs
-
-enum-known-l : tie.Need-enum-known-l
-enum-known-l c = search needs
-
-next-blank-requires : tie.Need-next-blank-requires
-next-blank-requires c κs = search needs
-
-enum-told-2 : tie.Need-enum-told-2
-enum-told-2 c = search needs
-
-enum-known-l-2 : tie.Need-enum-known-l-2
-enum-known-l-2 c = search needs
-
-next-attach-requires : tie.Need-next-attach-requires
-next-attach-requires c κs = search needs
-
-enum-told-3 : tie.Need-enum-told-3
-enum-told-3 c = search needs
-
-enum-told-4 : tie.Need-enum-told-4
-enum-told-4 c = search needs
-
-enum-told-5 : tie.Need-enum-told-5
-enum-told-5 c = search needs
-
-enum-told-6 : tie.Need-enum-told-6
-enum-told-6 c = search needs
-
-enum-known-l-3 : tie.Need-enum-known-l-3
-enum-known-l-3 c = search needs
-
-enum-known-l-4 : tie.Need-enum-known-l-4
-enum-known-l-4 c = search needs
-
 next-number-requires : tie.Need-next-number-requires
 next-number-requires c κs = subst (λ l. numberOf l < cap) (c .before .l4 .given .1) (c .before .before .before .pre)
-
-enum-told-7 : tie.Need-enum-told-7
-enum-told-7 c = search needs
-
-enum-told-8 : tie.Need-enum-told-8
-enum-told-8 c = search needs
-
-enum-known-l-5 : tie.Need-enum-known-l-5
-enum-known-l-5 c = search needs
-
-next-exterior-requires : tie.Need-next-exterior-requires
-next-exterior-requires c κs = search needs
 
 returns : tie.Need-returns
 returns c = ap (λ l. nextLoop l (c .before .before .args .kind) (c .before .before .args .act)) (sym (c .enum-told .given .1))
@@ -116,23 +68,23 @@ pub next-loop-spec : {M : Type 1} → statement M
 next-loop-spec =
     tie.close
     (tie.spec
-    enum-told
-    enum-known-l
-    next-blank-requires
-    enum-told-2
-    enum-known-l-2
-    next-attach-requires
-    enum-told-3
-    enum-told-4
-    enum-told-5
-    enum-told-6
-    enum-known-l-3
-    enum-known-l-4
+    (λ c. search needs)
+    (λ c. search needs)
+    (λ c κs. search needs)
+    (λ c. search needs)
+    (λ c. search needs)
+    (λ c κs. search needs)
+    (λ c. search needs)
+    (λ c. search needs)
+    (λ c. search needs)
+    (λ c. search needs)
+    (λ c. search needs)
+    (λ c. search needs)
     next-number-requires
-    enum-told-7
-    enum-told-8
-    enum-known-l-5
-    next-exterior-requires
+    (λ c. search needs)
+    (λ c. search needs)
+    (λ c. search needs)
+    (λ c κs. search needs)
     returns
     returns-2
     returns-3

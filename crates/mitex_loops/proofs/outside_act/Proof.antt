@@ -13,9 +13,6 @@ use Rattle.mitex_loops.proofs.outside_act.Tie as tie
 shared-slice-read-match : tie.Need-shared-slice-read-match
 shared-slice-read-match c = omega (arith, rows-some (c .before .before .before .pre .child .spells))
 
-command-act-requires : tie.Need-command-act-requires
-command-act-requires c κs = search needs
-
 returns : tie.Need-returns
 returns c = λ t sp. cell-kind true (drop 1 (cmdName (childrenOf t))) (sym (kind-spelt t sp) ∙ c .match .keys1)
 
@@ -43,7 +40,7 @@ outside-act-spec =
     tie.close
     (tie.spec
     shared-slice-read-match
-    command-act-requires
+    (λ c κs. search needs)
     returns
     returns-2
     returns-3

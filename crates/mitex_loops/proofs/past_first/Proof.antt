@@ -8,18 +8,9 @@ use Rattle.mitex_loops.proofs.past_first.Tie as tie
 returns : tie.Need-returns
 returns c = past-none (c .before .args .s .now) (c .if1 .taken)
 
-sub-result : tie.Need-sub-result
-sub-result c = search needs
-
-part-result-start : tie.Need-part-result-start
-part-result-start c = search needs
-
-part-result-end : tie.Need-part-result-end
-part-result-end c = search needs
-
 returns-2 : tie.Need-returns-2
 returns-2 c = part-rest (c .before .before .args .s .now) 1
 
 pub past-first-spec : {M : Type 1} → statement M
 past-first-spec =
-    tie.close (tie.spec returns sub-result part-result-start part-result-end returns-2)
+    tie.close (tie.spec returns (λ c. search needs) (λ c. search needs) (λ c. search needs) returns-2)

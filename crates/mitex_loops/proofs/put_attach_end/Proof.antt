@@ -6,29 +6,11 @@ use borrow.Author.Needs.{needs}
 use Rattle.mitex_loops.proofs.put_attach_end.Statement.{statement}
 use Rattle.mitex_loops.proofs.put_attach_end.Tie as tie
 
-enum-told : tie.Need-enum-told
-enum-told c = search needs
-
-enum-told-2 : tie.Need-enum-told-2
-enum-told-2 c = search needs
-
-enum-told-3 : tie.Need-enum-told-3
-enum-told-3 c = search needs
-
-slice-aggregate-put : tie.Need-slice-aggregate-put
-slice-aggregate-put c = search needs
-
-put-requires : tie.Need-put-requires
-put-requires c κs = search needs
-
 returns : tie.Need-returns
 returns c = wrote-as (sym (ap attachEnd (c .enum-told .given .1))) (wrote-nil _ _ (c .before .before .before .pre .0))
 
 returns-2 : tie.Need-returns-2
 returns-2 c = wrote-as (sym (ap attachEnd (c .enum-told2 .given .1))) (wrote-nil _ _ (c .before .before .before .pre .0))
-
-same-length : tie.Need-same-length
-same-length c = search needs
 
 returns-3 : tie.Need-returns-3
 returns-3 c = wrote-as (sym (ap attachEnd (c .before .before .before .before .before .enum-told3 .given .1))) (c .before .before .put .ensures)
@@ -37,12 +19,12 @@ pub put-attach-end-spec : {M : Type 1} → statement M
 put-attach-end-spec =
     tie.close
     (tie.spec
-    enum-told
-    enum-told-2
-    enum-told-3
-    slice-aggregate-put
-    put-requires
+    (λ c. search needs)
+    (λ c. search needs)
+    (λ c. search needs)
+    (λ c. search needs)
+    (λ c κs. search needs)
     returns
     returns-2
-    same-length
+    (λ c. search needs)
     returns-3)

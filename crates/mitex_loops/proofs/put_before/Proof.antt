@@ -6,126 +6,6 @@ use borrow.Author.Needs.{needs}
 use Rattle.mitex_loops.proofs.put_before.Statement.{statement}
 use Rattle.mitex_loops.proofs.put_before.Tie as tie
 
-enum-told : tie.Need-enum-told
-enum-told c = search needs
-
-enum-told-2 : tie.Need-enum-told-2
-enum-told-2 c = search needs
-
-enum-told-3 : tie.Need-enum-told-3
-enum-told-3 c = search needs
-
-enum-told-4 : tie.Need-enum-told-4
-enum-told-4 c = search needs
-
-slice-aggregate-put : tie.Need-slice-aggregate-put
-slice-aggregate-put c = search needs
-
-put-requires : tie.Need-put-requires
-put-requires c κs = search needs
-
-enum-told-5 : tie.Need-enum-told-5
-enum-told-5 c = search needs
-
-enum-told-6 : tie.Need-enum-told-6
-enum-told-6 c = search needs
-
-slice-aggregate-put-2 : tie.Need-slice-aggregate-put-2
-slice-aggregate-put-2 c = search needs
-
-put-requires-2 : tie.Need-put-requires-2
-put-requires-2 c κs = search needs
-
-enum-told-7 : tie.Need-enum-told-7
-enum-told-7 c = search needs
-
-slice-aggregate-put-3 : tie.Need-slice-aggregate-put-3
-slice-aggregate-put-3 c = search needs
-
-put-requires-3 : tie.Need-put-requires-3
-put-requires-3 c κs = search needs
-
-enum-told-8 : tie.Need-enum-told-8
-enum-told-8 c = search needs
-
-put-split-bare-requires : tie.Need-put-split-bare-requires
-put-split-bare-requires c κs = search needs
-
-enum-told-9 : tie.Need-enum-told-9
-enum-told-9 c = search needs
-
-put-split-requires : tie.Need-put-split-requires
-put-split-requires c κs = search needs
-
-enum-known-act : tie.Need-enum-known-act
-enum-known-act c = search needs
-
-put-name-requires : tie.Need-put-name-requires
-put-name-requires c κs = search needs
-
-enum-told-10 : tie.Need-enum-told-10
-enum-told-10 c = search needs
-
-slice-aggregate-put-4 : tie.Need-slice-aggregate-put-4
-slice-aggregate-put-4 c = search needs
-
-put-requires-4 : tie.Need-put-requires-4
-put-requires-4 c κs = search needs
-
-enum-told-11 : tie.Need-enum-told-11
-enum-told-11 c = search needs
-
-slice-aggregate-put-5 : tie.Need-slice-aggregate-put-5
-slice-aggregate-put-5 c = search needs
-
-put-requires-5 : tie.Need-put-requires-5
-put-requires-5 c κs = search needs
-
-enum-told-12 : tie.Need-enum-told-12
-enum-told-12 c = search needs
-
-slice-aggregate-put-6 : tie.Need-slice-aggregate-put-6
-slice-aggregate-put-6 c = search needs
-
-put-requires-6 : tie.Need-put-requires-6
-put-requires-6 c κs = search needs
-
-enum-told-13 : tie.Need-enum-told-13
-enum-told-13 c = search needs
-
-slice-aggregate-put-7 : tie.Need-slice-aggregate-put-7
-slice-aggregate-put-7 c = search needs
-
-put-requires-7 : tie.Need-put-requires-7
-put-requires-7 c κs = search needs
-
-enum-told-14 : tie.Need-enum-told-14
-enum-told-14 c = search needs
-
-slice-aggregate-put-8 : tie.Need-slice-aggregate-put-8
-slice-aggregate-put-8 c = search needs
-
-put-requires-8 : tie.Need-put-requires-8
-put-requires-8 c κs = search needs
-
-enum-told-15 : tie.Need-enum-told-15
-enum-told-15 c = search needs
-
-slice-aggregate-put-9 : tie.Need-slice-aggregate-put-9
-slice-aggregate-put-9 c = search needs
-
-put-requires-9 : tie.Need-put-requires-9
-put-requires-9 c κs = search needs
-
-enum-told-16 : tie.Need-enum-told-16
-enum-told-16 c = search needs
-
-slice-aggregate-put-10 : tie.Need-slice-aggregate-put-10
-slice-aggregate-put-10 c = search needs
-
-put-requires-10 : tie.Need-put-requires-10
-put-requires-10 c κs = search needs
-
 returns : tie.Need-returns
 returns c =
     let c₁ = c .before .before .before .before in
@@ -141,9 +21,6 @@ returns-3 c =
     let c₁ = c .before .before .before .before in
     wrote-as (sym (ap (λ a. before a (c₁ .args .s .now)) (c .enum-told3 .given .1))) (wrote-nil _ _ (c₁ .pre .0))
 
-same-length : tie.Need-same-length
-same-length c = search needs
-
 returns-4 : tie.Need-returns-4
 returns-4 c =
     let c₁ = c .before .before .before .before .before in
@@ -155,17 +32,11 @@ returns-5 c =
     let c₁ = c .before .before .before .before in
     wrote-as (sym (ap (λ a. before a (c₁ .args .s .now)) (c .enum-told5 .given .1))) (wrote-nil _ _ (c₁ .pre .0))
 
-same-length-2 : tie.Need-same-length-2
-same-length-2 c = search needs
-
 returns-6 : tie.Need-returns-6
 returns-6 c =
     let c₁ = c .before .before .before .before .before in
     let c₂ = c₁ .before .before .before .before in
     wrote-as (sym (ap (λ a. before a (c₂ .args .s .now)) (c₁ .enum-told6 .given .1))) (c .before .before .put2 .ensures)
-
-same-length-3 : tie.Need-same-length-3
-same-length-3 c = search needs
 
 returns-7 : tie.Need-returns-7
 returns-7 c =
@@ -173,17 +44,11 @@ returns-7 c =
     let c₂ = c₁ .before .before .before .before in
     wrote-as (sym (ap (λ a. before a (c₂ .args .s .now)) (c₁ .enum-told7 .given .1))) (c .before .before .put3 .ensures)
 
-same-length-4 : tie.Need-same-length-4
-same-length-4 c = search needs
-
 returns-8 : tie.Need-returns-8
 returns-8 c =
     let c₁ = c .before .before .before .before in
     let c₂ = c₁ .before .before .before .before in
     wrote-as (sym (ap (λ a. before a (c₂ .args .s .now)) (c₁ .enum-told8 .given .1))) (c .before .before .put-split-bare .ensures)
-
-same-length-5 : tie.Need-same-length-5
-same-length-5 c = search needs
 
 returns-9 : tie.Need-returns-9
 returns-9 c =
@@ -191,17 +56,11 @@ returns-9 c =
     let c₂ = c₁ .before .before .before .before in
     wrote-as (sym (ap (λ a. before a (c₂ .args .s .now)) (c₁ .enum-told9 .given .1))) (c .before .before .put-split .ensures)
 
-same-length-6 : tie.Need-same-length-6
-same-length-6 c = search needs
-
 returns-10 : tie.Need-returns-10
 returns-10 c =
     let c₁ = c .before .before .before .before .before in
     let c₂ = c₁ .before .before .before .before in
     wrote-as (sym (ap (λ a. before a (c₂ .args .s .now)) (c₁ .act .given .1))) (c .before .before .put-name .ensures)
-
-same-length-7 : tie.Need-same-length-7
-same-length-7 c = search needs
 
 returns-11 : tie.Need-returns-11
 returns-11 c =
@@ -209,17 +68,11 @@ returns-11 c =
     let c₂ = c₁ .before .before .before .before in
     wrote-as (sym (ap (λ a. before a (c₂ .args .s .now)) (c₁ .enum-told10 .given .1))) (c .before .before .put4 .ensures)
 
-same-length-8 : tie.Need-same-length-8
-same-length-8 c = search needs
-
 returns-12 : tie.Need-returns-12
 returns-12 c =
     let c₁ = c .before .before .before .before .before in
     let c₂ = c₁ .before .before .before .before in
     wrote-as (sym (ap (λ a. before a (c₂ .args .s .now)) (c₁ .enum-told11 .given .1))) (c .before .before .put5 .ensures)
-
-same-length-9 : tie.Need-same-length-9
-same-length-9 c = search needs
 
 returns-13 : tie.Need-returns-13
 returns-13 c =
@@ -227,17 +80,11 @@ returns-13 c =
     let c₂ = c₁ .before .before .before .before in
     wrote-as (sym (ap (λ a. before a (c₂ .args .s .now)) (c₁ .enum-told12 .given .1))) (c .before .before .put6 .ensures)
 
-same-length-10 : tie.Need-same-length-10
-same-length-10 c = search needs
-
 returns-14 : tie.Need-returns-14
 returns-14 c =
     let c₁ = c .before .before .before .before .before in
     let c₂ = c₁ .before .before .before .before in
     wrote-as (sym (ap (λ a. before a (c₂ .args .s .now)) (c₁ .enum-told13 .given .1))) (c .before .before .put7 .ensures)
-
-same-length-11 : tie.Need-same-length-11
-same-length-11 c = search needs
 
 returns-15 : tie.Need-returns-15
 returns-15 c =
@@ -245,17 +92,11 @@ returns-15 c =
     let c₂ = c₁ .before .before .before .before in
     wrote-as (sym (ap (λ a. before a (c₂ .args .s .now)) (c₁ .enum-told14 .given .1))) (c .before .before .put8 .ensures)
 
-same-length-12 : tie.Need-same-length-12
-same-length-12 c = search needs
-
 returns-16 : tie.Need-returns-16
 returns-16 c =
     let c₁ = c .before .before .before .before .before in
     let c₂ = c₁ .before .before .before .before in
     wrote-as (sym (ap (λ a. before a (c₂ .args .s .now)) (c₁ .enum-told15 .given .1))) (c .before .before .put9 .ensures)
-
-same-length-13 : tie.Need-same-length-13
-same-length-13 c = search needs
 
 returns-17 : tie.Need-returns-17
 returns-17 c =
@@ -267,73 +108,73 @@ pub put-before-spec : {M : Type 1} → statement M
 put-before-spec =
     tie.close
     (tie.spec
-    enum-told
-    enum-told-2
-    enum-told-3
-    enum-told-4
-    slice-aggregate-put
-    put-requires
-    enum-told-5
-    enum-told-6
-    slice-aggregate-put-2
-    put-requires-2
-    enum-told-7
-    slice-aggregate-put-3
-    put-requires-3
-    enum-told-8
-    put-split-bare-requires
-    enum-told-9
-    put-split-requires
-    enum-known-act
-    put-name-requires
-    enum-told-10
-    slice-aggregate-put-4
-    put-requires-4
-    enum-told-11
-    slice-aggregate-put-5
-    put-requires-5
-    enum-told-12
-    slice-aggregate-put-6
-    put-requires-6
-    enum-told-13
-    slice-aggregate-put-7
-    put-requires-7
-    enum-told-14
-    slice-aggregate-put-8
-    put-requires-8
-    enum-told-15
-    slice-aggregate-put-9
-    put-requires-9
-    enum-told-16
-    slice-aggregate-put-10
-    put-requires-10
+    (λ c. search needs)
+    (λ c. search needs)
+    (λ c. search needs)
+    (λ c. search needs)
+    (λ c. search needs)
+    (λ c κs. search needs)
+    (λ c. search needs)
+    (λ c. search needs)
+    (λ c. search needs)
+    (λ c κs. search needs)
+    (λ c. search needs)
+    (λ c. search needs)
+    (λ c κs. search needs)
+    (λ c. search needs)
+    (λ c κs. search needs)
+    (λ c. search needs)
+    (λ c κs. search needs)
+    (λ c. search needs)
+    (λ c κs. search needs)
+    (λ c. search needs)
+    (λ c. search needs)
+    (λ c κs. search needs)
+    (λ c. search needs)
+    (λ c. search needs)
+    (λ c κs. search needs)
+    (λ c. search needs)
+    (λ c. search needs)
+    (λ c κs. search needs)
+    (λ c. search needs)
+    (λ c. search needs)
+    (λ c κs. search needs)
+    (λ c. search needs)
+    (λ c. search needs)
+    (λ c κs. search needs)
+    (λ c. search needs)
+    (λ c. search needs)
+    (λ c κs. search needs)
+    (λ c. search needs)
+    (λ c. search needs)
+    (λ c κs. search needs)
     returns
     returns-2
     returns-3
-    same-length
+    (λ c. search needs)
     returns-4
     returns-5
-    same-length-2
+    (λ c. search needs)
     returns-6
-    same-length-3
+    (λ c. search needs)
     returns-7
-    same-length-4
+    (λ c. search needs)
     returns-8
-    same-length-5
+    (λ c. search needs)
     returns-9
-    same-length-6
+    (λ c. search needs)
     returns-10
-    same-length-7
+    (λ c. search needs)
     returns-11
-    same-length-8
+    (λ c. search needs)
     returns-12
-    same-length-9
+    (λ c. search needs)
     returns-13
-    same-length-10
+    (λ c. search needs)
     returns-14
-    same-length-11
+    (λ c. search needs)
     returns-15
-    same-length-12
+    (λ c. search needs)
     returns-16
-    same-length-13
+    (λ c. search needs)
     returns-17)

@@ -7,19 +7,10 @@ use borrow.Author.Needs.{needs}
 use Rattle.mitex_loops.proofs.put_behind.Statement.{statement}
 use Rattle.mitex_loops.proofs.put_behind.Tie as tie
 
-behind-byte-requires : tie.Need-behind-byte-requires
-behind-byte-requires c κs = search needs
-
 returns : tie.Need-returns
 returns c =
     let c₁ = c .before .before .before in
     wrote-as (ap markText (sym (c .if1 .taken) ∙ c .before .behind-byte .ensures) ∙ behind-mark (c₁ .args .act)) (wrote-nil _ _ (c₁ .pre .0))
-
-put-byte-requires : tie.Need-put-byte-requires
-put-byte-requires c κs = search needs
-
-same-length : tie.Need-same-length
-same-length c = search needs
 
 returns-2 : tie.Need-returns-2
 returns-2 c =
@@ -32,8 +23,8 @@ pub put-behind-spec : {M : Type 1} → statement M
 put-behind-spec =
     tie.close
     (tie.spec
-    behind-byte-requires
+    (λ c κs. search needs)
     returns
-    put-byte-requires
-    same-length
+    (λ c κs. search needs)
+    (λ c. search needs)
     returns-2)

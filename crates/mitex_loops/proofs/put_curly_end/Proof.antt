@@ -4,15 +4,6 @@ use borrow.Author.Needs.{needs}
 use Rattle.mitex_loops.proofs.put_curly_end.Statement.{statement}
 use Rattle.mitex_loops.proofs.put_curly_end.Tie as tie
 
-slice-aggregate-put : tie.Need-slice-aggregate-put
-slice-aggregate-put c = search needs
-
-put-requires : tie.Need-put-requires
-put-requires c κs = search needs
-
-same-length : tie.Need-same-length
-same-length c = search needs
-
 returns : tie.Need-returns
 returns c = rw (c .before .before .before .before .before .if1 .taken) (c .before .before .put .ensures)
 
@@ -21,4 +12,4 @@ returns-2 c = rw (c .if1 .left) (wrote-nil _ _ (c .before .before .pre .0))
 
 pub put-curly-end-spec : {M : Type 1} → statement M
 put-curly-end-spec =
-    tie.close (tie.spec slice-aggregate-put put-requires same-length returns returns-2)
+    tie.close (tie.spec (λ c. search needs) (λ c κs. search needs) (λ c. search needs) returns returns-2)

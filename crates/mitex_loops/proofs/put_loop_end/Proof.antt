@@ -6,68 +6,14 @@ use borrow.Author.Needs.{needs}
 use Rattle.mitex_loops.proofs.put_loop_end.Statement.{statement}
 use Rattle.mitex_loops.proofs.put_loop_end.Tie as tie
 
-enum-told : tie.Need-enum-told
-enum-told c = search needs
-
-enum-known-l : tie.Need-enum-known-l
-enum-known-l c = search needs
-
-put-curly-end-requires : tie.Need-put-curly-end-requires
-put-curly-end-requires c κs = search needs
-
-enum-told-2 : tie.Need-enum-told-2
-enum-told-2 c = search needs
-
-enum-known-l-2 : tie.Need-enum-known-l-2
-enum-known-l-2 c = search needs
-
-put-attach-end-requires : tie.Need-put-attach-end-requires
-put-attach-end-requires c κs = search needs
-
-enum-told-3 : tie.Need-enum-told-3
-enum-told-3 c = search needs
-
-enum-told-4 : tie.Need-enum-told-4
-enum-told-4 c = search needs
-
-enum-told-5 : tie.Need-enum-told-5
-enum-told-5 c = search needs
-
-enum-told-6 : tie.Need-enum-told-6
-enum-told-6 c = search needs
-
-enum-told-7 : tie.Need-enum-told-7
-enum-told-7 c = search needs
-
-enum-told-8 : tie.Need-enum-told-8
-enum-told-8 c = search needs
-
-enum-told-9 : tie.Need-enum-told-9
-enum-told-9 c = search needs
-
-enum-told-10 : tie.Need-enum-told-10
-enum-told-10 c = search needs
-
-enum-known-l-3 : tie.Need-enum-known-l-3
-enum-known-l-3 c = search needs
-
-put-table-end-requires : tie.Need-put-table-end-requires
-put-table-end-requires c κs = search needs
-
 returns : tie.Need-returns
 returns c = wrote-as (sym (ap loopEnd (c .enum-told .given .1))) (wrote-nil _ _ (c .before .before .before .pre .0))
-
-same-length : tie.Need-same-length
-same-length c = search needs
 
 returns-2 : tie.Need-returns-2
 returns-2 c = wrote-as (sym (ap loopEnd (c .before .before .before .before .before .l .given .1))) (c .before .before .put-curly-end .ensures)
 
 returns-3 : tie.Need-returns-3
 returns-3 c = wrote-as (sym (ap loopEnd (c .enum-told2 .given .1))) (wrote-nil _ _ (c .before .before .before .pre .0))
-
-same-length-2 : tie.Need-same-length-2
-same-length-2 c = search needs
 
 returns-4 : tie.Need-returns-4
 returns-4 c = wrote-as (sym (ap loopEnd (c .before .before .before .before .before .l2 .given .1))) (c .before .before .put-attach-end .ensures)
@@ -96,9 +42,6 @@ returns-11 c = wrote-as (sym (ap loopEnd (c .enum-told9 .given .1))) (wrote-nil 
 returns-12 : tie.Need-returns-12
 returns-12 c = wrote-as (sym (ap loopEnd (c .enum-told10 .given .1))) (wrote-nil _ _ (c .before .before .before .pre .0))
 
-same-length-3 : tie.Need-same-length-3
-same-length-3 c = search needs
-
 returns-13 : tie.Need-returns-13
 returns-13 c = wrote-as (sym (ap loopEnd (c .before .before .before .before .before .l3 .given .1))) (c .before .before .put-table-end .ensures)
 
@@ -106,27 +49,27 @@ pub put-loop-end-spec : {M : Type 1} → statement M
 put-loop-end-spec =
     tie.close
     (tie.spec
-    enum-told
-    enum-known-l
-    put-curly-end-requires
-    enum-told-2
-    enum-known-l-2
-    put-attach-end-requires
-    enum-told-3
-    enum-told-4
-    enum-told-5
-    enum-told-6
-    enum-told-7
-    enum-told-8
-    enum-told-9
-    enum-told-10
-    enum-known-l-3
-    put-table-end-requires
+    (λ c. search needs)
+    (λ c. search needs)
+    (λ c κs. search needs)
+    (λ c. search needs)
+    (λ c. search needs)
+    (λ c κs. search needs)
+    (λ c. search needs)
+    (λ c. search needs)
+    (λ c. search needs)
+    (λ c. search needs)
+    (λ c. search needs)
+    (λ c. search needs)
+    (λ c. search needs)
+    (λ c. search needs)
+    (λ c. search needs)
+    (λ c κs. search needs)
     returns
-    same-length
+    (λ c. search needs)
     returns-2
     returns-3
-    same-length-2
+    (λ c. search needs)
     returns-4
     returns-5
     returns-6
@@ -136,5 +79,5 @@ put-loop-end-spec =
     returns-10
     returns-11
     returns-12
-    same-length-3
+    (λ c. search needs)
     returns-13)

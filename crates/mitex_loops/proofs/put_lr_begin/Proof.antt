@@ -5,21 +5,6 @@ use borrow.Author.Needs.{needs}
 use Rattle.mitex_loops.proofs.put_lr_begin.Statement.{statement}
 use Rattle.mitex_loops.proofs.put_lr_begin.Tie as tie
 
-slice-aggregate-same : tie.Need-slice-aggregate-same
-slice-aggregate-same c = search needs
-
-same-requires : tie.Need-same-requires
-same-requires c κs = search needs
-
-slice-aggregate-put : tie.Need-slice-aggregate-put
-slice-aggregate-put c = search needs
-
-put-requires : tie.Need-put-requires
-put-requires c κs = search needs
-
-same-length : tie.Need-same-length
-same-length c = search needs
-
 returns : tie.Need-returns
 returns c =
     let c₁ = c .before .before .before .before .before in
@@ -33,10 +18,10 @@ pub put-lr-begin-spec : {M : Type 1} → statement M
 put-lr-begin-spec =
     tie.close
     (tie.spec
-    slice-aggregate-same
-    same-requires
-    slice-aggregate-put
-    put-requires
-    same-length
+    (λ c. search needs)
+    (λ c κs. search needs)
+    (λ c. search needs)
+    (λ c κs. search needs)
+    (λ c. search needs)
     returns
     returns-2)

@@ -4,32 +4,14 @@ use borrow.Author.Needs.{needs}
 use Rattle.mitex_loops.proofs.rule_act.Statement.{statement}
 use Rattle.mitex_loops.proofs.rule_act.Tie as tie
 
-slice-aggregate-same : tie.Need-slice-aggregate-same
-slice-aggregate-same c = search needs
-
-same-requires : tie.Need-same-requires
-same-requires c κs = search needs
-
 returns : tie.Need-returns
 returns c = rw (sym (c .before .same .ensures) ∙ c .if1 .taken)
-
-slice-aggregate-same-2 : tie.Need-slice-aggregate-same-2
-slice-aggregate-same-2 c = search needs
-
-same-requires-2 : tie.Need-same-requires-2
-same-requires-2 c κs = search needs
 
 returns-2 : tie.Need-returns-2
 returns-2 c =
     let c₁ = c .before .before .before in
     let c₂ = c₁ .before in
     rw (sym (c₂ .same .ensures) ∙ c₁ .if1 .left, sym (c .before .same2 .ensures) ∙ c .if2 .taken)
-
-slice-aggregate-same-3 : tie.Need-slice-aggregate-same-3
-slice-aggregate-same-3 c = search needs
-
-same-requires-3 : tie.Need-same-requires-3
-same-requires-3 c κs = search needs
 
 returns-3 : tie.Need-returns-3
 returns-3 c =
@@ -38,12 +20,6 @@ returns-3 c =
     let c₃ = c₂ .before .before in
     let c₄ = c₃ .before in
     rw (sym (c₄ .same .ensures) ∙ c₃ .if1 .left, sym (c₂ .same2 .ensures) ∙ c₁ .if2 .left, sym (c .before .same3 .ensures) ∙ c .if3 .taken)
-
-slice-aggregate-same-4 : tie.Need-slice-aggregate-same-4
-slice-aggregate-same-4 c = search needs
-
-same-requires-4 : tie.Need-same-requires-4
-same-requires-4 c κs = search needs
 
 returns-4 : tie.Need-returns-4
 returns-4 c =
@@ -69,16 +45,16 @@ pub rule-act-spec : {M : Type 1} → statement M
 rule-act-spec =
     tie.close
     (tie.spec
-    slice-aggregate-same
-    same-requires
+    (λ c. search needs)
+    (λ c κs. search needs)
     returns
-    slice-aggregate-same-2
-    same-requires-2
+    (λ c. search needs)
+    (λ c κs. search needs)
     returns-2
-    slice-aggregate-same-3
-    same-requires-3
+    (λ c. search needs)
+    (λ c κs. search needs)
     returns-3
-    slice-aggregate-same-4
-    same-requires-4
+    (λ c. search needs)
+    (λ c κs. search needs)
     returns-4
     returns-5)

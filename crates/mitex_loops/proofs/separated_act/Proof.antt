@@ -14,9 +14,6 @@ returns-2 c =
     let c₁ = c .before .before .before in
     λ f e. rw (ne-eqb (c₁ .args .kind) ClauseCommandName (c .before .if1 .left), ne-eqb (c₁ .args .kind) ClauseArgument (c .if2 .taken))
 
-others-follow-requires : tie.Need-others-follow-requires
-others-follow-requires c κs = search needs
-
 returns-3 : tie.Need-returns-3
 returns-3 c =
     let c₁ = c .before .before .before in
@@ -31,4 +28,4 @@ returns-4 c =
 
 pub separated-act-spec : {M : Type 1} → statement M
 separated-act-spec =
-    tie.close (tie.spec returns returns-2 others-follow-requires returns-3 returns-4)
+    tie.close (tie.spec returns returns-2 (λ c κs. search needs) returns-3 returns-4)

@@ -4,9 +4,6 @@ use borrow.Author.Needs.{needs}
 use Rattle.mitex_loops.proofs.spaced_act.Statement.{statement}
 use Rattle.mitex_loops.proofs.spaced_act.Tie as tie
 
-is-dot-requires : tie.Need-is-dot-requires
-is-dot-requires c κs = search needs
-
 returns : tie.Need-returns
 returns c = rw (sym (c .before .is-dot .ensures) ∙ c .if1 .taken)
 
@@ -14,4 +11,4 @@ returns-2 : tie.Need-returns-2
 returns-2 c = rw (sym (c .before .is-dot .ensures) ∙ c .if1 .left)
 
 pub spaced-act-spec : {M : Type 1} → statement M
-spaced-act-spec = tie.close (tie.spec is-dot-requires returns returns-2)
+spaced-act-spec = tie.close (tie.spec (λ c κs. search needs) returns returns-2)

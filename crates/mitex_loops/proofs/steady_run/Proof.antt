@@ -36,9 +36,6 @@ loop-holds c = (omega arith, (c .before .pre .low, λ f e s. run-start _ f _))
 shared-slice-read-is-steady : tie.Need-shared-slice-read-is-steady Inv-loop μ-loop
 shared-slice-read-is-steady c = omega arith
 
-is-steady-requires : tie.Need-is-steady-requires Inv-loop μ-loop
-is-steady-requires c κs = search needs
-
 sub-t12 : tie.Need-sub-t12 Inv-loop μ-loop
 sub-t12 c = c .before .before .before .before .loop .inv .0
 
@@ -93,7 +90,7 @@ steady-run-spec =
     μ-loop
     loop-holds
     shared-slice-read-is-steady
-    is-steady-requires
+    (λ c κs. search needs)
     sub-t12
     returns
     span-at-requires

@@ -15,26 +15,17 @@ use Rattle.mitex_loops.proofs.table_act.Tie as tie
 shared-slice-read-kind : tie.Need-shared-slice-read-kind
 shared-slice-read-kind c = omega (arith, rows-some (c .before .before .before .pre .child .spells))
 
-is-ends-requires : tie.Need-is-ends-requires
-is-ends-requires c κs = search needs
-
 returns : tie.Need-returns
 returns c =
     λ t f sp.
     let ends = ap isEnds (sym (kind-spelt t sp)) ∙ sym (c .before .is-ends .ensures) in
     rw (ends ∙ c .if1 .taken)
 
-outside-act-requires : tie.Need-outside-act-requires
-outside-act-requires c κs = search needs
-
 returns-2 : tie.Need-returns-2
 returns-2 c =
     λ t f sp.
     let ends = ap isEnds (sym (kind-spelt t sp)) ∙ sym (c .before .before .before .is-ends .ensures) in
     rw (ends ∙ c .before .before .if1 .left) (c .outside-act .ensures t sp ∙ cell-in (kindOf t) (drop 1 (cmdName (childrenOf t))) (c .before .if2 .taken))
-
-cell-act-requires : tie.Need-cell-act-requires
-cell-act-requires c κs = search needs
 
 returns-3 : tie.Need-returns-3
 returns-3 c =
@@ -47,9 +38,9 @@ table-act-spec =
     tie.close
     (tie.spec
     shared-slice-read-kind
-    is-ends-requires
+    (λ c κs. search needs)
     returns
-    outside-act-requires
+    (λ c κs. search needs)
     returns-2
-    cell-act-requires
+    (λ c κs. search needs)
     returns-3)

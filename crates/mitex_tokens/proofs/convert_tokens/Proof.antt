@@ -118,9 +118,6 @@ add-ran c =
     let put = c .before .before .before .before .before in
     omega (arith, within put, start (at-head (turn put)) .pre .1 .1 .0 .few)
 
-ran-requires : tie.Need-ran-requires Inv-loop μ-loop
-ran-requires c κs = search needs
-
 same-length : tie.Need-same-length Inv-loop μ-loop
 same-length c =
     let put = c .before .before .before .before .before .before in
@@ -158,9 +155,6 @@ loop-again c =
     let p = start l .pre in
     λ rs e. ran-part (p .1 .1 .0) (p .0 .1) (l .loop .inv rs e) (part put rs e) (c .before .before .if2 .left)
 
-ran-requires-2 : tie.Need-ran-requires-2 Inv-loop μ-loop
-ran-requires-2 c κs = search needs
-
 same-length-2 : tie.Need-same-length-2 Inv-loop μ-loop
 same-length-2 c =
     let l = c .before .before .before in
@@ -189,13 +183,13 @@ convert-tokens-spec =
     part-put-part-end-2
     put-part-requires
     add-ran
-    ran-requires
+    (λ c κs. search needs)
     same-length
     returns
     add-i
     add-j
     loop-less
     loop-again
-    ran-requires-2
+    (λ c κs. search needs)
     same-length-2
     returns-2)

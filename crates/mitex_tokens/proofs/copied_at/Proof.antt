@@ -7,17 +7,11 @@ use borrow.Author.Needs.{needs}
 use Rattle.mitex_tokens.proofs.copied_at.Statement.{statement}
 use Rattle.mitex_tokens.proofs.copied_at.Tie as tie
 
-token-at-requires : tie.Need-token-at-requires
-token-at-requires c κs = search needs
-
 returns : tie.Need-returns
 returns c = λ e. never e
 
 shared-slice-read-is-copied : tie.Need-shared-slice-read-is-copied
 shared-slice-read-is-copied c = omega (arith, c .before .before .token-at .ensures .0 (not-false _ (c .before .if1 .left)) .0)
-
-is-copied-requires : tie.Need-is-copied-requires
-is-copied-requires c κs = search needs
 
 returns-2 : tie.Need-returns-2
 returns-2 c =
@@ -28,4 +22,4 @@ returns-2 c =
 pub copied-at-spec : {M : Type 1} → statement M
 copied-at-spec =
     tie.close
-    (tie.spec token-at-requires returns shared-slice-read-is-copied is-copied-requires returns-2)
+    (tie.spec (λ c κs. search needs) returns shared-slice-read-is-copied (λ c κs. search needs) returns-2)

@@ -5,17 +5,8 @@ use borrow.Author.Needs.{needs}
 use Rattle.mitex_tokens.proofs.copies.Statement.{statement}
 use Rattle.mitex_tokens.proofs.copies.Tie as tie
 
-enum-told : tie.Need-enum-told
-enum-told c = search needs
-
 returns : tie.Need-returns
 returns c = λ e. never e
-
-is-copied-requires : tie.Need-is-copied-requires
-is-copied-requires c κs = search needs
-
-enum-told-2 : tie.Need-enum-told-2
-enum-told-2 c = search needs
 
 returns-2 : tie.Need-returns-2
 returns-2 c = λ e. (c .before .before .enum-told .given .1, c .before .if1 .left, sym (c .is-copied .ensures) ∙ e)
@@ -24,4 +15,4 @@ returns-3 : tie.Need-returns-3
 returns-3 c = λ e. never e
 
 pub copies-spec : {M : Type 1} → statement M
-copies-spec = tie.close (tie.spec enum-told returns is-copied-requires enum-told-2 returns-2 returns-3)
+copies-spec = tie.close (tie.spec (λ c. search needs) returns (λ c κs. search needs) (λ c. search needs) returns-2 returns-3)

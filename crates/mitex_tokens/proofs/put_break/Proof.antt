@@ -6,15 +6,6 @@ use borrow.Author.Needs.{needs}
 use Rattle.mitex_tokens.proofs.put_break.Statement.{statement}
 use Rattle.mitex_tokens.proofs.put_break.Tie as tie
 
-put-requires : tie.Need-put-requires
-put-requires c κs = search needs
-
-put-spaces-requires : tie.Need-put-spaces-requires
-put-spaces-requires c κs = search needs
-
-same-length : tie.Need-same-length
-same-length c = search needs
-
 returns : tie.Need-returns
 returns c =
     let c₁ = c .before .before .before .before .before in
@@ -26,7 +17,7 @@ pub put-break-spec : {M : Type 1} → statement M
 put-break-spec =
     tie.close
     (tie.spec
-    put-requires
-    put-spaces-requires
-    same-length
+    (λ c κs. search needs)
+    (λ c κs. search needs)
+    (λ c. search needs)
     returns)

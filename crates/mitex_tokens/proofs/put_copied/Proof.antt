@@ -88,15 +88,6 @@ loop-again c = (omega arith, row-here (c .before), next c)
 slice-aggregate-put : tie.Need-slice-aggregate-put Inv-loop μ-loop
 slice-aggregate-put c = sym (length-take-le _ _ (copied-stop (behind c .before .loop .inv .2)))
 
-put-requires : tie.Need-put-requires Inv-loop μ-loop
-put-requires c κs = search needs
-
-ran-requires : tie.Need-ran-requires Inv-loop μ-loop
-ran-requires c κs = search needs
-
-same-length : tie.Need-same-length Inv-loop μ-loop
-same-length c = search needs
-
 returns : tie.Need-returns Inv-loop μ-loop
 returns c =
     let put = c .before .before .before in
@@ -118,7 +109,7 @@ put-copied-spec =
     loop-less
     loop-again
     slice-aggregate-put
-    put-requires
-    ran-requires
-    same-length
+    (λ c κs. search needs)
+    (λ c κs. search needs)
+    (λ c. search needs)
     returns)

@@ -8,31 +8,13 @@ use borrow.Author.Needs.{needs}
 use Rattle.mitex_tokens.proofs.put_escape.Statement.{statement}
 use Rattle.mitex_tokens.proofs.put_escape.Tie as tie
 
-put-byte-requires : tie.Need-put-byte-requires
-put-byte-requires c κs = search needs
-
-same-length : tie.Need-same-length
-same-length c = search needs
-
 returns : tie.Need-returns
 returns c = wrote-as (sym (ap escape (c .before .before .before .before .if1 .taken))) (c .before .before .put-byte .ensures)
-
-escaped-requires : tie.Need-escaped-requires
-escaped-requires c κs = search needs
 
 returns-2 : tie.Need-returns-2
 returns-2 c =
     let c₁ = c .before .before .before .before in
     wrote-as (ap escapeOf (sym (c .if2 .taken)) ∙ c .before .escaped .ensures (c .before .before .if1 .left)) (wrote-nil _ _ (c₁ .pre .0))
-
-put-byte-requires-2 : tie.Need-put-byte-requires-2
-put-byte-requires-2 c κs = search needs
-
-put-byte-requires-3 : tie.Need-put-byte-requires-3
-put-byte-requires-3 c κs = search needs
-
-same-length-2 : tie.Need-same-length-2
-same-length-2 c = search needs
 
 returns-3 : tie.Need-returns-3
 returns-3 c =
@@ -48,12 +30,12 @@ pub put-escape-spec : {M : Type 1} → statement M
 put-escape-spec =
     tie.close
     (tie.spec
-    put-byte-requires
-    same-length
+    (λ c κs. search needs)
+    (λ c. search needs)
     returns
-    escaped-requires
+    (λ c κs. search needs)
     returns-2
-    put-byte-requires-2
-    put-byte-requires-3
-    same-length-2
+    (λ c κs. search needs)
+    (λ c κs. search needs)
+    (λ c. search needs)
     returns-3)

@@ -5,14 +5,8 @@ use borrow.Author.Needs.{needs}
 use Rattle.mitex_tokens.proofs.put_letters.Statement.{statement}
 use Rattle.mitex_tokens.proofs.put_letters.Tie as tie
 
-put-word-requires : tie.Need-put-word-requires
-put-word-requires c κs = search needs
-
-same-length : tie.Need-same-length
-same-length c = search needs
-
 returns : tie.Need-returns
 returns c = λ l. accepts refl (c .before .before .put-word .ensures)
 
 pub put-letters-spec : {M : Type 1} → statement M
-put-letters-spec = tie.close (tie.spec put-word-requires same-length returns)
+put-letters-spec = tie.close (tie.spec (λ c κs. search needs) (λ c. search needs) returns)

@@ -5,12 +5,6 @@ use borrow.Author.Needs.{needs}
 use Rattle.mitex_tokens.proofs.put_mark.Statement.{statement}
 use Rattle.mitex_tokens.proofs.put_mark.Tie as tie
 
-put-token-text-requires : tie.Need-put-token-text-requires
-put-token-text-requires c κs = search needs
-
-same-length : tie.Need-same-length
-same-length c = search needs
-
 returns : tie.Need-returns
 returns c =
     λ x l m e. accepts refl (c .before .before .put-token-text .ensures x m e)
@@ -19,6 +13,6 @@ pub put-mark-spec : {M : Type 1} → statement M
 put-mark-spec =
     tie.close
     (tie.spec
-    put-token-text-requires
-    same-length
+    (λ c κs. search needs)
+    (λ c. search needs)
     returns)

@@ -7,43 +7,10 @@ use borrow.Author.Needs.{needs}
 use Rattle.mitex_tokens.proofs.put_new_line.Statement.{statement}
 use Rattle.mitex_tokens.proofs.put_new_line.Tie as tie
 
-enum-told : tie.Need-enum-told
-enum-told c = search needs
-
-slice-aggregate-put : tie.Need-slice-aggregate-put
-slice-aggregate-put c = search needs
-
-put-requires : tie.Need-put-requires
-put-requires c κs = search needs
-
-enum-told-2 : tie.Need-enum-told-2
-enum-told-2 c = search needs
-
-slice-aggregate-put-2 : tie.Need-slice-aggregate-put-2
-slice-aggregate-put-2 c = search needs
-
-put-requires-2 : tie.Need-put-requires-2
-put-requires-2 c κs = search needs
-
-enum-told-3 : tie.Need-enum-told-3
-enum-told-3 c = search needs
-
-slice-aggregate-put-3 : tie.Need-slice-aggregate-put-3
-slice-aggregate-put-3 c = search needs
-
-put-requires-3 : tie.Need-put-requires-3
-put-requires-3 c κs = search needs
-
-same-length : tie.Need-same-length
-same-length c = search needs
-
 returns : tie.Need-returns
 returns c =
     let c₁ = c .before .before .before .before .before in
     wrote-as (ap newLine (sym (c₁ .enum-told .given .1))) (c .before .before .put .ensures)
-
-same-length-2 : tie.Need-same-length-2
-same-length-2 c = search needs
 
 returns-2 : tie.Need-returns-2
 returns-2 c =
@@ -53,9 +20,6 @@ returns-2 c =
 returns-3 : tie.Need-returns-3
 returns-3 c =
     wrote-as (ap newLine (sym (c .enum-told3 .given .1))) (wrote-nil _ _ (c .before .before .before .pre .0))
-
-same-length-3 : tie.Need-same-length-3
-same-length-3 c = search needs
 
 returns-4 : tie.Need-returns-4
 returns-4 c =
@@ -67,19 +31,19 @@ pub put-new-line-spec : {M : Type 1} → statement M
 put-new-line-spec =
     tie.close
     (tie.spec
-    enum-told
-    slice-aggregate-put
-    put-requires
-    enum-told-2
-    slice-aggregate-put-2
-    put-requires-2
-    enum-told-3
-    slice-aggregate-put-3
-    put-requires-3
-    same-length
+    (λ c. search needs)
+    (λ c. search needs)
+    (λ c κs. search needs)
+    (λ c. search needs)
+    (λ c. search needs)
+    (λ c κs. search needs)
+    (λ c. search needs)
+    (λ c. search needs)
+    (λ c κs. search needs)
+    (λ c. search needs)
     returns
-    same-length-2
+    (λ c. search needs)
     returns-2
     returns-3
-    same-length-3
+    (λ c. search needs)
     returns-4)

@@ -6,18 +6,6 @@ use borrow.Author.Needs.{needs}
 use Rattle.mitex_tokens.proofs.put_next.Statement.{statement}
 use Rattle.mitex_tokens.proofs.put_next.Tie as tie
 
-put-space-requires : tie.Need-put-space-requires
-put-space-requires c κs = search needs
-
-put-letters-requires : tie.Need-put-letters-requires
-put-letters-requires c κs = search needs
-
-put-token-requires : tie.Need-put-token-requires
-put-token-requires c κs = search needs
-
-same-length : tie.Need-same-length
-same-length c = search needs
-
 returns : tie.Need-returns
 returns c =
     let c₁ = c .before .before .before .before in
@@ -25,9 +13,6 @@ returns c =
     λ rs l e.
     puts-as (token-space (inside rs (a .mode) (a .env) (a .indent)) (a .s .now) (carrying (a .flag) l) (a .kind) (c₁ .match .keys1))
     (c .before .before .put-space .ensures l)
-
-same-length-2 : tie.Need-same-length-2
-same-length-2 c = search needs
 
 returns-2 : tie.Need-returns-2
 returns-2 c =
@@ -37,9 +22,6 @@ returns-2 c =
     puts-as (token-word (inside rs (a .mode) (a .env) (a .indent)) (a .s .now) (carrying (a .flag) l) (a .kind) (c₁ .match .keys2))
     (c .before .before .put-letters .ensures l)
 
-same-length-3 : tie.Need-same-length-3
-same-length-3 c = search needs
-
 returns-3 : tie.Need-returns-3
 returns-3 c = λ rs l e. c .before .before .put-token .ensures .0 rs l e
 
@@ -47,12 +29,12 @@ pub put-next-spec : {M : Type 1} → statement M
 put-next-spec =
     tie.close
     (tie.spec
-    put-space-requires
-    put-letters-requires
-    put-token-requires
-    same-length
+    (λ c κs. search needs)
+    (λ c κs. search needs)
+    (λ c κs. search needs)
+    (λ c. search needs)
     returns
-    same-length-2
+    (λ c. search needs)
     returns-2
-    same-length-3
+    (λ c. search needs)
     returns-3)

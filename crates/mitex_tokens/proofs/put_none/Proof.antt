@@ -3,11 +3,8 @@ use borrow.Author.Needs.{needs}
 use Rattle.mitex_tokens.proofs.put_none.Statement.{statement}
 use Rattle.mitex_tokens.proofs.put_none.Tie as tie
 
-returns : tie.Need-returns
-returns c = search needs
-
 pub put-none-spec : {M : Type 1} → statement M
 put-none-spec =
     tie.close
     (tie.spec
-    returns)
+    (λ c. search needs))

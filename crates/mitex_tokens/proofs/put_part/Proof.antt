@@ -20,20 +20,11 @@ start c =
 abbrev at-number : tie.After-put-next → tie.After-number
 at-number c = c .before .before .before
 
-shared-slice-read-kind : tie.Need-shared-slice-read-kind
-shared-slice-read-kind c = search needs
-
-copies-requires : tie.Need-copies-requires
-copies-requires c κs = search needs
-
 put-copied-requires : tie.Need-put-copied-requires
 put-copied-requires c κs =
     let k = c .before .before in
     let p = start k .pre in
     (p .0, (p .1 .1, k .copies .ensures (c .before .if1 .taken) .2))
-
-same-length : tie.Need-same-length
-same-length c = search needs
 
 returns : tie.Need-returns
 returns c =
@@ -57,15 +48,6 @@ slice-aggregate-s c =
     let p = start (n .before .before) .pre .1 .1 in
     sym (length-take-le _ _ (first-fits (p .0) (p .1) (n .number .ensures .0)))
 
-put-next-requires : tie.Need-put-next-requires
-put-next-requires c κs = search needs
-
-ran-requires : tie.Need-ran-requires
-ran-requires c κs = search needs
-
-same-length-2 : tie.Need-same-length-2
-same-length-2 c = search needs
-
 returns-2 : tie.Need-returns-2
 returns-2 c =
     let put = c .before .before .before .before .before in
@@ -73,12 +55,6 @@ returns-2 c =
     let p = start (n .before .before) .pre .1 .1 in
     λ rs e.
     runs-as (c .ran .ensures) (first-refused (p .0) (p .1) (n .number .ensures .0) _ _ (λ l. put .put-next .ensures rs l e) (c .before .if2 .taken))
-
-ran-requires-2 : tie.Need-ran-requires-2
-ran-requires-2 c κs = search needs
-
-same-length-3 : tie.Need-same-length-3
-same-length-3 c = search needs
 
 returns-3 : tie.Need-returns-3
 returns-3 c =
@@ -92,17 +68,17 @@ pub put-part-spec : {M : Type 1} → statement M
 put-part-spec =
     tie.close
     (tie.spec
-    shared-slice-read-kind
-    copies-requires
+    (λ c. search needs)
+    (λ c κs. search needs)
     put-copied-requires
-    same-length
+    (λ c. search needs)
     returns
     number-requires
     slice-aggregate-s
-    put-next-requires
-    ran-requires
-    same-length-2
+    (λ c κs. search needs)
+    (λ c κs. search needs)
+    (λ c. search needs)
     returns-2
-    ran-requires-2
-    same-length-3
+    (λ c κs. search needs)
+    (λ c. search needs)
     returns-3)

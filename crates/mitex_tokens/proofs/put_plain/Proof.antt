@@ -5,12 +5,6 @@ use borrow.Author.Needs.{needs}
 use Rattle.mitex_tokens.proofs.put_plain.Statement.{statement}
 use Rattle.mitex_tokens.proofs.put_plain.Tie as tie
 
-put-requires : tie.Need-put-requires
-put-requires c κs = search needs
-
-same-length : tie.Need-same-length
-same-length c = search needs
-
 returns : tie.Need-returns
 returns c =
     λ l. accepts refl (c .before .before .put .ensures)
@@ -19,6 +13,6 @@ pub put-plain-spec : {M : Type 1} → statement M
 put-plain-spec =
     tie.close
     (tie.spec
-    put-requires
-    same-length
+    (λ c κs. search needs)
+    (λ c. search needs)
     returns)

@@ -13,12 +13,6 @@ returns : tie.Need-returns
 returns c =
     λ l. puts-as (ap (λ b. whiteSpace b (c .before .before .before .args .s .now) (carrying b l)) (c .if1 .taken)) (accepts refl (wrote-nil _ _ (c .before .before .before .pre .0)))
 
-put-requires : tie.Need-put-requires
-put-requires c κs = search needs
-
-same-length : tie.Need-same-length
-same-length c = search needs
-
 returns-2 : tie.Need-returns-2
 returns-2 c =
     let c₁ = c .before .before .before .before in
@@ -30,6 +24,6 @@ put-space-spec =
     tie.close
     (tie.spec
     returns
-    put-requires
-    same-length
+    (λ c κs. search needs)
+    (λ c. search needs)
     returns-2)

@@ -24,9 +24,6 @@ first c = rw (c .char-len .ensures) (charLen-first _ (c .before .loop-test .take
 loop-holds : tie.Need-loop-holds Inv-loop μ-loop
 loop-holds c = spaced-start _ _ _ (c .before .before .pre .0)
 
-char-len-requires : tie.Need-char-len-requires Inv-loop μ-loop
-char-len-requires c κs = search needs
-
 slice-aggregate-put : tie.Need-slice-aggregate-put Inv-loop μ-loop
 slice-aggregate-put c = sym (length-take-le _ _ (first (c .before .before) .within))
 
@@ -53,9 +50,6 @@ part-t-start c =
     let c₁ = c .before .before .before .before .before in
     let c₂ = c₁ .before .before .before .before in
     let f = first (c₂) in search needs
-
-part-t-end : tie.Need-part-t-end Inv-loop μ-loop
-part-t-end c = search needs
 
 loop-less : tie.Need-loop-less Inv-loop μ-loop
 loop-less c =
@@ -87,13 +81,13 @@ put-spaced-spec =
     Inv-loop
     μ-loop
     loop-holds
-    char-len-requires
+    (λ c κs. search needs)
     slice-aggregate-put
     put-requires
     put-byte-requires
     sub-t
     part-t-start
-    part-t-end
+    (λ c. search needs)
     loop-less
     loop-again
     same-length

@@ -29,43 +29,13 @@ inside-here c =
     let g = s .pre .1 in
     alias-inside (carrying false unheld) (c .before .before .get-cmd .ensures (g .rules) (g .ready .decodes)) (c .found .given .1)
 
-past-first-requires : tie.Need-past-first-requires
-past-first-requires c κs = search needs
-
-get-cmd-requires : tie.Need-get-cmd-requires
-get-cmd-requires c κs = search needs
-
-enum-told : tie.Need-enum-told
-enum-told c = search needs
-
-put-none-requires : tie.Need-put-none-requires
-put-none-requires c κs = search needs
-
-enum-told-2 : tie.Need-enum-told-2
-enum-told-2 c = search needs
-
-put-plain-requires : tie.Need-put-plain-requires
-put-plain-requires c κs = search needs
-
-enum-known-found : tie.Need-enum-known-found
-enum-known-found c = search needs
-
 add-put-plain : tie.Need-add-put-plain
 add-put-plain c =
     omega (arith, inside-here (c .before .before))
 
-sub-put-plain : tie.Need-sub-put-plain
-sub-put-plain c = search needs
-
-part-put-plain-start : tie.Need-part-put-plain-start
-part-put-plain-start c = search needs
-
 part-put-plain-end : tie.Need-part-put-plain-end
 part-put-plain-end c =
     omega (arith, inside-here (c .before .before))
-
-put-plain-requires-2 : tie.Need-put-plain-requires-2
-put-plain-requires-2 c κs = search needs
 
 returns : tie.Need-returns
 returns c =
@@ -73,9 +43,6 @@ returns c =
       λ x l e. puts-as (ap (λ n. symbolBy n (getCmd (x .rules) n) (carrying false l)) (sym (c₁ .past-first .ensures)) ∙ symbol-absent (carrying false l) (c .before .before .before .get-cmd .ensures (x .rules) e) (c .before .enum-told .given .1)) (declines (omega arith) (c .put-none .ensures)),
       λ z. refl,
     )
-
-same-length : tie.Need-same-length
-same-length c = search needs
 
 returns-2 : tie.Need-returns-2
 returns-2 c =
@@ -85,9 +52,6 @@ returns-2 c =
       λ x l e. puts-as (ap (λ n. symbolBy n (getCmd (x .rules) n) (carrying false l)) (sym (c₃ .past-first .ensures)) ∙ symbol-plain (carrying false l) (c₂ .get-cmd .ensures (x .rules) e) (c₁ .enum-told2 .given .1)) (c .before .before .put-plain .ensures l),
       λ z. absurd (z (puts-well refl (c .before .before .put-plain .ensures unheld))),
     )
-
-same-length-2 : tie.Need-same-length-2
-same-length-2 c = search needs
 
 returns-3 : tie.Need-returns-3
 returns-3 c =
@@ -103,20 +67,20 @@ pub put-symbol-spec : {M : Type 1} → statement M
 put-symbol-spec =
     tie.close
     (tie.spec
-    past-first-requires
-    get-cmd-requires
-    enum-told
-    put-none-requires
-    enum-told-2
-    put-plain-requires
-    enum-known-found
+    (λ c κs. search needs)
+    (λ c κs. search needs)
+    (λ c. search needs)
+    (λ c κs. search needs)
+    (λ c. search needs)
+    (λ c κs. search needs)
+    (λ c. search needs)
     add-put-plain
-    sub-put-plain
-    part-put-plain-start
+    (λ c. search needs)
+    (λ c. search needs)
     part-put-plain-end
-    put-plain-requires-2
+    (λ c κs. search needs)
     returns
-    same-length
+    (λ c. search needs)
     returns-2
-    same-length-2
+    (λ c. search needs)
     returns-3)

@@ -11,27 +11,6 @@ use borrow.Author.Needs.{needs}
 use Rattle.mitex_tokens.proofs.put_token.Statement.{statement}
 use Rattle.mitex_tokens.proofs.put_token.Tie as tie
 
-put-space-requires : tie.Need-put-space-requires
-put-space-requires c κs = search needs
-
-put-break-requires : tie.Need-put-break-requires
-put-break-requires c κs = search needs
-
-put-none-requires : tie.Need-put-none-requires
-put-none-requires c κs = search needs
-
-put-none-requires-2 : tie.Need-put-none-requires-2
-put-none-requires-2 c κs = search needs
-
-put-symbol-requires : tie.Need-put-symbol-requires
-put-symbol-requires c κs = search needs
-
-put-mark-requires : tie.Need-put-mark-requires
-put-mark-requires c κs = search needs
-
-same-length : tie.Need-same-length
-same-length c = search needs
-
 returns : tie.Need-returns
 returns c =
     let c₁ = c .before .before .before .before in
@@ -39,9 +18,6 @@ returns c =
       λ rs l e. puts-as (token-space (inside rs (c₂ .args .mode) (c₂ .args .env) (c₂ .args .indent)) (c₂ .args .s .now) (carrying (c₂ .args .flag) l) (c₂ .args .kind) (c₁ .match .keys1)) (c .before .before .put-space .ensures l),
       λ z. absurd (z (space-well (c₂ .args .flag) (c₂ .args .s .now) (c .before .before .put-space .ensures unheld))),
     )
-
-same-length-2 : tie.Need-same-length-2
-same-length-2 c = search needs
 
 returns-2 : tie.Need-returns-2
 returns-2 c =
@@ -67,9 +43,6 @@ returns-4 c =
       λ z. refl,
     )
 
-same-length-3 : tie.Need-same-length-3
-same-length-3 c = search needs
-
 returns-5 : tie.Need-returns-5
 returns-5 c =
     let c₁ = c .before .before .before .before in
@@ -77,9 +50,6 @@ returns-5 c =
       λ rs l e. puts-as (token-symbol (inside rs (c₂ .args .mode) (c₂ .args .env) (c₂ .args .indent)) (c₂ .args .s .now) (carrying (c₂ .args .flag) l) (c₂ .args .kind) (c₁ .match .keys5)) (c .before .before .put-symbol .ensures .0 (inside rs (c₂ .args .mode) (c₂ .args .env) (c₂ .args .indent)) l e),
       c .before .before .put-symbol .ensures .1,
     )
-
-same-length-4 : tie.Need-same-length-4
-same-length-4 c = search needs
 
 returns-6 : tie.Need-returns-6
 returns-6 c =
@@ -95,19 +65,19 @@ pub put-token-spec : {M : Type 1} → statement M
 put-token-spec =
     tie.close
     (tie.spec
-    put-space-requires
-    put-break-requires
-    put-none-requires
-    put-none-requires-2
-    put-symbol-requires
-    put-mark-requires
-    same-length
+    (λ c κs. search needs)
+    (λ c κs. search needs)
+    (λ c κs. search needs)
+    (λ c κs. search needs)
+    (λ c κs. search needs)
+    (λ c κs. search needs)
+    (λ c. search needs)
     returns
-    same-length-2
+    (λ c. search needs)
     returns-2
     returns-3
     returns-4
-    same-length-3
+    (λ c. search needs)
     returns-5
-    same-length-4
+    (λ c. search needs)
     returns-6)

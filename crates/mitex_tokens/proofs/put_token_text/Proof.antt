@@ -8,32 +8,11 @@ use borrow.Author.Needs.{needs}
 use Rattle.mitex_tokens.proofs.put_token_text.Statement.{statement}
 use Rattle.mitex_tokens.proofs.put_token_text.Tie as tie
 
-put-word-requires : tie.Need-put-word-requires
-put-word-requires c κs = search needs
-
-put-tilde-requires : tie.Need-put-tilde-requires
-put-tilde-requires c κs = search needs
-
-put-ampersand-requires : tie.Need-put-ampersand-requires
-put-ampersand-requires c κs = search needs
-
-put-new-line-requires : tie.Need-put-new-line-requires
-put-new-line-requires c κs = search needs
-
-put-escape-requires : tie.Need-put-escape-requires
-put-escape-requires c κs = search needs
-
-same-length : tie.Need-same-length
-same-length c = search needs
-
 returns : tie.Need-returns
 returns c =
     let c₁ = c .before .before .before .before in
     let c₂ = c₁ .before .before .before in
     λ x m e. wrote-as (ap (λ n. word n (c₂ .args .s .now)) (sym m) ∙ ap (λ k. tokenText x k (c₂ .args .s .now)) (sym (c₁ .match .keys1))) (c .before .before .put-word .ensures)
-
-same-length-2 : tie.Need-same-length-2
-same-length-2 c = search needs
 
 returns-2 : tie.Need-returns-2
 returns-2 c =
@@ -41,26 +20,17 @@ returns-2 c =
     let c₂ = c₁ .before .before .before in
     λ x m e. wrote-as (ap tilde (sym m) ∙ ap (λ k. tokenText x k (c₂ .args .s .now)) (sym (c₁ .match .keys2))) (c .before .before .put-tilde .ensures)
 
-same-length-3 : tie.Need-same-length-3
-same-length-3 c = search needs
-
 returns-3 : tie.Need-returns-3
 returns-3 c =
     let c₁ = c .before .before .before .before in
     let c₂ = c₁ .before .before .before in
     λ x m e. wrote-as (ap ampersand (sym e) ∙ ap (λ k. tokenText x k (c₂ .args .s .now)) (sym (c₁ .match .keys3))) (c .before .before .put-ampersand .ensures)
 
-same-length-4 : tie.Need-same-length-4
-same-length-4 c = search needs
-
 returns-4 : tie.Need-returns-4
 returns-4 c =
     let c₁ = c .before .before .before .before in
     let c₂ = c₁ .before .before .before in
     λ x m e. wrote-as (ap newLine (sym e) ∙ ap (λ k. tokenText x k (c₂ .args .s .now)) (sym (c₁ .match .keys4))) (c .before .before .put-new-line .ensures)
-
-same-length-5 : tie.Need-same-length-5
-same-length-5 c = search needs
 
 returns-5 : tie.Need-returns-5
 returns-5 c =
@@ -74,18 +44,18 @@ pub put-token-text-spec : {M : Type 1} → statement M
 put-token-text-spec =
     tie.close
     (tie.spec
-    put-word-requires
-    put-tilde-requires
-    put-ampersand-requires
-    put-new-line-requires
-    put-escape-requires
-    same-length
+    (λ c κs. search needs)
+    (λ c κs. search needs)
+    (λ c κs. search needs)
+    (λ c κs. search needs)
+    (λ c κs. search needs)
+    (λ c. search needs)
     returns
-    same-length-2
+    (λ c. search needs)
     returns-2
-    same-length-3
+    (λ c. search needs)
     returns-3
-    same-length-4
+    (λ c. search needs)
     returns-4
-    same-length-5
+    (λ c. search needs)
     returns-5)
