@@ -232,7 +232,22 @@ def answer(expected):
     m = re.fullmatch(rb"refused (\d+) at (\d+)\n", expected)
     if m:
         return f"refusal {int(m[1])} {int(m[2])}"
-    return f"writes {string(expected)}" if short(expected) else f"text ({raw(expected)})"
+    if not short(expected):
+        return f"text ({raw(expected)})"
+    if len(string(expected)) <= MOST:
+        return f"writes {string(expected)}"
+    pieces = [f"ascii {string(piece)}" for piece in pieces_of(expected)]
+    return f"text ({' ++ ('.join(pieces)}{')' * len(pieces)}"
+
+
+def pieces_of(text):
+    """A long text in pieces that end in a line feed, each as long as a line may be."""
+    pieces = [b""]
+    for line in text.splitlines(keepends=True):
+        if len(string(pieces[-1] + line)) > WIDTH:
+            pieces.append(b"")
+        pieces[-1] += line
+    return [piece for piece in pieces if piece]
 
 
 # ---- the tables

@@ -7,7 +7,7 @@ use Rattle.mitex_syntax.specs.Syntax.{TokenError, ItemBegin, ItemEnd, TokenWord
 use Rattle.mitex_syntax.specs.Tree.Tree.{token}
 use Rattle.mitex_meaning.specs.Examples.{Example, example, hold, usual, ruleFor, writes, over, tok, tokWord, tokSym, tokSpace, tokNewLine, tokComment, tokAmpersand, arg}
 use Rattle.mitex_meaning.specs.Examples.{braced, cmdNode, envNode}
-use Rattle.mitex_meaning.specs.Examples.Expected.{refusal}
+use Rattle.mitex_meaning.specs.Examples.Expected.{text, refusal}
 use Rattle.mitex_meaning.specs.declared.LaTeXMode.the-variants.{Text}
 
 abbrev pub cellExamples : List Example
@@ -68,7 +68,8 @@ cellExamples =
     -- numbers are decimal: 12 columns, lines at 10 and 12
     ∷ example usual Text
     (envNode "tabular" (braced (tokWord "llllllllll|ll|" ∷ []) ∷ []) [] ∷ [])
-    (writes "#table(stroke: none,\ncolumns: 12,\nalign: (left, left, left, left, left, left, left, left, left, left, left, left, ),\ntable.vline(stroke: .5pt, x: 10), table.vline(stroke: .5pt, x: 12), \n);")
+    (text (ascii "#table(stroke: none,\ncolumns: 12,\n"
+    ++ (ascii "align: (left, left, left, left, left, left, left, left, left, left, left, left, ),\n" ++ (ascii "table.vline(stroke: .5pt, x: 10), table.vline(stroke: .5pt, x: 12), \n);"))))
     -- table: the four rule commands
     ∷ example usual Text
     (envNode "tabular" (braced (tokWord "l" ∷ []) ∷ []) (cmdNode "\\hline" [] ∷ cmdNode "\\toprule" [] ∷ cmdNode "\\midrule" [] ∷ cmdNode "\\bottomrule" [] ∷ []) ∷ [])

@@ -1,11 +1,12 @@
 -- Worked conversions: how tables end, with a cell still open or not.
 use mathlib.Core.Path.{_≡_, refl}
 use mathlib.Core.Bool.{true}
-use mathlib.Core.List.{List, [], _∷_}
+use mathlib.Core.List.{List, [], _∷_, _++_}
+use Rattle.text.specs.Ascii.{ascii}
 use Rattle.mitex_syntax.specs.Syntax.{TokenError, ItemFormula, ItemBegin, ItemEnd, TokenComment, ItemEnv}
 use Rattle.mitex_meaning.specs.Examples.{Example, example, hold, ruleFor, ruleAs, writes, over, tok, tokWord, tokSym, tokSpace, tokBreak, tokNewLine, tokAmpersand, tokDollar}
 use Rattle.mitex_meaning.specs.Examples.{curly, braced, cmdNode, envNode}
-use Rattle.mitex_meaning.specs.Examples.Expected.{refusal}
+use Rattle.mitex_meaning.specs.Examples.Expected.{text, refusal}
 use Rattle.mitex_meaning.specs.declared.LaTeXMode.the-variants.{Text, Math}
 
 abbrev pub endingExamples : List Example
@@ -45,22 +46,27 @@ endingExamples =
     -- a table in the last cell, the inner cell open and the outer closed
     ∷ example (ruleAs "tabular" 8 "table" ∷ []) Text
     (envNode "tabular" (braced (tokWord "l|c" ∷ []) ∷ []) (envNode "tabular" (braced (tokWord "l|c" ∷ []) ∷ []) (tokWord "a" ∷ []) ∷ tokNewLine ∷ []) ∷ [])
-    (writes "#table(stroke: none,\ncolumns: 2,\nalign: (left, center, ),\ntable.vline(stroke: .5pt, x: 1), \n[#table(stroke: none,\ncolumns: 2,\nalign: (left, center, ),\ntable.vline(stroke: .5pt, x: 1), \n[a],\n);],\n);")
+    (text (ascii "#table(stroke: none,\ncolumns: 2,\nalign: (left, center, ),\ntable.vline(stroke: .5pt, x: 1), \n"
+    ++ (ascii "[#table(stroke: none,\ncolumns: 2,\nalign: (left, center, ),\ntable.vline(stroke: .5pt, x: 1), \n[a],\n);],\n);")))
     -- a table in the last cell, the inner cell closed and the outer open
     ∷ example (ruleAs "tabular" 8 "table" ∷ []) Text
     (envNode "tabular" (braced (tokWord "l|c" ∷ []) ∷ []) (envNode "tabular" (braced (tokWord "l|c" ∷ []) ∷ []) (tokWord "a" ∷ tokNewLine ∷ []) ∷ []) ∷ [])
-    (writes "#table(stroke: none,\ncolumns: 2,\nalign: (left, center, ),\ntable.vline(stroke: .5pt, x: 1), \n[#table(stroke: none,\ncolumns: 2,\nalign: (left, center, ),\ntable.vline(stroke: .5pt, x: 1), \n[a],\n);],\n);")
+    (text (ascii "#table(stroke: none,\ncolumns: 2,\nalign: (left, center, ),\ntable.vline(stroke: .5pt, x: 1), \n"
+    ++ (ascii "[#table(stroke: none,\ncolumns: 2,\nalign: (left, center, ),\ntable.vline(stroke: .5pt, x: 1), \n[a],\n);],\n);")))
     -- a table in the last cell, both open
     ∷ example (ruleAs "tabular" 8 "table" ∷ []) Text
     (envNode "tabular" (braced (tokWord "l|c" ∷ []) ∷ []) (tokWord "x" ∷ tokAmpersand ∷ envNode "tabular" (braced (tokWord "l|c" ∷ []) ∷ []) (tokWord "a" ∷ []) ∷ []) ∷ [])
-    (writes "#table(stroke: none,\ncolumns: 2,\nalign: (left, center, ),\ntable.vline(stroke: .5pt, x: 1), \n[x], [#table(stroke: none,\ncolumns: 2,\nalign: (left, center, ),\ntable.vline(stroke: .5pt, x: 1), \n[a],\n);],\n);")
+    (text (ascii "#table(stroke: none,\ncolumns: 2,\nalign: (left, center, ),\ntable.vline(stroke: .5pt, x: 1), \n"
+    ++ (ascii "[x], [#table(stroke: none,\ncolumns: 2,\nalign: (left, center, ),\ntable.vline(stroke: .5pt, x: 1), \n[a],\n);],\n);")))
     -- three tables in each other, all open
     ∷ example (ruleAs "tabular" 8 "table" ∷ []) Text
     (
     envNode "tabular" (braced (tokWord "l|c" ∷ []) ∷ []) (tokWord "a" ∷ envNode "tabular" (braced (tokWord "l|c" ∷ []) ∷ []) (tokWord "b" ∷ envNode "tabular" (braced (tokWord "l|c" ∷ []) ∷ []) (tokWord "c" ∷ []) ∷ []) ∷ [])
     ∷ []
     )
-    (writes "#table(stroke: none,\ncolumns: 2,\nalign: (left, center, ),\ntable.vline(stroke: .5pt, x: 1), \n[a#table(stroke: none,\ncolumns: 2,\nalign: (left, center, ),\ntable.vline(stroke: .5pt, x: 1), \n[b#table(stroke: none,\ncolumns: 2,\nalign: (left, center, ),\ntable.vline(stroke: .5pt, x: 1), \n[c],\n);],\n);],\n);")
+    (text (ascii "#table(stroke: none,\ncolumns: 2,\nalign: (left, center, ),\ntable.vline(stroke: .5pt, x: 1), \n"
+    ++ (ascii "[a#table(stroke: none,\ncolumns: 2,\nalign: (left, center, ),\ntable.vline(stroke: .5pt, x: 1), \n"
+    ++ (ascii "[b#table(stroke: none,\ncolumns: 2,\nalign: (left, center, ),\ntable.vline(stroke: .5pt, x: 1), \n[c],\n);],\n);],\n);"))))
     -- in a figure with a caption and a label
     ∷ example (ruleFor "caption" 2 ∷ ruleFor "figure" 7 ∷ ruleAs "tabular" 8 "table" ∷ []) Text
     (
@@ -73,7 +79,8 @@ endingExamples =
     ∷ tokWord "z"
     ∷ []
     )
-    (writes "#figure(caption: [#table(stroke: none,\ncolumns: 2,\nalign: (left, center, ),\ntable.vline(stroke: .5pt, x: 1), \n[c],\n);],)[#table(stroke: none,\ncolumns: 2,\nalign: (left, center, ),\ntable.vline(stroke: .5pt, x: 1), \n[a], [b],\n);];<t>z")
+    (text (ascii "#figure(caption: [#table(stroke: none,\ncolumns: 2,\nalign: (left, center, ),\ntable.vline(stroke: .5pt, x: 1), \n"
+    ++ (ascii "[c],\n);],)[#table(stroke: none,\ncolumns: 2,\nalign: (left, center, ),\ntable.vline(stroke: .5pt, x: 1), \n" ++ (ascii "[a], [b],\n);];<t>z"))))
     -- a label in the open cell
     ∷ example (ruleAs "tabular" 8 "table" ∷ []) Text
     (
@@ -104,7 +111,9 @@ endingExamples =
     ∷ envNode "matrix" [] (envNode "tabular" (braced (tokWord "l|c" ∷ []) ∷ []) (tokWord "a" ∷ []) ∷ tokAmpersand ∷ tokWord "b" ∷ [])
     ∷ []
     )
-    (writes "#math.equation(block: false, $#table(stroke: none,\ncolumns: 2,\nalign: (left, center, ),\ntable.vline(stroke: .5pt, x: 1), \n[a b ],\n);$);$ mat(#table(stroke: none,\ncolumns: 2,\nalign: (left, center, ),\ntable.vline(stroke: .5pt, x: 1), \n[a ],\n);zws ,b ) $")
+    (text (ascii "#math.equation(block: false, $#table(stroke: none,\ncolumns: 2,\nalign: (left, center, ),\n"
+    ++ (ascii "table.vline(stroke: .5pt, x: 1), \n[a b ],\n);$);$ mat(#table(stroke: none,\ncolumns: 2,\nalign: (left, center, ),\n"
+    ++ (ascii "table.vline(stroke: .5pt, x: 1), \n[a ],\n);zws ,b ) $"))))
     -- no ItemEnd, and a child after the ItemEnd
     ∷ example (ruleAs "tabular" 8 "table" ∷ []) Text
     (
