@@ -3,8 +3,8 @@
  * The functions of the static library libzaldrume.a (x86-64 Linux, the C calling convention).
  *
  * How things pass
- *   A slice of bytes is two arguments: the address of its first byte, which is not null even where
- *   the slice is empty, and how many bytes it has. rules and tree are only read. text and ledger are
+ *   A slice is two arguments: the address of its first byte or number, which is not null even where
+ *   the slice is empty, and how many it has. rules, tree and blocks are only read. text and ledger are
  *   read and written within their lengths. place, growth and count are addresses of one number each,
  *   written by every call. What is written (text, ledger, place, growth, count) overlaps with nothing
  *   else that is passed. Nothing more is asked: any bytes, lengths and numbers get an answer.
@@ -25,11 +25,11 @@
  *
  *   A ledger has 128 bytes for each block; there are at most 512.
  *
- *   The changes are edit, insert and remove. Each is refused with 6 where there is no such block or
- *   position, where kept is more than text_size, or where the ledger does not fit: it has a row for
- *   each block of the document before the change, and the last row's length is kept, which is 0 where
- *   there are no rows. That document has as many blocks as tree for an edit, one less for an insertion,
- *   one more for a removal.
+ *   The changes are edit, insert, remove and replace_all. Each is refused with 6 where there is no such
+ *   block or position, where kept is more than text_size, or where the ledger does not fit: it has a
+ *   row for each block of the document before the change, and the last row's length is kept, which is
+ *   0 where there are no rows. That document has as many blocks as tree for an edit and a replace_all,
+ *   one less for an insertion, one more for a removal.
  */
 #ifndef ZALDRUME_H
 #define ZALDRUME_H
@@ -94,6 +94,23 @@ uint8_t zaldrume_remove(uint8_t mode,
                         uint8_t *text, size_t text_size,
                         uint8_t *ledger, size_t ledger_size,
                         size_t *place, int64_t *growth, size_t *count);
+
+/*
+ * Replaces several blocks together. tree is the new document, blocks their numbers, counted from 0.
+ * From each of them on blocks are converted until the carry is the kept one; a block that was reached
+ * from an earlier one is not converted twice, and *count is how many were converted in all. text needs
+ * room for the text before and for the text after, not for what single edits would come to on the
+ * way. 6 is also an empty list, and numbers that do not rise: each is greater than the one before. All
+ * else is as in zaldrume_edit.
+ */
+uint8_t zaldrume_replace_all(uint8_t mode,
+                             const uint8_t *rules, size_t rules_size,
+                             const uint8_t *tree, size_t tree_size,
+                             const size_t *blocks, size_t blocks_count,
+                             size_t kept,
+                             uint8_t *text, size_t text_size,
+                             uint8_t *ledger, size_t ledger_size,
+                             size_t *place, int64_t *growth, size_t *count);
 
 #ifdef __cplusplus
 }

@@ -16,10 +16,14 @@ length (4 bytes) and so many bytes.
     4        how long the text buffer and the ledger are (4 bytes each); both are filled with one byte, and so is what is due in them
     5, 6     the text buffer, or the ledger, begins with these bytes, and so does what is due in it
     7, 8     what is due in the text buffer, or in the ledger, begins with these bytes
-    9        a call and its answer, numbers (4 bytes each): 0 convert, 1 edit, 2 insertion or 3 removal; mode; block or position, and kept
-             length (8 bytes each); refusal (0: accepted); its row, or the text's length; growth, as two numbers of which the second is
-             taken from the first; count of blocks (in a conversion all, in a change those converted again); bytes at the front of the
-             ledger that the case does not name
+    9        a call and its answer, numbers (4 bytes each): 0 convert, 1 edit, 2 insertion, 3 removal or 4 several blocks replaced; mode;
+             block or position, and kept length (8 bytes each); refusal (0: accepted); its row, or the text's length; growth, as two
+             numbers of which the second is taken from the first; count of blocks (in a conversion all, in a change those converted
+             again); bytes at the front of the ledger that the case does not name
+    10       the numbers (8 bytes each) of the blocks that calls 4 after it replace together; a list longer than the program has room for
+             is not packed
+
+A name that a case of an earlier folder has too stands after its folder's.
 
 After a call both buffers must be as is due, whole. The vectors do not name the ledger of a conversion. So each that is accepted is
 followed by edits of its first and last block to the tree that is there: these must accept the ledger, convert one block again, and
@@ -32,11 +36,12 @@ from pathlib import Path
 
 PACKED = Path(__file__).resolve().parent.parent / "crates" / "cases" / "stdin"
 
-NAME, RULES, TREE, SIZES, TEXT, LEDGER, TEXT_DUE, LEDGER_DUE, CALL = range(1, 10)
-CONVERT, EDIT, INSERT, REMOVE = range(4)
-KINDS = {"convert": CONVERT, "edit": EDIT, "insert": INSERT, "remove": REMOVE}
+NAME, RULES, TREE, SIZES, TEXT, LEDGER, TEXT_DUE, LEDGER_DUE, CALL, BLOCKS = range(1, 11)
+CONVERT, EDIT, INSERT, REMOVE, REPLACE = range(5)
+KINDS = {"convert": CONVERT, "edit": EDIT, "insert": INSERT, "remove": REMOVE, "replace": REPLACE}
 BUFFER = 65536
 ROW_SIZE = 128
+LIST_MOST = 1024
 
 
 def part(tag, data):
@@ -51,6 +56,14 @@ def call(kind, mode, block, kept, answer, free=0):
     number, first, growth, count = answer
     asked = numbers(kind, mode) + struct.pack("<QQ", block, kept)
     return part(CALL, asked + numbers(number, first, max(growth, 0), max(-growth, 0), count, free))
+
+
+def blocks_of(case, words):
+    """The list of a replacement: numbers with commas between them, or `none`."""
+    listed = [] if words == "none" else [int(n) for n in words.split(",")]
+    if len(listed) > LIST_MOST:
+        sys.exit(f"{case.name}: a list of {len(listed)} numbers, more than {LIST_MOST}")
+    return part(BLOCKS, struct.pack("<%dQ" % len(listed), *listed))
 
 
 def read(case, name):
@@ -102,19 +115,24 @@ def changes(case):
             answer = (given[0], given[1], 0, 0)
         else:
             answer = (0, given[0], 0, given[1]) if kind == "convert" else (0, given[0], given[1], given[2])
-        block, kept = (0, 0) if kind == "convert" else (int(words[3]), int(words[5]))
-        parts.append(call(KINDS[kind], mode, block, kept, answer))
+        block, kept = (0, 0) if kind == "convert" else (words[3], int(words[5]))
+        if kind == "replace":
+            parts.append(blocks_of(case, block))
+            block = 0
+        parts.append(call(KINDS[kind], mode, int(block), kept, answer))
     return parts
 
 
 def main():
     if len(sys.argv) < 2:
         sys.exit(__doc__)
-    packed = []
+    packed, names = [], set()
     for case in (case for folder in sys.argv[1:] for case in sorted(Path(folder).iterdir())):
         if case.is_dir():
             parts = changes(case) if (case / "script.txt").exists() else conversion(case)
-            data = part(NAME, case.name.encode()) + b"".join(parts)
+            name = f"{case.parent.name}/{case.name}" if case.name in names else case.name
+            names.add(name)
+            data = part(NAME, name.encode()) + b"".join(parts)
             packed.append(numbers(len(data)) + data)
     PACKED.write_bytes(b"".join(packed))
     print(f"{len(packed)} cases, {PACKED.stat().st_size} bytes")

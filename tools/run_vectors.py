@@ -7,7 +7,8 @@ A conversion is a folder with `stdin` and `expected`, and `rules.bin` and `tree.
 is run in a copy of it. A run of changes is a folder with `script.txt`, `rules.bin` and, for call i, `tree-i.bin` and both whole buffers
 after it, `text-i.bin` and `ledger-i.bin`; they start as `text-before.bin` and `ledger-before.bin` where the script begins with a
 conversion, else as `text-0.bin` and `ledger-0.bin`. Each edit is made by `edit_program` on the buffers as the call before left them. No
-program makes the other calls of a run, which are conversions, insertions and removals: the buffers after one are those of the vector.
+program makes the other calls of a run, which are conversions, insertions, removals and several blocks replaced together: the buffers
+after one are those of the vector.
 
 The last line is `N cases, M calls, F failed`; the exit status is 0 where none failed.
 """

@@ -6,7 +6,8 @@
 use std::hint::black_box;
 
 use reference::constructs::{
-    curly, documents, environment, formula, label, least_means, rules, word, Document, CALLS,
+    curly, documents, environment, formula, label, least_means, mixture, rules, word, Document,
+    CALLS,
 };
 use reference::hostile;
 use reference::made::{node, token, Random};
@@ -121,6 +122,20 @@ impl Buffers {
         let Buffers { text, ledger } = self;
         let done = (change.reference)(0, rules, tree, at, kept, text, ledger).expect("accepted");
         (done.length, done.count)
+    }
+
+    /// Several blocks replaced together, by the library.
+    fn replace_all(
+        &mut self,
+        rules: &[u8],
+        tree: &[u8],
+        blocks: &[usize],
+        kept: usize,
+    ) -> (usize, usize) {
+        let Buffers { text, ledger } = self;
+        let answer = raw::replace_all(0, rules, tree, blocks, kept, text, ledger);
+        assert_eq!(answer.number, 0, "refused at {}", answer.place);
+        (answer.place, answer.count)
     }
 
     fn assert_same(&self, other: &Buffers) {
@@ -446,6 +461,129 @@ fn insertions(documents: &[Document]) {
     }
 }
 
+/// Blocks spread over a document, every other of them with a word more at the start and the others at the end: the tree after each edit, if
+/// they are made singly.
+struct Replacement {
+    blocks: Vec<usize>,
+    trees: Vec<Vec<u8>>,
+}
+
+impl Replacement {
+    fn new(document: &Document, count: usize) -> Self {
+        let block = |i| (2 * i + 1) * BLOCKS_MOST / (2 * count);
+        let blocks: Vec<_> = (0..count).map(block).collect();
+        let tree = |done| {
+            let mut all = document.blocks.clone();
+            for (i, &block) in blocks.iter().enumerate() {
+                if (i % 2 == 0) == (i >= done) {
+                    let inside = vec![token(TokenWord, "another"), all[block].clone()];
+                    all[block] = node(ItemText, inside);
+                }
+            }
+            Document::new(document.name, all).tree
+        };
+        Replacement {
+            trees: (0..=count).map(tree).collect(),
+            blocks,
+        }
+    }
+}
+
+/// A document that goes back and forth between the first and the last tree of a replacement.
+#[derive(Clone)]
+struct Replaced {
+    buffers: Buffers,
+    kept: usize,
+    there: bool,
+    count: usize,
+}
+
+impl Replaced {
+    /// The first tree, after the blocks were replaced together and singly, there and back.
+    fn new(rules: &[u8], replacement: &Replacement) -> Self {
+        let mut buffers = Buffers::new(2 * FILE_MOST);
+        let kept = buffers.convert(rules, &replacement.trees[0]);
+        let mut together = Replaced {
+            buffers,
+            kept,
+            there: false,
+            count: 0,
+        };
+        let mut singly = together.clone();
+        for _ in 0..2 {
+            together.replace(rules, replacement);
+            singly.edit(rules, replacement);
+            let (ours, theirs) = (&together.buffers, &singly.buffers);
+            assert_eq!(together.kept, singly.kept);
+            assert!(ours.text[..together.kept] == theirs.text[..singly.kept]);
+            assert!(ours.ledger == theirs.ledger);
+        }
+        together
+    }
+
+    /// All blocks together.
+    fn replace(&mut self, rules: &[u8], Replacement { blocks, trees }: &Replacement) {
+        self.there = !self.there;
+        let tree = &trees[if self.there { blocks.len() } else { 0 }];
+        let (rules, tree) = (black_box(rules), black_box(tree));
+        (self.kept, self.count) = self.buffers.replace_all(rules, tree, blocks, self.kept);
+    }
+
+    /// Block by block, back in the other order.
+    fn edit(&mut self, rules: &[u8], Replacement { blocks, trees }: &Replacement) {
+        self.there = !self.there;
+        for turn in 0..blocks.len() {
+            let (i, tree) = match self.there {
+                true => (turn, turn + 1),
+                false => (blocks.len() - 1 - turn, blocks.len() - 1 - turn),
+            };
+            let (rules, tree) = (black_box(rules), black_box(&trees[tree]));
+            let answer = self
+                .buffers
+                .library(EDIT, rules, tree, blocks[i], self.kept);
+            self.kept = answer.0;
+        }
+    }
+}
+
+/// The mixture, a little shorter, with 1,000 rules.
+fn replacements(seed: u64) {
+    title(
+        "Some of 512 blocks replaced together",
+        "| blocks replaced | blocks converted again | together µs | singly µs | together / singly | converting from the start µs | together / from the start | checks alone µs |",
+    );
+    let rules = rules(1_000);
+    let document = mixture(BLOCKS_MOST, FILE_MOST / 16, &mut Random::new(seed));
+    let replacements = [1, 8, 64, 256].map(|count| Replacement::new(&document, count));
+    let open = |replacement| Replaced::new(&rules, replacement);
+    let mut together = replacements.each_ref().map(open);
+    let mut singly = together.clone();
+    let mut whole = Buffers::new(2 * FILE_MOST);
+    let means = columns(replacements.len(), |column, i| {
+        let replacement = &replacements[i];
+        let tree = black_box(&replacement.trees[0]);
+        match column {
+            0 => together[i].replace(&rules, replacement),
+            1 => singly[i].edit(&rules, replacement),
+            2 => assert!(whole.convert(black_box(&rules), tree) > 0),
+            _ => whole.check(black_box(&rules), tree),
+        }
+    });
+    for (i, [all, single, start, checks]) in means.into_iter().enumerate() {
+        println!(
+            "| {} | {} | {} | {} | {:.3} | {} | {:.2} | {} |",
+            replacements[i].blocks.len(),
+            together[i].count,
+            micro(all),
+            micro(single),
+            all / single,
+            micro(start),
+            all / start,
+            micro(checks),
+        );
+    }
+}
+
 fn hostile() {
     title(
         "Hostile documents",
@@ -478,5 +616,6 @@ fn main() {
     by_rules(&documents);
     edits(&documents);
     insertions(&documents);
+    replacements(seed);
     hostile();
 }

@@ -1,7 +1,7 @@
 use std::ops::Range;
 
 use crate::file::{self, TreeFile};
-use crate::{convert, edit, insert, remove};
+use crate::{convert, edit, insert, remove, replace_all};
 use crate::{Converted, Edited, Mode, Refusal, BLOCKS_MOST, ROW_SIZE};
 
 /// The refusal for kept parts that do not fit.
@@ -13,8 +13,22 @@ const TOO_SHORT: u8 = 15;
 /// A text buffer counts as at most so many bytes.
 const TEXT_MOST: usize = u32::MAX as usize;
 
-/// [`edit`], [`insert`] or [`remove`].
-type Change = fn(Mode, &[u8], &[u8], usize, usize, &mut [u8], &mut [u8]) -> Result<Edited, Refusal>;
+/// [`edit`], [`insert`], [`remove`] or [`replace_all`].
+type Change<P> = fn(Mode, &[u8], &[u8], P, usize, &mut [u8], &mut [u8]) -> Result<Edited, Refusal>;
+
+/// What a change names: a block, a position, or several blocks.
+trait Place: Copy {
+    /// What is in no document.
+    const NOWHERE: Self;
+}
+
+impl Place for usize {
+    const NOWHERE: Self = usize::MAX;
+}
+
+impl Place for &[usize] {
+    const NOWHERE: Self = &[];
+}
 
 /// An open document that owns its text and its ledger.
 ///
@@ -43,7 +57,8 @@ type Change = fn(Mode, &[u8], &[u8], usize, usize, &mut [u8], &mut [u8]) -> Resu
 ///
 /// document.insert(&lines(&["one", "2", "and", "three"]), 2)?;
 /// document.remove(&lines(&["2", "and", "three"]), 0)?;
-/// assert_eq!(document.text(), b"2\nand\nthree\n");
+/// document.replace_all(&lines(&["two", "and", "3"]), &[0, 2])?;
+/// assert_eq!(document.text(), b"two\nand\n3\n");
 /// # Ok::<(), zaldrume::Refusal>(())
 /// ```
 #[derive(Debug, Clone)]
@@ -202,19 +217,54 @@ impl Document {
         self.change(remove, tree, block, self.count().checked_sub(1))
     }
 
-    /// A change at a block or a position, after which there are `after` blocks.
-    fn change(
+    /// Takes a new tree, which differs from the last accepted one in `blocks` alone: their numbers,
+    /// counted from 0, each greater than the one before.
+    ///
+    /// A search and replace: one call for all blocks that it touches.
+    ///
+    /// ```
+    /// use zaldrume::file::{Kind, RuleFile, TreeFile};
+    /// use zaldrume::{Document, Mode};
+    ///
+    /// let rules = RuleFile::new().build().unwrap();
+    /// let tree = |words: &[String]| {
+    ///     let mut tree = TreeFile::new();
+    ///     words.iter().for_each(|word| tree.token(Kind::TokenWord, word));
+    ///     tree.build().unwrap()
+    /// };
+    /// let mut words = ["cat", ", dog and ", "cats"].map(String::from);
+    /// let mut document = Document::open(Mode::Text, &rules, &tree(&words))?;
+    ///
+    /// let touched = |&block: &usize| words[block].contains("cat");
+    /// let blocks: Vec<_> = (0..words.len()).filter(touched).collect();
+    /// words = words.map(|word| word.replace("cat", "mouse"));
+    /// let replaced = document.replace_all(&tree(&words), &blocks)?;
+    /// assert_eq!((replaced.growth, replaced.count), (4, 2));
+    /// assert_eq!(document.text(), b"mouse, dog and mouses");
+    /// # Ok::<(), zaldrume::Refusal>(())
+    /// ```
+    ///
+    /// # Errors
+    ///
+    /// Any refusal but 1 and 15, and 6 where the tree has another count of blocks, the list is empty
+    /// or its numbers do not rise; the document then is as it was.
+    pub fn replace_all(&mut self, tree: &[u8], blocks: &[usize]) -> Result<Edited, Refusal> {
+        self.change(replace_all, tree, blocks, Some(self.count()))
+    }
+
+    /// A change at a place, after which there are `after` blocks.
+    fn change<P: Place>(
         &mut self,
-        call: Change,
+        call: Change<P>,
         tree: &[u8],
-        at: usize,
+        at: P,
         after: Option<usize>,
     ) -> Result<Edited, Refusal> {
         let before = self.count();
         // with another count no place is the one that is meant
         let (at, after) = match after {
             Some(after) if file::count_blocks(tree) == Some(after) => (at, after),
-            _ => (usize::MAX, before),
+            _ => (P::NOWHERE, before),
         };
         // room for a row that is put in
         self.ledger.resize(before.max(after) * ROW_SIZE, 0);

@@ -1,9 +1,9 @@
 //! LaTeX trees to Typst, block by block, by a proved static library.
 //!
 //! A caller's parser hands over a document as a *tree file* and the commands it knows as a *rule
-//! file* ([`mod@file`] builds both). [`convert`], [`edit`], [`insert`] and [`remove`] work on the
-//! caller's buffers: the Typst text, and a *ledger* that has a row of [`ROW_SIZE`] bytes for each
-//! block. [`Document`] owns the buffers and keeps them up to date.
+//! file* ([`mod@file`] builds both). [`convert`], [`edit`], [`insert`], [`remove`] and
+//! [`replace_all`] work on the caller's buffers: the Typst text, and a *ledger* that has a row of
+//! [`ROW_SIZE`] bytes for each block. [`Document`] owns the buffers and keeps them up to date.
 //!
 //! ```
 //! use zaldrume::file::{Kind, RuleFile, TreeFile};
@@ -29,7 +29,8 @@
 //! assert_eq!((edited.growth, edited.count), (2, 1));
 //! assert_eq!(document.text(), b"#math.equation(block: false, $x y $);");
 //!
-//! document.insert(&formulas(&["xy", "z"]), 1)?;
+//! document.insert(&formulas(&["xy", "y"]), 1)?;
+//! document.replace_all(&formulas(&["xz", "z"]), &[0, 1])?;
 //! document.remove(&formulas(&["z"]), 0)?;
 //! assert_eq!(document.text(), b"#math.equation(block: false, $z $);");
 //! # Ok::<(), zaldrume::Refusal>(())
@@ -97,7 +98,7 @@ pub struct Converted {
     pub blocks: usize,
 }
 
-/// What an accepted [`edit`], [`insert`] or [`remove`] gives.
+/// What an accepted [`edit`], [`insert`], [`remove`] or [`replace_all`] gives.
 #[derive(Debug, Clone, Copy, PartialEq, Eq, Hash)]
 pub struct Edited {
     /// How many bytes of the text buffer hold the text now.
@@ -105,7 +106,8 @@ pub struct Edited {
     /// The new length less the old.
     pub growth: i64,
     /// How many blocks were converted: in an edit the named one and those after it, in an
-    /// insertion the new one and those after it, in a removal those after the one taken out.
+    /// insertion the new one and those after it, in a removal those after the one taken out; where
+    /// several are replaced, all of these and those after them.
     pub count: usize,
 }
 
@@ -273,6 +275,52 @@ pub fn remove(
     ledger: &mut [u8],
 ) -> Result<Edited, Refusal> {
     let answer = raw::remove(mode as u8, rules, tree, block, kept, text, ledger);
+    edited(answer)
+}
+
+/// Replaces several blocks together, and converts those after each until nothing more can change.
+///
+/// `tree` is the whole new document, which differs from the kept one in `blocks` alone: their
+/// numbers, counted from 0, each greater than the one before. `kept`, text and ledger are as for
+/// [`edit`]. The text comes to what single edits would give, but no text that these give on the way
+/// needs room.
+///
+/// ```
+/// use zaldrume::file::{Kind, RuleFile, TreeFile};
+/// use zaldrume::{convert, replace_all, Mode, ROW_SIZE};
+///
+/// let rules = RuleFile::new().build().unwrap();
+/// let words = |words: &[&str]| {
+///     let mut tree = TreeFile::new();
+///     words.iter().for_each(|word| tree.token(Kind::TokenWord, word));
+///     tree.build().unwrap()
+/// };
+/// let mut text = [0; 16];
+/// let mut ledger = [0; 3 * ROW_SIZE];
+/// let tree = words(&["cat", "and", "cats"]);
+/// let kept = convert(Mode::Text, &rules, &tree, &mut text, &mut ledger)?.length;
+///
+/// let tree = words(&["dog", "and", "dogs"]);
+/// let replaced = replace_all(Mode::Text, &rules, &tree, &[0, 2], kept, &mut text, &mut ledger)?;
+/// assert_eq!((replaced.length, replaced.growth, replaced.count), (10, 0, 2));
+/// assert_eq!(&text[..replaced.length], b"doganddogs");
+/// # Ok::<(), zaldrume::Refusal>(())
+/// ```
+///
+/// # Errors
+///
+/// Any refusal but 1; the buffers then are as they were. 6 is also an empty list, a block that is not
+/// there, and numbers that do not rise.
+pub fn replace_all(
+    mode: Mode,
+    rules: &[u8],
+    tree: &[u8],
+    blocks: &[usize],
+    kept: usize,
+    text: &mut [u8],
+    ledger: &mut [u8],
+) -> Result<Edited, Refusal> {
+    let answer = raw::replace_all(mode as u8, rules, tree, blocks, kept, text, ledger);
     edited(answer)
 }
 

@@ -1,7 +1,7 @@
-//! The four calls on plain numbers, as `include/zaldrume.h` has them.
+//! The five calls on plain numbers, as `include/zaldrume.h` has them.
 //!
-//! A slice passes as its first byte's address and its length. The static library asks that no
-//! address is null, that each part holds as many bytes as is said, and that the buffers overlap
+//! A slice passes as its first element's address and its length. The static library asks that no
+//! address is null, that each part holds as many elements as is said, and that the buffers overlap
 //! with nothing else: Rust's references are all of that, so these functions are safe for any
 //! arguments.
 
@@ -19,26 +19,9 @@ pub struct Answer {
 }
 
 mod boundary {
-    extern "C" {
-        pub fn zaldrume_convert(
-            mode: u8,
-            rules: *const u8,
-            rules_size: usize,
-            tree: *const u8,
-            tree_size: usize,
-            text: *mut u8,
-            text_size: usize,
-            ledger: *mut u8,
-            ledger_size: usize,
-            place: *mut usize,
-            growth: *mut i64,
-            count: *mut usize,
-        ) -> u8;
-    }
-
-    /// The changes pass alike: `at` is a block's number or a position.
-    macro_rules! changes {
-        ($($name:ident),*) => {
+    /// The functions pass alike but for what stands between the files and the buffers.
+    macro_rules! functions {
+        ($($name:ident($($between:ident: $type:ty),*);)*) => {
             extern "C" {
                 $(pub fn $name(
                     mode: u8,
@@ -46,8 +29,7 @@ mod boundary {
                     rules_size: usize,
                     tree: *const u8,
                     tree_size: usize,
-                    at: usize,
-                    kept: usize,
+                    $($between: $type,)*
                     text: *mut u8,
                     text_size: usize,
                     ledger: *mut u8,
@@ -60,83 +42,46 @@ mod boundary {
         };
     }
 
-    changes!(zaldrume_edit, zaldrume_insert, zaldrume_remove);
+    functions! {
+        zaldrume_convert();
+        zaldrume_edit(block: usize, kept: usize);
+        zaldrume_insert(position: usize, kept: usize);
+        zaldrume_remove(block: usize, kept: usize);
+        zaldrume_replace_all(blocks: *const usize, blocks_count: usize, kept: usize);
+    }
+}
 
-    pub type Change = unsafe extern "C" fn(
-        u8,
-        *const u8,
-        usize,
-        *const u8,
-        usize,
-        usize,
-        usize,
-        *mut u8,
-        usize,
-        *mut u8,
-        usize,
-        *mut usize,
-        *mut i64,
-        *mut usize,
-    ) -> u8;
+/// What a function of the library answers, given slices and what stands between them.
+macro_rules! answer {
+    ($name:ident: $mode:ident, $rules:ident, $tree:ident; $($between:expr),*; $text:ident, $ledger:ident) => {{
+        let mut answer = Answer::default();
+        // SAFETY: each pointer and length is that of a live slice, and each place that of a number;
+        // those that are written are borrowed mutably, so nothing else is read or written through
+        // them.
+        answer.number = unsafe {
+            boundary::$name(
+                $mode,
+                $rules.as_ptr(),
+                $rules.len(),
+                $tree.as_ptr(),
+                $tree.len(),
+                $($between,)*
+                $text.as_mut_ptr(),
+                $text.len(),
+                $ledger.as_mut_ptr(),
+                $ledger.len(),
+                &mut answer.place,
+                &mut answer.growth,
+                &mut answer.count,
+            )
+        };
+        answer
+    }};
 }
 
 /// Convert. A mode other than 0 (text) and 1 (math) is refusal 1.
 pub fn convert(mode: u8, rules: &[u8], tree: &[u8], text: &mut [u8], ledger: &mut [u8]) -> Answer {
-    let mut answer = Answer::default();
-    // SAFETY: each pointer and length is that of a live slice, and each place that of a number;
-    // those that are written are borrowed mutably, so nothing else is read or written through them.
-    answer.number = unsafe {
-        boundary::zaldrume_convert(
-            mode,
-            rules.as_ptr(),
-            rules.len(),
-            tree.as_ptr(),
-            tree.len(),
-            text.as_mut_ptr(),
-            text.len(),
-            ledger.as_mut_ptr(),
-            ledger.len(),
-            &mut answer.place,
-            &mut answer.growth,
-            &mut answer.count,
-        )
-    };
-    answer
-}
-
-/// A change at a block or a position.
-#[allow(clippy::too_many_arguments)]
-fn change(
-    call: boundary::Change,
-    mode: u8,
-    rules: &[u8],
-    tree: &[u8],
-    at: usize,
-    kept: usize,
-    text: &mut [u8],
-    ledger: &mut [u8],
-) -> Answer {
-    let mut answer = Answer::default();
-    // SAFETY: as in `convert`; `call` is one of the library's three changes.
-    answer.number = unsafe {
-        call(
-            mode,
-            rules.as_ptr(),
-            rules.len(),
-            tree.as_ptr(),
-            tree.len(),
-            at,
-            kept,
-            text.as_mut_ptr(),
-            text.len(),
-            ledger.as_mut_ptr(),
-            ledger.len(),
-            &mut answer.place,
-            &mut answer.growth,
-            &mut answer.count,
-        )
-    };
-    answer
+    answer!(zaldrume_convert: mode, rules, tree; ; text, ledger)
 }
 
 /// Edit of one block. A mode other than 0 (text) and 1 (math) is refusal 1.
@@ -149,8 +94,7 @@ pub fn edit(
     text: &mut [u8],
     ledger: &mut [u8],
 ) -> Answer {
-    let call = boundary::zaldrume_edit;
-    change(call, mode, rules, tree, block, kept, text, ledger)
+    answer!(zaldrume_edit: mode, rules, tree; block, kept; text, ledger)
 }
 
 /// One block put in before a position. A mode other than 0 (text) and 1 (math) is refusal 1.
@@ -163,8 +107,7 @@ pub fn insert(
     text: &mut [u8],
     ledger: &mut [u8],
 ) -> Answer {
-    let call = boundary::zaldrume_insert;
-    change(call, mode, rules, tree, position, kept, text, ledger)
+    answer!(zaldrume_insert: mode, rules, tree; position, kept; text, ledger)
 }
 
 /// One block taken out. A mode other than 0 (text) and 1 (math) is refusal 1.
@@ -177,6 +120,19 @@ pub fn remove(
     text: &mut [u8],
     ledger: &mut [u8],
 ) -> Answer {
-    let call = boundary::zaldrume_remove;
-    change(call, mode, rules, tree, block, kept, text, ledger)
+    answer!(zaldrume_remove: mode, rules, tree; block, kept; text, ledger)
+}
+
+/// Several blocks replaced together. A mode other than 0 (text) and 1 (math) is refusal 1.
+pub fn replace_all(
+    mode: u8,
+    rules: &[u8],
+    tree: &[u8],
+    blocks: &[usize],
+    kept: usize,
+    text: &mut [u8],
+    ledger: &mut [u8],
+) -> Answer {
+    let (first, count) = (blocks.as_ptr(), blocks.len());
+    answer!(zaldrume_replace_all: mode, rules, tree; first, count, kept; text, ledger)
 }

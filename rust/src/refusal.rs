@@ -41,7 +41,7 @@ impl Refusal {
             3 => "the tree file breaks its layout",
             4 => "the tree is deeper than 64",
             5 => "an element of the tree lacks a part that its kind needs",
-            6 => "there is no such block or position, or the kept text and ledger do not fit the document",
+            6 => "there is no such block, position or list of blocks, or the kept text and ledger do not fit the document",
             7 => "an element stands where it cannot be converted",
             8 => "the two ends of a formula do not match",
             9 => "a command is not in the rules",

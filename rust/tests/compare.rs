@@ -5,9 +5,9 @@
 
 use std::collections::BTreeMap;
 
-use reference::constructs;
-use reference::made::{rule_file, tree_file, Made, Maker};
-use reference::{BLOCKS_MOST, FILE_MOST, ROW_SIZE};
+use reference::constructs::{self, curly, environment, formula, label, line_break, space, word};
+use reference::made::{rule_file, token, tree_file, Made, Maker};
+use reference::{Kind, BLOCKS_MOST, FILE_MOST, ROW_SIZE};
 use zaldrume::raw::{self, Answer};
 
 fn setting(name: &str, usual: u64) -> u64 {
@@ -32,12 +32,17 @@ fn each_case(name: &str, share: u64, case: impl Fn(&mut Maker, &mut Tally)) {
         "{name}: {count} cases, calls by their answers (0 is accepted): {:?}",
         tally.answers
     );
+    if tally.singly > 0 {
+        println!("{name}: beside {} edits made singly", tally.singly);
+    }
 }
 
 #[derive(Default)]
 struct Tally {
     seed: u64,
     answers: BTreeMap<&'static str, BTreeMap<u8, usize>>,
+    // edits that were made one by one, beside blocks replaced together
+    singly: usize,
 }
 
 /// The two buffers that a call is lent.
@@ -64,39 +69,85 @@ impl Buffers {
     }
 }
 
-/// A change of a document by one block.
+/// A change of a document: of one block, or of several together.
 #[derive(Debug, Clone, Copy, PartialEq, Eq)]
 enum Change {
     Edit,
     Insert,
     Remove,
+    ReplaceAll,
 }
 
 impl Change {
-    const ALL: [Change; 3] = [Change::Edit, Change::Insert, Change::Remove];
+    const ALL: [Change; 4] = [
+        Change::Edit,
+        Change::Insert,
+        Change::Remove,
+        Change::ReplaceAll,
+    ];
 
     fn name(self) -> &'static str {
         match self {
             Change::Edit => "edit",
             Change::Insert => "insert",
             Change::Remove => "remove",
+            Change::ReplaceAll => "replace all",
         }
     }
 
-    /// How many places it may be made at, in a document of so many blocks.
+    /// How many places there are for it, in a document of so many blocks.
     fn places(self, blocks: usize) -> usize {
         match self {
             Change::Insert => blocks + 1,
-            Change::Edit | Change::Remove => blocks,
+            Change::Edit | Change::Remove | Change::ReplaceAll => blocks,
         }
     }
 
-    /// Makes it, with a block to put there.
-    fn make(self, blocks: &mut Vec<Made>, at: usize, new: Made) {
+    /// Where it may be made, in a document of so many blocks.
+    fn somewhere(self, maker: &mut Maker, blocks: usize) -> Vec<usize> {
+        let places = self.places(blocks);
+        if self == Change::ReplaceAll {
+            let share = *maker.random.pick(&[10, 300, 600, 1000]);
+            let mut some: Vec<_> = (0..places).collect();
+            some.retain(|_| maker.random.chance(share));
+            if !some.is_empty() {
+                return some;
+            }
+        }
+        vec![match maker.random.chance(300) {
+            true => *maker.random.pick(&[0, places - 1]),
+            false => maker.random.below(places),
+        }]
+    }
+
+    /// Makes it, with blocks to put there.
+    fn make(self, blocks: &mut Vec<Made>, at: &[usize], mut new: impl FnMut() -> Made) {
         match self {
-            Change::Edit => blocks[at] = new,
-            Change::Insert => blocks.insert(at, new),
-            Change::Remove => drop(blocks.remove(at)),
+            Change::Edit | Change::ReplaceAll => at.iter().for_each(|&at| blocks[at] = new()),
+            Change::Insert => blocks.insert(at[0], new()),
+            Change::Remove => drop(blocks.remove(at[0])),
+        }
+    }
+
+    /// Names what is not there, or for several blocks a list that is none.
+    fn misplace(self, maker: &mut Maker, at: &mut Vec<usize>, blocks: usize) {
+        let places = self.places(blocks);
+        let beyond = *maker
+            .random
+            .pick(&[places, places + 1, usize::MAX, 1 << 32]);
+        if self != Change::ReplaceAll {
+            at[0] = beyond;
+            return;
+        }
+        let i = maker.random.below(at.len());
+        match maker.random.below(7) {
+            0 => at.clear(),
+            1 => at.insert(i, at[i]),
+            2 => at.push(at[0]),
+            3 => at.push(beyond),
+            4 => at[i] = beyond,
+            5 => *at = (0..blocks + 1 + maker.random.below(BLOCKS_MOST)).collect(),
+            _ => *at = vec![i; 1 << maker.random.below(18)],
         }
     }
 }
@@ -108,43 +159,44 @@ struct Call<'a> {
     mode: u8,
     rules: &'a [u8],
     tree: &'a [u8],
-    at: usize,
+    // of one block it is the first that counts
+    at: &'a [usize],
     kept: usize,
 }
 
 impl Call<'_> {
     fn library(self, Buffers { text, ledger }: &mut Buffers) -> Answer {
-        let call = match self.change {
-            Change::Edit => raw::edit,
-            Change::Insert => raw::insert,
-            Change::Remove => raw::remove,
-        };
         let Call {
+            change,
             mode,
             rules,
             tree,
             at,
             kept,
-            ..
         } = self;
-        call(mode, rules, tree, at, kept, text, ledger)
+        match change {
+            Change::Edit => raw::edit(mode, rules, tree, at[0], kept, text, ledger),
+            Change::Insert => raw::insert(mode, rules, tree, at[0], kept, text, ledger),
+            Change::Remove => raw::remove(mode, rules, tree, at[0], kept, text, ledger),
+            Change::ReplaceAll => raw::replace_all(mode, rules, tree, at, kept, text, ledger),
+        }
     }
 
     fn reference(self, Buffers { text, ledger }: &mut Buffers) -> Answer {
-        let call = match self.change {
-            Change::Edit => reference::edit,
-            Change::Insert => reference::insert,
-            Change::Remove => reference::remove,
-        };
         let Call {
+            change,
             mode,
             rules,
             tree,
             at,
             kept,
-            ..
         } = self;
-        let answer = call(mode, rules, tree, at, kept, text, ledger);
+        let answer = match change {
+            Change::Edit => reference::edit(mode, rules, tree, at[0], kept, text, ledger),
+            Change::Insert => reference::insert(mode, rules, tree, at[0], kept, text, ledger),
+            Change::Remove => reference::remove(mode, rules, tree, at[0], kept, text, ledger),
+            Change::ReplaceAll => reference::replace_all(mode, rules, tree, at, kept, text, ledger),
+        };
         told(answer.map(|done| Answer {
             number: 0,
             place: done.length,
@@ -315,7 +367,7 @@ fn any_bytes() {
                 mode,
                 rules: &rules,
                 tree: &tree,
-                at: d,
+                at: &[d],
                 kept,
             };
             tally.change(call, &mut buffers);
@@ -334,57 +386,110 @@ struct Run {
     sound: bool,
 }
 
-/// What a caller wants: a change at a place, and the blocks after it.
+/// What a caller wants: a change at some place, and the blocks after it.
 struct Wish {
     change: Change,
-    at: usize,
+    at: Vec<usize>,
     blocks: Vec<Made>,
 }
 
 impl Run {
+    /// A document, converted, where it is accepted.
+    fn open(
+        tally: &mut Tally,
+        mode: u8,
+        rules: Vec<u8>,
+        blocks: Vec<Made>,
+        mut buffers: Buffers,
+    ) -> Option<Self> {
+        let answer = tally.convert(mode, &rules, &tree_file(&blocks), &mut buffers);
+        (answer.number == 0).then_some(Run {
+            mode,
+            rules,
+            blocks,
+            kept: answer.place,
+            buffers,
+            sound: true,
+        })
+    }
+
     fn wish(&self, maker: &mut Maker) -> Wish {
         let count = self.blocks.len();
         let change = match count {
             0 => Change::Insert,
             _ => *maker.random.pick(&Change::ALL),
         };
-        let places = change.places(count);
-        let at = match maker.random.chance(300) {
-            true => *maker.random.pick(&[0, places - 1]),
-            false => maker.random.below(places),
-        };
-        let new = match maker.random.below(4) {
-            0 if count > 0 => maker.random.pick(&self.blocks).clone(),
+        let at = change.somewhere(maker, count);
+        let mut blocks = self.blocks.clone();
+        // few of many blocks are new, so that the file is not too long
+        let new = if at.len() > 10 { 300 } else { 750 };
+        change.make(&mut blocks, &at, || match maker.random.chance(new) {
+            false if count > 0 => maker.random.pick(&self.blocks).clone(),
             _ => {
                 let depth = maker.random.below(4);
                 maker.block(depth)
             }
-        };
-        let mut blocks = self.blocks.clone();
-        change.make(&mut blocks, at, new);
+        });
         Wish { change, at, blocks }
     }
 
     /// A change as a caller makes it.
-    fn step(&mut self, maker: &mut Maker, tally: &mut Tally) {
-        let Wish { change, at, blocks } = self.wish(maker);
+    fn step(&mut self, tally: &mut Tally, Wish { change, at, blocks }: Wish) {
         let tree = tree_file(&blocks);
         let call = Call {
             change,
             mode: self.mode,
             rules: &self.rules,
             tree: &tree,
-            at,
+            at: &at,
             kept: self.kept,
         };
+        let before = self.buffers.clone();
         let answer = tally.change(call, &mut self.buffers);
         if self.sound {
             self.compare_from_start(tally, &tree, answer);
+        }
+        if self.sound && change == Change::ReplaceAll && answer.number == 0 {
+            self.compare_singly(tally, before, &at, &blocks);
         }
         if answer.number == 0 {
             self.kept = answer.place;
             self.blocks = blocks;
         }
+    }
+
+    /// Blocks replaced together leave what they leave singly, where each of these is accepted too.
+    fn compare_singly(&self, tally: &mut Tally, mut buffers: Buffers, at: &[usize], new: &[Made]) {
+        let mut blocks = self.blocks.clone();
+        let mut kept = self.kept;
+        // a text on the way may be longer than both
+        buffers.text.resize(buffers.text.len() + FILE_MOST, 0);
+        for &at in at {
+            blocks[at] = new[at].clone();
+            let call = Call {
+                change: Change::Edit,
+                mode: self.mode,
+                rules: &self.rules,
+                tree: &tree_file(&blocks),
+                at: &[at],
+                kept,
+            };
+            let answer = call.library(&mut buffers);
+            if answer.number != 0 {
+                return;
+            }
+            kept = answer.place;
+        }
+        let (seed, rows) = (tally.seed, blocks.len() * ROW_SIZE);
+        assert!(
+            buffers.text[..kept] == self.buffers.text[..kept],
+            "singly, text, seed {seed}"
+        );
+        assert!(
+            buffers.ledger[..rows] == self.buffers.ledger[..rows],
+            "singly, ledger, seed {seed}"
+        );
+        tally.singly += at.len();
     }
 
     /// The third demand: a change answers as a conversion from the start, and leaves what that leaves.
@@ -427,17 +532,12 @@ impl Run {
         let mut rules = self.rules.clone();
         let mut kept = self.kept;
         let mut damaged = false;
-        match maker.random.below(10) {
+        match maker.random.below(12) {
             0 => mode = maker.random.number() as u8,
             1 => maker.damage(&mut rules),
             2 => damaged = true,
-            3 => {
-                let places = change.places(self.blocks.len());
-                at = *maker
-                    .random
-                    .pick(&[places, places + 1, usize::MAX, 1 << 32])
-            }
-            4 => {
+            3 | 4 => change.misplace(maker, &mut at, self.blocks.len()),
+            5 => {
                 kept = *maker.random.pick(&[
                     0,
                     kept + 1,
@@ -446,10 +546,12 @@ impl Run {
                     self.buffers.text.len() + 1,
                 ])
             }
-            5 => blocks.push(maker.block(2)),
-            6 => drop(blocks.pop()),
-            7 => blocks = self.blocks.clone(),
-            8 => change = *maker.random.pick(&Change::ALL),
+            6 => blocks.push(maker.block(2)),
+            7 => drop(blocks.pop()),
+            8 => blocks = self.blocks.clone(),
+            9 => change = *maker.random.pick(&Change::ALL),
+            // a tree that differs elsewhere
+            10 => at = change.somewhere(maker, self.blocks.len()),
             _ => self.damage_ledger(maker),
         }
         let mut tree = tree_file(&blocks);
@@ -461,7 +563,7 @@ impl Run {
             mode,
             rules: &rules,
             tree: &tree,
-            at,
+            at: &at,
             kept,
         };
         let answer = tally.change(call, &mut self.buffers);
@@ -521,24 +623,15 @@ fn runs_of_changes() {
             .random
             .pick(&[0, ROW_SIZE - 1, 2 * ROW_SIZE, 16 * ROW_SIZE]);
         let size = *maker.random.pick(&[1_000, 10_000, 100_000]);
-        let mut buffers = Buffers::any(maker, size, blocks.len() * ROW_SIZE + extra);
-        let answer = tally.convert(mode, &rules, &tree_file(&blocks), &mut buffers);
-        if answer.number != 0 {
+        let buffers = Buffers::any(maker, size, blocks.len() * ROW_SIZE + extra);
+        let Some(mut run) = Run::open(tally, mode, rules, blocks, buffers) else {
             return;
-        }
-        let mut run = Run {
-            mode,
-            rules,
-            blocks,
-            kept: answer.place,
-            buffers,
-            sound: true,
         };
         for _ in 0..16 {
             match maker.random.below(100) {
                 0..=14 => run.wrong_step(maker, tally),
                 15 => run.cut(maker),
-                _ => run.step(maker, tally),
+                _ => run.step(tally, run.wish(maker)),
             }
         }
     });
@@ -568,7 +661,47 @@ fn ledgers_from_nowhere() {
             sound: false,
         };
         for _ in 0..4 {
-            run.step(maker, tally);
+            run.step(tally, run.wish(maker));
+        }
+    });
+}
+
+/// A word of any length, white space, a label that waits, or an environment that takes it.
+fn small_block(maker: &mut Maker) -> Made {
+    match maker.random.below(10) {
+        0..=5 => {
+            let letter = char::from(b'a' + maker.random.below(26) as u8);
+            let size = 1 + maker.random.below(60);
+            token(Kind::TokenWord, letter.to_string().repeat(size))
+        }
+        6 => line_break(),
+        7 => space(),
+        8 => formula(vec![curly(vec![label("eq", &mut maker.random)])]),
+        _ => environment("quote", None, vec![word(&mut maker.random)]),
+    }
+}
+
+/// The buffers have room for the texts before and after, and then for a byte less.
+#[test]
+fn many_blocks_together() {
+    let rules = constructs::rules(10);
+    each_case("many blocks together", 10, |maker, tally| {
+        let most = *maker.random.pick(&[10, 100, BLOCKS_MOST]);
+        let count = 1 + maker.random.below(most);
+        let blocks: Vec<_> = (0..count).map(|_| small_block(maker)).collect();
+        let buffers = Buffers::any(maker, FILE_MOST, count * ROW_SIZE);
+        let run = Run::open(tally, 0, rules.clone(), blocks, buffers);
+        let mut run = run.expect("accepted");
+        for short in [0, 0, 1, 0] {
+            let change = Change::ReplaceAll;
+            let at = change.somewhere(maker, count);
+            let mut blocks = run.blocks.clone();
+            change.make(&mut blocks, &at, || small_block(maker));
+            let mut other = Buffers::any(maker, FILE_MOST, count * ROW_SIZE);
+            let length = tally.convert(0, &rules, &tree_file(&blocks), &mut other);
+            let room = run.kept.max(length.place - short);
+            run.buffers.text.resize(room, 0xa5);
+            run.step(tally, Wish { change, at, blocks });
         }
     });
 }

@@ -1,7 +1,8 @@
 //! What a [`Document`] keeps, and what the refusals say.
 
 use zaldrume::file::{Class, Kind, RuleFile, TreeFile};
-use zaldrume::{convert, Document, Edited, Mode, Refusal, BLOCKS_MOST, ROW_SIZE};
+use zaldrume::{convert, edit, replace_all, Document, Edited, Mode, Refusal};
+use zaldrume::{BLOCKS_MOST, ROW_SIZE};
 
 /// [`Document::edit`], [`Document::insert`] or [`Document::remove`].
 type Change = fn(&mut Document, &[u8], usize) -> Result<Edited, Refusal>;
@@ -58,6 +59,12 @@ fn finds_room() {
     let inserted = document.insert(&tree(&["\\long", "a", "\\long"]), 0);
     assert_eq!(inserted.unwrap().growth, 10_000);
     assert_eq!(document.text().len(), 20_001);
+
+    let mut document = Document::open(Mode::Text, &rules(), &tree(&["a", "b", "c"])).unwrap();
+    let replaced = document.replace_all(&tree(&["\\long", "b", "\\long"]), &[0, 2]);
+    assert_eq!(replaced.unwrap().growth, 19_998);
+    let long = "long ".repeat(2_000);
+    assert_eq!(document.text(), [&long, "b", &long].concat().as_bytes());
 }
 
 #[test]
@@ -103,6 +110,105 @@ fn from_no_block_to_the_most_and_back() {
     }
     assert_eq!(document.text(), b"");
     assert_eq!(document.remove(&tree(&[]), 0).unwrap_err().number(), 6);
+}
+
+#[test]
+fn a_search_and_replace() {
+    let words = ["the", "cat", "saw", "a", "cat", "and", "the", "cats"];
+    let mut document = Document::open(Mode::Text, &rules(), &tree(&words)).unwrap();
+    let blocks: Vec<_> = (0..words.len())
+        .filter(|&block| words[block].contains("cat"))
+        .collect();
+    assert_eq!(blocks, [1, 4, 7]);
+    // to a longer word, to a shorter one and back
+    for other in ["mouse", "ox", "cat"] {
+        let words = words.map(|word| word.replace("cat", other));
+        let words = words.each_ref().map(String::as_str);
+        let kept = document.text().len() as i64;
+        let replaced = document.replace_all(&tree(&words), &blocks).unwrap();
+        assert_eq!(document.text(), words.concat().as_bytes());
+        assert_eq!(replaced.length, document.text().len());
+        assert_eq!(replaced.growth, replaced.length as i64 - kept);
+        assert_eq!(replaced.count, 3);
+        let from_start = Document::open(Mode::Text, &rules(), &tree(&words)).unwrap();
+        assert_eq!(parts(&document), parts(&from_start));
+    }
+}
+
+#[test]
+fn a_block_grows_where_another_makes_room() {
+    let (old, new) = (["a", "b", "cdefg", "h"], ["abcde", "b", "c", "h"]);
+    let rules = rules();
+    let mut text = [0; 8];
+    let mut ledger = [0; 4 * ROW_SIZE];
+    let converted = convert(Mode::Text, &rules, &tree(&old), &mut text, &mut ledger);
+    assert_eq!(converted.unwrap().length, text.len());
+
+    // the buffer is full: block 0 alone is too long for it
+    let first = tree(&[new[0], old[1], old[2], old[3]]);
+    let refusal = edit(Mode::Text, &rules, &first, 0, 8, &mut text, &mut ledger).unwrap_err();
+    assert_eq!(refusal.number(), 15);
+    let tree = tree(&new);
+    let replaced = replace_all(
+        Mode::Text,
+        &rules,
+        &tree,
+        &[0, 2],
+        8,
+        &mut text,
+        &mut ledger,
+    );
+    let replaced = replaced.unwrap();
+    assert_eq!(
+        (replaced.length, replaced.growth, replaced.count),
+        (8, 0, 2)
+    );
+    assert_eq!(&text, b"abcdebch");
+}
+
+#[test]
+fn lists_that_are_refused() {
+    let words = ["a", "b", "c"];
+    let mut document = Document::open(Mode::Text, &rules(), &tree(&words)).unwrap();
+    let before = document.clone();
+    let many: Vec<_> = (0..100_000).collect();
+    let lists: [&[usize]; 9] = [
+        &[],
+        &[3],
+        &[0, 3],
+        &[1, 1],
+        &[2, 0],
+        &[0, 2, 1],
+        &[usize::MAX],
+        &[0, 1 << 32],
+        &many,
+    ];
+    let new = tree(&["x", "y", "z"]);
+    for list in lists {
+        let refusal = document.replace_all(&new, list).unwrap_err();
+        assert_eq!((refusal.number(), refusal.row()), (6, 0), "{list:?}");
+    }
+    for (words, number, row) in [
+        (&["x", "y"][..], 6, 0),
+        (&["x", "y", "z", "z"], 6, 0),
+        (&["x", "\\none", "\\other"], 9, 2),
+    ] {
+        let refusal = document.replace_all(&tree(words), &[0, 1]).unwrap_err();
+        assert_eq!(
+            (refusal.number(), refusal.row()),
+            (number, row),
+            "{words:?}"
+        );
+    }
+    // what is wrong with the tree comes first
+    let refusal = document.replace_all(b"no tree", &[]).unwrap_err();
+    assert_eq!(refusal.number(), 3);
+    assert_eq!(parts(&document), parts(&before));
+
+    // each of the list is what is there
+    let replaced = document.replace_all(&new, &[0, 1, 2]).unwrap();
+    assert_eq!((replaced.growth, replaced.count), (0, 3));
+    assert_eq!(document.text(), b"xyz");
 }
 
 /// What a document is seen to keep.
@@ -207,6 +313,43 @@ fn a_label_goes_where_blocks_let_it() {
     let removed = document.remove(&built(&[add_quote]), 0).unwrap();
     assert_eq!(removed.count, 1);
     assert_eq!(document.text(), b"#quote[];");
+}
+
+/// A word.
+fn add_word(tree: &mut TreeFile) {
+    tree.token(Kind::TokenWord, "word");
+}
+
+#[test]
+fn together_as_singly() {
+    let old = [
+        add_label, add_word, add_quote, add_word, add_quote, add_word,
+    ];
+    // the label moves on by a block and waits for the other quote
+    let mut new = old;
+    (new[0], new[2], new[5]) = (add_quote, add_label, add_label);
+    let mut together = Document::open(Mode::Text, &rules(), &built(&old)).unwrap();
+    let mut singly = together.clone();
+    let replaced = together.replace_all(&built(&new), &[0, 2, 5]).unwrap();
+    // 0 and 1, where a label no longer waits; 2 to 4, where it does; 5
+    assert_eq!(replaced.count, 6);
+
+    let mut between = old;
+    let mut growth = 0;
+    for block in [0, 2, 5] {
+        between[block] = new[block];
+        growth += singly.edit(&built(&between), block).unwrap().growth;
+    }
+    assert_eq!(replaced.growth, growth);
+    assert_eq!(parts(&together), parts(&singly));
+    let from_start = Document::open(Mode::Text, &rules(), &built(&new)).unwrap();
+    assert_eq!(parts(&together), parts(&from_start));
+
+    // blocks that carry what they carried stay
+    new[1] = add_quote;
+    new[5] = add_word;
+    let replaced = together.replace_all(&built(&new), &[1, 5]).unwrap();
+    assert_eq!(replaced.count, 2);
 }
 
 /// A table of one cell, with a `\\` after it or not.

@@ -2,8 +2,8 @@
 //! between them; without it nothing is compared.
 //!
 //! A conversion case has `rules.bin`, `tree.bin`, `stdin` and `expected`; a run of changes (edits,
-//! insertions, removals) `rules.bin`, `script.txt` and, for each call, its tree and both buffers
-//! after it.
+//! insertions, removals, several blocks replaced together) `rules.bin`, `script.txt` and, for each
+//! call, its tree and both buffers after it.
 
 use std::fs;
 use std::path::{Path, PathBuf};
@@ -53,37 +53,51 @@ impl Under {
         mode: u8,
         rules: &[u8],
         tree: &[u8],
-        at: usize,
+        at: &[usize],
         kept: usize,
         text: &mut [u8],
         ledger: &mut [u8],
     ) -> Result<(usize, i64, usize), (u8, usize)> {
-        let library = match word {
-            "edit" => raw::edit,
-            "insert" => raw::insert,
-            "remove" => raw::remove,
-            _ => panic!("no such call: {word}"),
-        };
-        let reference = match word {
-            "edit" => reference::edit,
-            "insert" => reference::insert,
-            _ => reference::remove,
-        };
         match self {
-            Under::Library => match library(mode, rules, tree, at, kept, text, ledger) {
-                Answer {
-                    number: 0,
-                    place,
-                    growth,
-                    count,
-                } => Ok((place, growth, count)),
-                Answer { number, place, .. } => Err((number, place)),
-            },
-            Under::Reference => reference(mode, rules, tree, at, kept, text, ledger)
-                .map(|done| (done.length, done.growth, done.count))
-                .map_err(|refused| (refused.number, refused.row)),
+            Under::Library => {
+                let answer = match word {
+                    "edit" => raw::edit(mode, rules, tree, at[0], kept, text, ledger),
+                    "insert" => raw::insert(mode, rules, tree, at[0], kept, text, ledger),
+                    "remove" => raw::remove(mode, rules, tree, at[0], kept, text, ledger),
+                    "replace" => raw::replace_all(mode, rules, tree, at, kept, text, ledger),
+                    _ => panic!("no such call: {word}"),
+                };
+                match answer.number {
+                    0 => Ok((answer.place, answer.growth, answer.count)),
+                    number => Err((number, answer.place)),
+                }
+            }
+            Under::Reference => {
+                let answer = match word {
+                    "edit" => reference::edit(mode, rules, tree, at[0], kept, text, ledger),
+                    "insert" => reference::insert(mode, rules, tree, at[0], kept, text, ledger),
+                    "remove" => reference::remove(mode, rules, tree, at[0], kept, text, ledger),
+                    "replace" => reference::replace_all(mode, rules, tree, at, kept, text, ledger),
+                    _ => panic!("no such call: {word}"),
+                };
+                answer
+                    .map(|done| (done.length, done.growth, done.count))
+                    .map_err(|refused| (refused.number, refused.row))
+            }
         }
     }
+}
+
+/// The numbers of a list in a script, `none` where there are none.
+fn numbers(list: &str) -> Vec<usize> {
+    match list {
+        "none" => Vec::new(),
+        list => list.split(',').map(number).collect(),
+    }
+}
+
+fn number(word: &str) -> usize {
+    word.parse().expect("a number")
 }
 
 fn cases(named: impl Fn(&Path) -> bool) -> Vec<PathBuf> {
@@ -159,9 +173,8 @@ fn replay(case: &Path, under: Under) {
     let mut mode = 0;
     for line in script.lines() {
         let words: Vec<_> = line.split(' ').collect();
-        let number = |i: usize| words[i].parse::<usize>().expect("a number");
         if words[0] == "mode" {
-            mode = number(1) as u8;
+            mode = number(words[1]) as u8;
             continue;
         }
         let call = words[1];
@@ -176,8 +189,8 @@ fn replay(case: &Path, under: Under) {
                     mode,
                     &rules,
                     &tree,
-                    number(3),
-                    number(5),
+                    &numbers(words[3]),
+                    number(words[5]),
                     &mut text,
                     &mut ledger,
                 )

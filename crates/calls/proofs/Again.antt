@@ -10,14 +10,13 @@ use lib.ListN.{length, take, drop, length-drop}
 use lib.Dec.{ltb, leb}
 use Rattle.text.specs.Writing.{cap}
 use Rattle.mitex_syntax.specs.Tree.{size}
-use Rattle.mitex_meaning.specs.Outcome.{Carry, Outcome}
-use Rattle.mitex_meaning.specs.Outcome.Outcome.{refused as declined, done}
+use Rattle.mitex_meaning.specs.Outcome.{Carry}
 use Rattle.mitex_meaning.specs.State.{newOf, carryOf, Carried}
 use Rattle.mitex_meaning.specs.declared.LaTeXMode.{LaTeXMode}
 use Rattle.mitex_meaning.specs.declared.Converter.{Converter}
 use Rattle.ledger.specs.Ledger.{RowFits, decodeRows, fits, sameCarry, Piece}
 use Rattle.ledger.proofs.Fitting.{fits-row}
-use Rattle.edit_meaning.specs.Walk.{BlockConverter, Walk, onto, nextUntil, rowsAll, walkUntil}
+use Rattle.edit_meaning.specs.Walk.{BlockConverter, Walk, rowsAll, walkUntil}
 use Rattle.edit_meaning.specs.Walk.Walk.{stopped, pieces}
 use Rattle.edit_meaning.specs.Walk.CheckedFile.{good}
 use Rattle.edit_meaning.specs.Edit.{Answer, Result, unchanged, endBefore, carryBefore, again}
@@ -26,15 +25,15 @@ use Rattle.edit_meaning.specs.Calls.{Gives}
 use Rattle.edit_meaning.specs.Changes.{namedThere, oldCount, changeFits, namedBlock, Stretch, stretch, firstRow, puttingIn, takingOut, remake, exchange, exchangeOr, changeChecked}
 use Rattle.edit_meaning.proofs.Bytes.{carryBefore-at, rowCarries-at}
 use Rattle.manuscript.specs.Manuscript.{listed, blocksIn}
-use Rattle.passes.specs.Passes.{BlocksUpTo, Stood, Came, rowNo, converterOf, carriesOn, keptBlock}
+use Rattle.passes.specs.Passes.{Document, EndsBefore, CarriesBefore, BlocksUpTo, Stood, Came, rowNo, converterOf, carriesOn, keptBlock}
 use Rattle.passes.specs.declared.Standing.{Standing}
 use Rattle.manuscript.proofs.Manuscript.{listed-count}
 use Rattle.passes.proofs.Measuring.{carriesOn-at}
-use Rattle.passes.proofs.Pieces.{gives-stop, walk-gives, gives-within, came-refused, came-pieces, Came-to}
-use Rattle.calls.specs.Calls.{Document, kindBy, EndsBefore, CarriesBefore, Measured, stretchOf, MeasuresAgain}
+use Rattle.passes.proofs.Pieces.{gives-stop, walk-gives, gives-within, some-until, came-refused, came-pieces, Came-to}
+use Rattle.calls.specs.Calls.{kindBy, Measured, stretchOf, MeasuresAgain}
 use Rattle.calls.specs.declared.Way.{Way}
 use Rattle.calls.specs.declared.Way.the-variants.{Replace, PutIn, TakeOut}
-use Rattle.calls.proofs.Starting.{blocks-begin, begins-carry, begins-as, count-left}
+use Rattle.passes.proofs.Starting.{blocks-begin, begins-carry, begins-as, count-left}
 
 -- ---- refusal 6
 
@@ -124,22 +123,6 @@ module _ (𝓒 : BlockConverter) (bs : List (𝓒 .Block)) (l : List ℕ) (k : �
       rw (lt-ltb n (suc n) (omega arith), j, rowCarries-at (suc n) k l (omega arith), carryBefore-at (suc n) k l (omega arith))
 
 -- ---- how many kept blocks give way
-
--- a block that is put in is converted
-some-onto : (p : Piece) (v : Walk) (qs : List Piece) → onto p v ≡ pieces qs → 0 < length qs
-some-onto p (stopped n i) qs e = let z : _≡_ {A = ℕ} 0 1 = cc in absurd (omega arith)
-some-onto p (pieces ps) qs e = let q : p ∷ ps ≡ qs = cc in omega (arith, ap length q)
-
-some-next : (o : Outcome) (r : ℕ) (d : Carry) (f : Carry → Walk) (qs : List Piece) → nextUntil o r d f ≡ pieces qs → 0 < length qs
-some-next (declined n i) r d f qs e = let z : _≡_ {A = ℕ} 0 1 = cc in absurd (omega arith)
-some-next (done c t) r d f qs e = some-onto (record { text = t; after = c }) (cond (sameCarry c d) (pieces []) (f c)) qs e
-
-some-until :
-    (𝓒 : BlockConverter) (c : Carry) (r : ℕ) (bs : List (𝓒 .Block)) (d : Carry) (ds : List Carry) (qs : List Piece) → 0 < length bs
-    → walkUntil 𝓒 c r bs (d ∷ ds) ≡ pieces qs → 0 < length qs
-unfolding walkUntil
-some-until 𝓒 c r [] d ds qs h e = absurd (omega arith)
-some-until 𝓒 c r (b ∷ bs) d ds qs h e = some-next (𝓒 .convert c b) r d (λ c′. walkUntil 𝓒 c′ (r + 𝓒 .rows b) bs ds) qs e
 
 -- after m blocks from block k on as many kept blocks are left as new ones, and as many went as there were in the place of the m
 pub record Goes (way : Way) (n was k m : ℕ) : Type 0 where

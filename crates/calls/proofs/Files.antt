@@ -29,12 +29,12 @@ use Rattle.edit_meaning.specs.Changes.{Kind, changeChecked, change}
 use Rattle.edit_meaning.specs.ChangeCalls.{Alters}
 use Rattle.manuscript.specs.Manuscript.{modeOf, listed, byTree, byRules, byMode, manuscript, blocksIn}
 use Rattle.manuscript.proofs.Manuscript.{opened-as}
-use Rattle.calls.specs.Calls.{answerOfConvert, answerOfEdit, openTree, openRules, opened, FilesOpen, CallBegins, blockRows, Document, ConvertsBlocks, kindBy, ChangesBlocks}
+use Rattle.passes.specs.Passes.{Document}
+use Rattle.calls.specs.Calls.{answerOfConvert, answerOfEdit, openTree, openRules, opened, FilesOpen, CallBegins, blockRows, ConvertsBlocks, ChangesBlocks}
 use Rattle.calls.specs.declared.Converted.{Converted}
 use Rattle.calls.specs.declared.Converted.the-variants.{Refused as NotConverted}
 use Rattle.calls.specs.declared.Edited.{Edited}
 use Rattle.calls.specs.declared.Edited.the-variants.{Refused as NotEdited}
-use Rattle.calls.specs.declared.Way.{Way}
 use Rattle.calls.specs.declared.Opened.{Opened}
 use Rattle.calls.specs.declared.Opened.the-variants.{Shut, Open}
 
@@ -170,15 +170,15 @@ module _ {mode : ℕ} {file tree index : List ℕ} {m : LaTeXMode} {start n : �
         }
 
     pub opened-changes :
-        (r : Edited) (way : Way) (k : ℕ) {kept : ℕ} {out ledger out′ ledger′ : List ℕ}
-        → ChangesBlocks file index rows (take start tree) m n way k kept out ledger r out′ ledger′
-        → Alters (manuscript mode file) tree (kindBy way k) kept out ledger (answerOfEdit r) out′ ledger′
+        (r : Edited) (kind : Kind) {kept : ℕ} {out ledger out′ ledger′ : List ℕ}
+        → ChangesBlocks file index rows (take start tree) m n kind kept out ledger r out′ ledger′
+        → Alters (manuscript mode file) tree kind kept out ledger (answerOfEdit r) out′ ledger′
     unfolding change
-    opened-changes r way k {kept} {out} {ledger} {out′} {ledger′} g =
+    opened-changes r kind {kept} {out} {ledger} {out′} {ledger′} g =
         record {
           gives =
               subst (λ (x : Result). Gives x (answerOfEdit r) out′ ledger′)
-              (sym (opened-call (λ 𝓒 v. changeChecked 𝓒 v (kindBy way k) kept out ledger))) (g document);
+              (sym (opened-call (λ 𝓒 v. changeChecked 𝓒 v kind kept out ledger))) (g document);
         }
 
 -- ---- refused by the checks

@@ -26,13 +26,13 @@ use Rattle.edit_meaning.proofs.Bytes.{atFront-stored}
 use Rattle.edit_meaning.proofs.Holding.{room-says, walked-encodable, rows-length}
 use Rattle.edit_meaning.proofs.Walks.{WalkedBlocks, walk-walked, walked-length}
 use Rattle.manuscript.specs.Manuscript.{listed, blocksIn}
-use Rattle.passes.specs.Passes.{Pieced, Stood, Came, Measures, Writes}
+use Rattle.passes.specs.Passes.{Document, Pieced, Stood, Came, Measures, Writes}
 use Rattle.passes.specs.declared.Standing.{Standing}
 use Rattle.manuscript.proofs.Manuscript.{keeps-short}
 use Rattle.passes.proofs.Pieces.{walk-gives, came-refused, Came-to, came-pieces}
 use Rattle.manuscript.proofs.Manuscript.{listed-count}
-use Rattle.calls.specs.Calls.{Document, Draft, Delivers}
-use Rattle.calls.proofs.Starting.{blocks-begin, begins-as}
+use Rattle.calls.specs.Calls.{Draft, Delivers}
+use Rattle.passes.proofs.Starting.{blocks-begin, begins-as}
 
 -- ---- a walk settled
 

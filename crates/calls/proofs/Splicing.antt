@@ -8,8 +8,8 @@ use Prim.Native.Nat.{ℕ, zero, suc, _+_, _*_, _-_, _≤_, _<_, _^_, min}
 use native.Mathlib.Omega.{arith}
 use borrow.Author.Tests.{leb-true}
 use lib.IntN.{ℤ, pos, negsuc, _-ℤ_}
-use lib.ListN.{length, take, drop, set, replicate, length-append, length-drop, length-set, length-replicate, replicate-append-replicate, take-append-drop}
-use lib.Seq.{sets, length-sets, length-take-le, set-append-left}
+use lib.ListN.{length, take, drop, set, replicate, length-append, length-drop, length-replicate, replicate-append-replicate}
+use lib.Seq.{sets, length-sets, length-take-le}
 use lib.Dec.{leb, ltb}
 use lib.Signed.{mag}
 use mir.Syntax.{w64}
@@ -18,36 +18,25 @@ use mir.Facts.{toZ-pos, toZ-ofZ}
 use Rattle.text.specs.Writing.{cap}
 use Rattle.text.proofs.Writing.{sets-append}
 use Rattle.mitex_meaning.specs.Parts.{between}
-use Rattle.ledger.specs.Ledger.{rowSize, HasRow, rowAt, decodeRows, encodeRows, fits, Movable, moveRows, written, rowsFrom}
+use Rattle.ledger.specs.Ledger.{rowSize, HasRow, decodeRows, encodeRows, fits, Movable, moveRows, written, rowsFrom}
 use Rattle.ledger.proofs.Rows.{AllEncodable, encodeRows-length, rowsFrom-length, rowsFrom-encodable}
-use Rattle.ledger.proofs.Fitting.{fits-long, fits-end, fits-rise, fits-movable}
-use Rattle.ledger.proofs.Writing.{carryOf-short}
+use Rattle.ledger.proofs.Fitting.{fits-long, fits-movable}
+use Rattle.ledger.proofs.Writing.{front-stored, carryOf-short}
 use Rattle.ledger.proofs.Moving.{moveRows-length}
 use Rattle.edit_meaning.specs.Edit.{Result, textMost, unchanged, endBefore, roomForText}
 use Rattle.edit_meaning.specs.Edit.Answer.{refused, edited}
 use Rattle.edit_meaning.specs.Calls.{Gives}
 use Rattle.edit_meaning.specs.Changes.{Stretch, textOver, ledgerOver, frontOver, exchange}
-use Rattle.edit_meaning.proofs.Bytes.{endBefore-at, textAfter-stored, textAfter-over, over-stored}
+use Rattle.edit_meaning.proofs.Bytes.{textAfter-stored, textAfter-over, over-stored}
 use Rattle.passes.specs.Passes.{Pieced, WrotePieces, keptBlock}
 use Rattle.passes.specs.declared.Standing.{Standing}
 use Rattle.manuscript.proofs.Manuscript.{keeps-short}
+use Rattle.passes.proofs.Ends.{ends-rise, ends-kept, ends-row}
 use Rattle.passes.proofs.Pieces.{gives-short}
-use Rattle.calls.specs.Calls.{EndsBefore, Measured, oldEnd, stretchOf, Overwrote}
+use Rattle.calls.specs.Calls.{Measured, oldEnd, stretchOf, Overwrote}
 use Rattle.calls.proofs.Settling.{room-for}
 
 -- ---- lists
-
--- a run of bytes stored in the front of a list
-sets-left : (vs a b : List ℕ) (i : ℕ) → i + length vs ≤ length a → sets (a ++ b) i vs ≡ sets a i vs ++ b
-sets-left [] a b i h = refl
-sets-left (v ∷ vs) a b i h =
-    ap (λ l. sets l (suc i) vs) (set-append-left a b i v (omega arith))
-    ∙ sets-left vs (set a i v) b (suc i) (omega (arith, length-set a i v))
-
-front-stored : (l vs : List ℕ) (i k : ℕ) → i + length vs ≤ k → k ≤ length l → sets (take k l) i vs ++ drop k l ≡ sets l i vs
-front-stored l vs i k h h′ =
-    sym (sets-left vs (take k l) (drop k l) i (omega (arith, length-take-le k l h′)))
-    ∙ ap (λ x. sets x i vs) (take-append-drop k l)
 
 -- zeros stored one after the other
 pub cleared-next : (l : List ℕ) {l′ : List ℕ} (from i : ℕ) → from ≤ i → l′ ≡ sets l from (replicate (i - from) 0)
@@ -88,31 +77,6 @@ module _ (a b : ℕ) (h : a < 2 ^ 63) (k : b < 2 ^ 63) where
 
   pub difference-is : toZ w64 (ofZ w64 (toZ w64 a -ℤ toZ w64 b)) ≡ pos a -ℤ pos b
   difference-is = toZ-ofZ difference-fits ∙ as-signed
-
--- ---- where blocks end, by the rows before them
-
-pub ends-first : (k : ℕ) (l : List ℕ) → k ≡ 0 → EndsBefore l k 0
-ends-first k l e n i = sym (ap (λ j. endBefore j (decodeRows n l)) e)
-
-pub ends-before : (k : ℕ) (l : List ℕ) {r : ℕ} → 0 < k → r ≡ (rowAt (k - 1) l) .end → EndsBefore l k r
-ends-before zero l h e n i = absurd (omega arith)
-ends-before (suc k) l h e n i =
-    let z : suc k - 1 ≡ k = omega arith in e ∙ ap (λ j. (rowAt j l) .end) z ∙ sym (endBefore-at n k l (omega arith))
-
-module _ (n kept : ℕ) (l : List ℕ) (e : fits n kept l ≡ true) where
-  ends-rise : (i j : ℕ) → i ≤ j → j ≤ n → endBefore i (decodeRows n l) ≤ endBefore j (decodeRows n l)
-  ends-rise zero j h k = omega arith
-  ends-rise (suc i) zero h k = absurd (omega arith)
-  ends-rise (suc i) (suc j) h k =
-      let r = fits-rise n kept l e i j (omega arith) (omega arith) in
-      omega (arith, endBefore-at n i l (omega arith), endBefore-at n j l (omega arith))
-
-  ends-kept : (j : ℕ) → j ≤ n → endBefore j (decodeRows n l) ≤ kept
-  ends-kept zero h = omega arith
-  ends-kept (suc j) h = omega (arith, endBefore-at n j l (omega arith), fits-end n kept l e j (omega arith))
-
-  ends-row : (i j : ℕ) → i ≤ j → j < n → endBefore i (decodeRows n l) ≤ (rowAt j l) .end
-  ends-row i j h k = omega (arith, ends-rise i (suc j) (omega arith) (omega arith), endBefore-at n j l k)
 
 -- ---- blocks that were measured
 

@@ -1,4 +1,4 @@
--- What Convert and the changes of one block answer, and what their parts are given and promise.
+-- What Convert and the changes answer, and what their parts are given and promise.
 use mathlib.Core.Path.{_≡_}
 use mathlib.Core.Bool.{true, _&&_, cond}
 use mathlib.Core.Option.{Option}
@@ -9,19 +9,15 @@ use lib.ListN.{length, take, drop}
 use lib.Dec.{ltb}
 use Rattle.text.specs.Numbers.{Bytes}
 use Rattle.text.specs.Writing.{cap}
-use Rattle.text.specs.Trailer.{fileMost}
 use Rattle.mitex_spec.specs.Rules.{Rule}
-use Rattle.mitex_spec.specs.Index.{Ready, SomeRules}
-use Rattle.mitex_syntax.specs.Tree.{Forest, count}
-use Rattle.mitex_syntax.specs.Spells.{SpellsAll}
+use Rattle.mitex_spec.specs.Index.{SomeRules}
 use Rattle.tree_file.specs.Layout.{blocksMost}
 use Rattle.tree_file.specs.Check.{checkTree, checkedAnswer}
 use Rattle.tree_file.specs.declared.Checked.{Checked}
 use Rattle.tree_file.specs.declared.Checked.the-variants.{Whole as Sound, Refused as Bad}
-use Rattle.mitex_meaning.specs.State.{newOf, carryOf, Carried}
+use Rattle.mitex_meaning.specs.State.{carryOf}
 use Rattle.mitex_meaning.specs.Conversion.{startCarry}
 use Rattle.mitex_meaning.specs.declared.LaTeXMode.{LaTeXMode}
-use Rattle.mitex_meaning.specs.declared.Converter.{Converter}
 use Rattle.ledger.specs.Ledger.{rowSize, decodeRows, encodeRows, fits, sameCarry, Piece, written, rowsFrom}
 use Rattle.edit_meaning.specs.Walk.{walk, walkUntil}
 use Rattle.edit_meaning.specs.Walk.Walk.{pieces}
@@ -29,11 +25,13 @@ use Rattle.edit_meaning.specs.Walk.CheckedFile.{bad, good}
 use Rattle.edit_meaning.specs.Edit.{Answer, settle, endBefore, carryBefore}
 use Rattle.edit_meaning.specs.Edit.Answer.{refused, converted, edited}
 use Rattle.edit_meaning.specs.Calls.{Gives}
-use Rattle.edit_meaning.specs.Changes.{Kind, Stretch, textOver, ledgerOver, frontOver, exchange, changeChecked}
+use Rattle.edit_meaning.specs.Changes.{Kind, Stretch, comeCount, textOver, ledgerOver, frontOver, exchange, changeChecked}
 use Rattle.edit_meaning.specs.Changes.Kind.{replace, putIn, takeOut}
 use Rattle.manuscript.specs.Manuscript.{modeOf, listed, manuscript, blocksIn}
-use Rattle.passes.specs.Passes.{BlocksGiven, BlocksUpTo, Pieced, FirstPieces, rowNo, converterOf, WrotePieces, carriesOn, keptBlock, Came}
+use Rattle.passes.specs.Passes.{Document, BlocksGiven, BlocksUpTo, Pieced, FirstPieces, rowNo, converterOf, WrotePieces, carriesOn, keptBlock, Came}
 use Rattle.passes.specs.declared.Standing.{Standing}
+use Rattle.stretches.specs.Plans.{afterAll, placeAfter, LaidOut}
+use Rattle.stretches.specs.declared.Planned.{Planned}
 use Rattle.calls.specs.declared.Converted.{Converted}
 use Rattle.calls.specs.declared.Converted.the-variants.{Refused as NotConverted, Done as WasConverted}
 use Rattle.calls.specs.declared.Edited.{Edited}
@@ -85,17 +83,6 @@ CallBegins mode rules tree index (Open m start n) = FilesOpen mode rules tree in
 abbrev pub blockRows : ℕ → List ℕ → List ℕ
 blockRows start tree = take (length tree - 8 - (start + 8)) (drop (start + 8) tree)
 
--- a document past the checks: its rules, and its blocks, spelt by the rows after the root's
-pub record Document (rules index rows text : List ℕ) (n : ℕ) : Type 0 where
-  pub rs : List Rule
-  pub ready : Ready rules index rs
-  pub blocks : Forest
-  pub spells : SpellsAll blocks rows text
-  pub many : count blocks ≡ n
-  pub most : n ≤ blocksMost
-  pub few : length rows ≤ fileMost
-  pub short : length text ≤ fileMost
-
 -- ---- Convert
 
 -- the pieces of a document's blocks, and a draft of them: their text, where it is no longer than the draft, and their rows
@@ -125,13 +112,6 @@ abbrev pub kindBy : Way → ℕ → Kind
 kindBy Replace k = replace k
 kindBy PutIn k = putIn k
 kindBy TakeOut k = takeOut k
-
--- where a block begins, and the converter that it begins with, in a ledger of n rows or more
-abbrev pub EndsBefore : (ledger : List ℕ) (k : ℕ) (r : ℕ) → Type 0
-EndsBefore ledger k r = (n : ℕ) → k ≤ n → r ≡ endBefore k (decodeRows n ledger)
-
-abbrev pub CarriesBefore : (ledger : List ℕ) (k : ℕ) (m : LaTeXMode) (r : Converter) → Type 0
-CarriesBefore ledger k m r = (n : ℕ) → k ≤ n → Carried (newOf m) (carryBefore k (decodeRows n ledger)) r
 
 -- The blocks from a standing on were measured up to another, of n blocks where there were `was`: their pieces, and a ledger of the kept
 -- blocks that fits the kept text.
@@ -195,9 +175,32 @@ MeasuresAgain rules index rows text from n was kept r =
     (walkUntil (converterOf (w .given)) (carryOf (from .walked .converter)) (rowNo from) (listed (w .given .blocks))
     (carriesOn (keptBlock (suc (from .block)) n was) (decodeRows was kept))))
 
+-- a change over a document's blocks
 abbrev pub ChangesBlocks :
-    (rules index rows text : List ℕ) (m : LaTeXMode) (n : ℕ) (way : Way) (k kept : ℕ) (out ledger : List ℕ) (r : Edited)
+    (rules index rows text : List ℕ) (m : LaTeXMode) (n : ℕ) (kind : Kind) (kept : ℕ) (out ledger : List ℕ) (r : Edited)
     (out′ ledger′ : List ℕ) → Type 0
-ChangesBlocks rules index rows text m n way k kept out ledger r out′ ledger′ =
+ChangesBlocks rules index rows text m n kind kept out ledger r out′ ledger′ =
     (w : Document rules index rows text n)
-    → Gives (changeChecked (blocksIn m (w .rs)) (good (listed (w .blocks))) (kindBy way k) kept out ledger) (answerOfEdit r) out′ ledger′
+    → Gives (changeChecked (blocksIn m (w .rs)) (good (listed (w .blocks))) kind kept out ledger) (answerOfEdit r) out′ ledger′
+
+-- ---- several blocks replaced together
+
+-- The stretches of the named blocks were planned: with them the text has so many bytes before what is kept after the last, as far as a
+-- row can say it. The ledger of the kept blocks fits the kept text.
+pub record PlanMade (rules index rows text : List ℕ) (m : LaTeXMode) (n kept : ℕ) (plan : List ℕ) (p : Planned) (out ledger : List ℕ) : Type 0 where
+  pub document : Document rules index rows text n
+  pub ss : List Stretch
+  pub laid : LaidOut document m ledger 0 ss plan
+  pub block : p .block ≡ afterAll 0 ss
+  pub count : p .count ≡ comeCount ss
+  pub low : p .at ≤ 2 * cap * blocksMost
+  pub placed : min cap (p .at) ≡ min cap (placeAfter (decodeRows n ledger) 0 0 ss)
+  pub fitting : fits n kept ledger ≡ true
+  pub inside : kept ≤ length out
+
+abbrev pub ExchangesPlanned :
+    (rules index rows text : List ℕ) (m : LaTeXMode) (n kept : ℕ) (plan : List ℕ) (p : Planned) (out ledger : List ℕ) (r : Edited)
+    (out′ ledger′ : List ℕ) → Type 0
+ExchangesPlanned rules index rows text m n kept plan p out ledger r out′ ledger′ =
+    (w : PlanMade rules index rows text m n kept plan p out ledger)
+    → Gives (exchange n kept (decodeRows n ledger) (w .ss) out ledger) (answerOfEdit r) out′ ledger′

@@ -1,10 +1,12 @@
-// Convert, and the three changes of one block, for any caller with any bytes: the files are checked, the blocks measured, and only then any
-// lent byte is written.
+// Convert, the three changes of one block, and several blocks replaced together, for any caller with any bytes: the files are checked, the
+// blocks measured, and only then any lent byte is written.
 use ledger::ROW_SIZE;
 use mitex_meaning::Converter;
 use mitex_meaning::LaTeXMode;
 use mitex_spec::INDEX_SIZE;
 use passes::Standing;
+use stretches::PLAN_SIZE;
+use stretches::Planned;
 use tree_file::BLOCKS_MOST;
 use tree_file::Checked;
 ghost use mathlib.Core.Path.{_≡_};
@@ -25,12 +27,12 @@ ghost use Rattle.edit_meaning.specs.Edit.{textMost, roomForText, carryBefore};
 ghost use Rattle.edit_meaning.specs.Run.{sizeAfter};
 ghost use Rattle.edit_meaning.specs.Calls.{Converts, Edits};
 ghost use Rattle.edit_meaning.specs.Changes.{namedThere, oldCount, changeFits};
-ghost use Rattle.edit_meaning.specs.Changes.Kind.{putIn, takeOut};
+ghost use Rattle.edit_meaning.specs.Changes.Kind.{putIn, takeOut, replaceAll};
 ghost use Rattle.edit_meaning.specs.ChangeCalls.{Alters, RunsChanges, DemandedChanges};
-ghost use Rattle.passes.specs.Passes.{BlocksUpTo};
+ghost use Rattle.passes.specs.Passes.{Document, BlocksUpTo};
 ghost use Rattle.manuscript.specs.Manuscript.{modeOf, manuscript};
-ghost use Rattle.calls.specs.Calls.{answerOfConvert, answerOfEdit, openTree, opened, CallBegins, blockRows, Document, Draft};
-ghost use Rattle.calls.specs.Calls.{Delivers, ConvertsBlocks, kindBy, EndsBefore, CarriesBefore, Measured, Roomy, Overwrites, Splices, MeasuresAgain, ChangesBlocks};
+ghost use Rattle.calls.specs.Calls.{answerOfConvert, answerOfEdit, openTree, opened, CallBegins, blockRows, Draft};
+ghost use Rattle.calls.specs.Calls.{Delivers, ConvertsBlocks, kindBy, Measured, Roomy, Overwrites, Splices, MeasuresAgain, ChangesBlocks, PlanMade, ExchangesPlanned};
 ghost use Rattle.calls.specs.Three.{threeChanges, threeAnswers};
 
 // A text buffer counts as at most so many bytes.
@@ -404,28 +406,6 @@ pub fn convert_math<'a>(
 
 // ---- a change of one block
 
-// Where block `k` begins, by the row before it.
-fn end_before(ledger: &[u8], k: usize) -> usize
-    requires { ⌜ (0 < k → HasRow (k - 1) (now ledger)) ⌝ }
-    ensures { λ r. ⌜ EndsBefore (now (ledger .entry)) k r × (r < cap) ⌝ }
-{
-    if k == 0 {
-        return 0;
-    }
-    ledger::row_end(ledger, k - 1)
-}
-
-// The converter with which block `k` begins, by the row before it.
-fn carry_before(ledger: &[u8], k: usize, mode: LaTeXMode) -> Converter
-    requires { ⌜ (0 < k → RowFits (k - 1) (now ledger)) ⌝ }
-    ensures { λ r. ⌜ CarriesBefore (now (ledger .entry)) k mode r ⌝ }
-{
-    if k == 0 {
-        return Converter::opening(mode);
-    }
-    ledger::row_carry(ledger, k - 1, Converter::opening(mode))
-}
-
 // How many blocks the document had before.
 fn old_count(way: Way, blocks: usize) -> usize
     requires { ⌜ blocks ≤ blocksMost ⌝ }
@@ -554,7 +534,7 @@ fn splice<'a>(
         (now (out .entry)) (now (ledger .entry)) r (now (out .exit)) (now (ledger .exit)) ⌝ }
 {
     let q = m.block + was - blocks;
-    let old = end_before(ledger, q);
+    let old = passes::end_before(ledger, q);
     let walked = m.walked;
     let new = walked.at + (kept - old);
     if !has_room(out, ledger, new, blocks) {
@@ -635,14 +615,14 @@ fn change_blocks<'a>(
 ) -> Edited
     requires { ⌜ Document (now rules) (now index) (now rows) (now text) blocks ⌝ }
     ensures { λ r. ⌜ ChangesBlocks (now (rules .entry)) (now (index .entry)) (now (rows .entry))
-        (now (text .entry)) mode blocks way block kept (now (out .entry)) (now (ledger .entry)) r (now (out .exit)) (now (ledger .exit)) ⌝ }
+        (now (text .entry)) mode blocks (kindBy way block) kept (now (out .entry)) (now (ledger .entry)) r (now (out .exit)) (now (ledger .exit)) ⌝ }
 {
     if !change_fits(way, blocks, block, kept, out, ledger) {
         return Edited::Refused { number: 6, row: 0 };
     }
     let was = old_count(way, blocks);
-    let at = end_before(ledger, block);
-    let from = passes::stand_at(rows, block, at, carry_before(ledger, block, mode));
+    let at = passes::end_before(ledger, block);
+    let from = passes::stand_at(rows, block, at, passes::carry_before(ledger, block, mode));
     let m = measure_again(rows, text, rules, index, ledger, from, blocks, was);
     let walked = m.walked;
     if walked.refusal != 0 {
@@ -749,6 +729,153 @@ pub fn remove<'a>(
         (now (ledger .entry)) (answerOfEdit r) (now (text .exit)) (now (ledger .exit)) ⌝ }
 {
     change(mode, rules, tree, Way::TakeOut, block, kept, text, ledger)
+}
+
+// ---- several blocks replaced together
+
+// Refusal 6: whether the blocks that are named can be replaced, the kept text is in the buffer, and the ledger fits.
+fn replace_fits(named: &[usize], blocks: usize, kept: usize, text: &[u8], ledger: &[u8]) -> bool
+    ensures { λ r. ⌜ r ≡ changeFits (replaceAll (now (named .entry))) blocks kept (now (text .entry)) (now (ledger .entry)) ⌝ }
+{
+    if !stretches::all_there(named, blocks) {
+        return false;
+    }
+    if text.len() < kept {
+        return false;
+    }
+    ledger::ledger_fits(ledger, blocks, kept)
+}
+
+// The stretches of a plan in the place of the kept blocks, where there is room for the new text.
+fn exchange_planned<'a>(
+    rows: &[u8],
+    text: &'a [u8],
+    rules: &'a [u8],
+    index: &[u32],
+    mode: LaTeXMode,
+    blocks: usize,
+    kept: usize,
+    plan: &[usize],
+    p: Planned,
+    out: &mut [u8],
+    ledger: &mut [u8],
+) -> Edited
+    requires { ⌜ PlanMade (now rules) (now index) (now rows) (now text) mode blocks kept (now plan) p (now out) (now ledger) ⌝ }
+    ensures { λ r. ⌜ ExchangesPlanned (now (rules .entry)) (now (index .entry)) (now (rows .entry)) (now (text .entry)) mode blocks kept
+        (now (plan .entry)) p (now (out .entry)) (now (ledger .entry)) r (now (out .exit)) (now (ledger .exit)) ⌝ }
+{
+    let new = p.at + (kept - passes::end_before(ledger, p.block));
+    if !has_room(out, ledger, new, blocks) {
+        return Edited::Refused { number: 15, row: 0 };
+    }
+    let first = passes::end_before(ledger, plan[0]);
+    stretches::exchange_from(
+        rows,
+        text,
+        rules,
+        index,
+        mode,
+        blocks,
+        plan,
+        first,
+        out,
+        ledger,
+    );
+    clear_between(out, new, kept);
+    let growth = new as i64 - kept as i64;
+    Edited::Done {
+        length: new,
+        growth,
+        count: p.count,
+    }
+}
+
+// The blocks that are named, each with those after it up to the first after which the carry is the kept one, converted again.
+fn replace_blocks<'a>(
+    rows: &[u8],
+    text: &'a [u8],
+    rules: &'a [u8],
+    index: &[u32],
+    mode: LaTeXMode,
+    blocks: usize,
+    named: &[usize],
+    kept: usize,
+    out: &mut [u8],
+    ledger: &mut [u8],
+) -> Edited
+    requires { ⌜ Document (now rules) (now index) (now rows) (now text) blocks ⌝ }
+    ensures { λ r. ⌜ ChangesBlocks (now (rules .entry)) (now (index .entry)) (now (rows .entry)) (now (text .entry)) mode blocks
+        (replaceAll (now (named .entry))) kept (now (out .entry)) (now (ledger .entry)) r (now (out .exit)) (now (ledger .exit)) ⌝ }
+{
+    if !replace_fits(named, blocks, kept, out, ledger) {
+        return Edited::Refused { number: 6, row: 0 };
+    }
+    let mut plan = [0usize; PLAN_SIZE];
+    let p = stretches::plan_stretches(
+        rows,
+        text,
+        rules,
+        index,
+        ledger,
+        mode,
+        blocks,
+        named,
+        &mut plan,
+    );
+    if p.refusal != 0 {
+        return Edited::Refused {
+            number: p.refusal,
+            row: p.row,
+        };
+    }
+    exchange_planned(
+        rows,
+        text,
+        rules,
+        index,
+        mode,
+        blocks,
+        kept,
+        &plan,
+        p,
+        out,
+        ledger,
+    )
+}
+
+// Several blocks replaced together: those that `named` lists are replaced by those of the new tree file.
+pub fn replace_all<'a>(
+    mode: u8,
+    rules: &'a [u8],
+    tree: &'a [u8],
+    named: &[usize],
+    kept: usize,
+    text: &mut [u8],
+    ledger: &mut [u8],
+) -> Edited
+    ensures { λ r. ⌜ Alters (manuscript mode (now (rules .entry))) (now (tree .entry)) (replaceAll (now (named .entry))) kept
+        (now (text .entry)) (now (ledger .entry)) (answerOfEdit r) (now (text .exit)) (now (ledger .exit)) ⌝ }
+{
+    let mut index = [0u32; INDEX_SIZE];
+    match open(mode, rules, tree, &mut index) {
+        Opened::Shut { number, row } => Edited::Refused { number, row },
+        Opened::Open {
+            mode: m,
+            start,
+            blocks,
+        } => replace_blocks(
+            block_rows(tree, start),
+            &tree[..start],
+            rules,
+            &index,
+            m,
+            blocks,
+            named,
+            kept,
+            text,
+            ledger,
+        ),
+    }
 }
 
 // ---- three calls in a row

@@ -15,4 +15,5 @@ bufferMost = rowSize * (blocksMost + 1)
 
 abbrev pub CaseHeld : ℕ → Case → Type 0
 CaseHeld n c =
-    Within n (c .name) × Within n (c .rules) × Within n (c .tree) × (c .«text_size» ≤ bufferMost) × (c .«ledger_size» ≤ bufferMost)
+    Within n (c .name) × Within n (c .rules) × Within n (c .tree) × Within n (c .list)
+    × (c .«text_size» ≤ bufferMost) × (c .«ledger_size» ≤ bufferMost)

@@ -36,9 +36,9 @@ const TEXT_DUE: u8 = 7;
 
 const LEDGER_DUE: u8 = 8;
 
-// A call and its answer, numbers of 4 bytes: 0 convert, 1 edit, 2 insertion or 3 removal; mode; block or position, and kept length (8 bytes
-// each); refusal, row or length, growth (the first of two numbers less the second), count, and how many bytes of the ledger's front the
-// case does not name.
+// A call and its answer, numbers of 4 bytes: 0 convert, 1 edit, 2 insertion, 3 removal or 4 several blocks replaced; mode; block or
+// position, and kept length (8 bytes each); refusal, row or length, growth (the first of two numbers less the second), count, and how many
+// bytes of the ledger's front the case does not name.
 const CALL: u8 = 9;
 
 const CALL_SIZE: usize = 48;
@@ -49,10 +49,20 @@ const EDIT: usize = 1;
 
 const INSERT: usize = 2;
 
+const REPLACE: usize = 4;
+
+// The numbers of the blocks that such a call replaces together, 8 bytes each.
+const BLOCKS: u8 = 10;
+
+const BLOCK_SIZE: usize = 8;
+
 // ---- what is held
 
 // How long a buffer can be: a ledger of one row more than a document has blocks at most, which a removal may read.
 const BUFFER: usize = ROW_SIZE * (BLOCKS_MOST + 1);
+
+// How many numbers of a list are read at most: more than a document has blocks, so that a list that is cut is refused as the whole is.
+const LIST_MOST: usize = 2 * BLOCKS_MOST;
 
 // How many bytes a case has at most.
 const CASE_MOST: usize = 262144;
@@ -66,11 +76,12 @@ pub struct InputPart {
     pub to: usize,
 }
 
-// Where the name and the files of a case lie, how long its buffers are, its calls so far and how often it failed.
+// Where the name, the files and the last list of a case lie, how long its buffers are, its calls so far and how often it failed.
 pub struct Case {
     pub name: InputPart,
     pub rules: InputPart,
     pub tree: InputPart,
+    pub list: InputPart,
     pub text_size: usize,
     pub ledger_size: usize,
     pub calls: usize,
@@ -209,24 +220,71 @@ fn read_u64(input: &[u8], at: usize) -> usize
     text::read_u32(input, at) + 4294967296 * high
 }
 
-// A change of one block, by its number among the calls.
-fn changed<'a>(
+// Reads the numbers of a list, as far as there is room, and answers how many it read.
+fn read_list(list: &[u8], blocks: &mut [usize]) -> usize
+    ensures { λ r. ⌜ Counts r (now (blocks .exit)) ⌝ }
+{
+    let n = list.len() / BLOCK_SIZE;
+    let mut i = 0;
+    while i < n {
+        if i == blocks.len() {
+            return i;
+        }
+        blocks[i] = read_u64(list, BLOCK_SIZE * i);
+        i += 1;
+    }
+    i
+}
+
+// The blocks of a list replaced together.
+fn replaced<'a>(
+    mode: u8,
+    rules: &'a [u8],
+    tree: &'a [u8],
+    list: &[u8],
+    kept: usize,
+    text: &mut [u8],
+    ledger: &mut [u8],
+) -> Reply {
+    let mut blocks = [0usize; LIST_MOST];
+    let n = read_list(list, &mut blocks);
+    change_reply(calls::replace_all(mode, rules, tree, &blocks[..n], kept, text, ledger))
+}
+
+// A call by its number: Convert, or a change of one block or of those of a list.
+fn call<'a>(
     kind: usize,
     mode: u8,
     rules: &'a [u8],
     tree: &'a [u8],
+    list: &[u8],
     block: usize,
     kept: usize,
     text: &mut [u8],
     ledger: &mut [u8],
 ) -> Reply {
+    if kind == CONVERT {
+        return convert_reply(calls::convert(mode, rules, tree, text, ledger));
+    }
     if kind == EDIT {
         return change_reply(calls::edit(mode, rules, tree, block, kept, text, ledger));
     }
     if kind == INSERT {
         return change_reply(calls::insert(mode, rules, tree, block, kept, text, ledger));
     }
+    if kind == REPLACE {
+        return replaced(mode, rules, tree, list, kept, text, ledger);
+    }
     change_reply(calls::remove(mode, rules, tree, block, kept, text, ledger))
+}
+
+// The bytes of a part.
+fn bytes_of(input: &[u8], part: InputPart) -> &[u8]
+    requires { ⌜ Within (length (now input)) part ⌝ }
+{
+    let from = part.from;
+    let to = part.to;
+    &input[from..to]
 }
 
 // Makes a call on a case's files and buffers.
@@ -234,32 +292,14 @@ fn ask(input: &[u8], at: usize, c: Case, text: &mut [u8], ledger: &mut [u8]) -> 
     requires { ⌜ (at + 48 ≤ length (now input)) × CaseHeld (length (now input)) c ⌝ }
     requires { ⌜ (length (now text) ≡ bufferMost) × (length (now ledger) ≡ bufferMost) ⌝ }
 {
-    let r = c.rules;
-    let t = c.tree;
-    let r_from = r.from;
-    let r_to = r.to;
-    let t_from = t.from;
-    let t_to = t.to;
     let text_size = c.text_size;
     let ledger_size = c.ledger_size;
-    let rules = &input[r_from..r_to];
-    let tree = &input[t_from..t_to];
-    let mode = input[at + 4];
-    let kind = text::read_u32(input, at);
-    if kind == CONVERT {
-        return convert_reply(calls::convert(
-            mode,
-            rules,
-            tree,
-            &mut text[..text_size],
-            &mut ledger[..ledger_size],
-        ));
-    }
-    changed(
-        kind,
-        mode,
-        rules,
-        tree,
+    call(
+        text::read_u32(input, at),
+        input[at + 4],
+        bytes_of(input, c.rules),
+        bytes_of(input, c.tree),
+        bytes_of(input, c.list),
         read_u64(input, at + 8),
         read_u64(input, at + 16),
         &mut text[..text_size],
@@ -305,10 +345,7 @@ fn fails(input: &[u8], c: Case) -> Case
     requires { ⌜ CaseHeld (length (now input)) c ⌝ }
     ensures { λ r. ⌜ CaseHeld (length (now (input .entry))) r ⌝ }
 {
-    let n = c.name;
-    let from = n.from;
-    let to = n.to;
-    print_failure(&input[from..to], c.calls);
+    print_failure(bytes_of(input, c.name), c.calls);
     let mut d = c;
     d.failed = sum(c.failed, 1);
     d
@@ -353,6 +390,10 @@ fn told(input: &[u8], tag: u8, part: InputPart, c: Case) -> Case
     }
     if tag == TREE {
         d.tree = part;
+        return d;
+    }
+    if tag == BLOCKS {
+        d.list = part;
         return d;
     }
     if tag == SIZES {
@@ -436,6 +477,7 @@ fn replay(input: &[u8]) -> Case {
         name: nothing,
         rules: nothing,
         tree: nothing,
+        list: nothing,
         text_size: 0,
         ledger_size: 0,
         calls: 0,

@@ -1,13 +1,13 @@
 -- Edit is the change `replace k` (`edit-change`), for every tree, block, kept length and buffers: what it writes is one stretch exchanged,
--- with as many blocks as before (`write-exchange`). So a run of edits is a run of changes, and demand 3 over changes has demand 3 over
--- edits in it (`of-changes`).
+-- with as many blocks as before (`write-exchange`). So is the replacement of several blocks where the list has one (`one-replaced`). So a
+-- run of edits is a run of changes, and demand 3 over changes has demand 3 over edits in it (`of-changes`).
 use mathlib.Core.Path.{_≡_, refl, sym, ap, ap₂, _∙_}
 use mathlib.Core.Bool.{Bool, true, false, _&&_, and-true, and-eq-true-iff}
 use mathlib.Core.List.{List, [], _∷_, _++_, append-assoc, append-nil}
 use Prim.Native.Nat.{ℕ, zero, suc, _+_, _*_, _-_, _≤_, _<_, max}
 use native.Mathlib.Nat.{add-zero}
 use native.Mathlib.Omega.{arith}
-use borrow.Author.Tests.{leb-true, le-leb, ltb-true, ltb-false}
+use borrow.Author.Tests.{leb-true, le-leb, ltb-true, ltb-false, le-ltb}
 use lib.ListN.{length, take, drop, getD, length-append, length-drop}
 use lib.Seq.{length-take-le}
 use lib.Dec.{leb, ltb}
@@ -21,10 +21,11 @@ use Rattle.edit_meaning.specs.Edit.{editFits, write, writeOr, again, edi
 use Rattle.edit_meaning.specs.Edit.Answer.{refused, converted, edited}
 use Rattle.edit_meaning.specs.Run.{Edit, Kept, leaves, callEdit, run, lacks, demanded, documentNext, reference}
 use Rattle.edit_meaning.specs.Run.{Allowed, tailMoved, TailsMoved, Demand3}
-use Rattle.edit_meaning.specs.Changes.{changeFits, Stretch, comeCount, stretch, remake, textOver, ledgerOver, frontOver, exchange, exchangeOr}
+use Rattle.edit_meaning.specs.Changes.{namedThere, changeFits, Stretch, comeCount, stretch, stretchThen, eachFrom, remake}
+use Rattle.edit_meaning.specs.Changes.{textOver, ledgerOver, frontOver, exchange, exchangeOr}
 use Rattle.edit_meaning.specs.Changes.{changeChecked, change, Change, callChange, runChanges, lacksNamed, demandedChange, referenceChanges}
-use Rattle.edit_meaning.specs.Changes.{AllowedChanges, changeMoved, ChangesMoved, DemandChanges}
-use Rattle.edit_meaning.specs.Changes.Kind.{replace}
+use Rattle.edit_meaning.specs.Changes.{AllowedChanges, blockCount, changeMoved, ChangesMoved, DemandChanges}
+use Rattle.edit_meaning.specs.Changes.Kind.{replace, replaceAll}
 use Rattle.edit_meaning.proofs.Bytes.{endBefore-at}
 
 -- a row that is not there ends at 0
@@ -125,6 +126,33 @@ module _ (𝓒 : BlockConverter) where
   unfolding edit change
   edit-change tree k kept text ledger = by-check (check tree) k kept text ledger
 
+  -- ---- a list of one block
+
+  named-one : (k n : ℕ) → namedThere (replaceAll (k ∷ [])) n ≡ namedThere (replace k) n
+  named-one k n = rw (le-leb 0 k (omega arith)) (and-true (ltb k n))
+
+  remake-one : (bs : List Block) (rows : List Row) (k : ℕ) → remake 𝓒 bs rows (replaceAll (k ∷ [])) ≡ remake 𝓒 bs rows (replace k)
+  unfolding remake eachFrom
+  remake-one bs rows k = rw (le-ltb k 0 (omega arith)) (go (again 𝓒 bs k rows))
+    where
+      go : (w : Walk) → stretchThen k w (λ i. eachFrom 𝓒 bs rows i []) ≡ stretch (replace k) w
+      go (stopped m i) = refl
+      go (pieces qs) = refl
+
+  checked-one :
+      (x : CheckedFile Block) (k kept : ℕ) (text ledger : List ℕ)
+      → changeChecked 𝓒 x (replaceAll (k ∷ [])) kept text ledger ≡ changeChecked 𝓒 x (replace k) kept text ledger
+  unfolding changeFits
+  checked-one (bad n i) k kept text ledger = refl
+  checked-one (good bs) k kept text ledger = rw (named-one k (length bs), remake-one bs (decodeRows (length bs) ledger) k)
+
+  -- so it is Edit
+  pub one-replaced :
+      (tree : List ℕ) (k kept : ℕ) (text ledger : List ℕ)
+      → change 𝓒 tree (replaceAll (k ∷ [])) kept text ledger ≡ change 𝓒 tree (replace k) kept text ledger
+  unfolding change
+  one-replaced tree k kept text ledger = checked-one (check tree) k kept text ledger
+
 -- ---- a run of edits is a run of changes
 
 abbrev pub asChange : Edit → Change
@@ -140,7 +168,7 @@ module _ (𝓒 : BlockConverter) where
   call-same : (s : Kept) (e : Edit) → callEdit 𝓒 s e ≡ callChange 𝓒 s (asChange e)
   call-same s e = edit-change 𝓒 (e .tree) (e .block) (s .size) (s .text) (s .ledger)
 
-  run-same : (es : List Edit) (s : Kept) → run 𝓒 s es ≡ runChanges 𝓒 s (asChanges es)
+  pub run-same : (es : List Edit) (s : Kept) → run 𝓒 s es ≡ runChanges 𝓒 s (asChanges es)
   unfolding run runChanges
   run-same [] s = refl
   run-same (e ∷ es) s =
@@ -175,11 +203,13 @@ module _ (𝓒 : BlockConverter) where
       rw (call-same s e) (one (callChange 𝓒 s (asChange e)) (m .0), rw (← call-same s e) (moved-same es _ (rw (← call-same s e) at (m .1))))
     where
       one :
-          (r : Result) → changeMoved (r .answer) (replace (e .block)) s (leaves r (s .size))
+          (r : Result) → changeMoved (r .answer) (replace (e .block)) (blockCount (check (e .tree))) s (leaves r (s .size))
           → tailMoved (r .answer) (e .block) s (leaves r (s .size))
       one r m₂ = go (r .answer) (leaves r (s .size)) m₂
         where
-          go : (a : Answer) (s′ : Kept) → changeMoved a (replace (e .block)) s s′ → tailMoved a (e .block) s s′
+          go :
+              (a : Answer) (s′ : Kept) → changeMoved a (replace (e .block)) (blockCount (check (e .tree))) s s′
+              → tailMoved a (e .block) s s′
           go (refused n i) s′ m₃ = tt
           go (converted len n) s′ m₃ = tt
           go (edited len g n) s′ m₃ = m₃

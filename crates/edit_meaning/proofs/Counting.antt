@@ -1,6 +1,6 @@
 -- The count of blocks converted again that demand 3 has, in words (`demanded-change-counts`, and so `demanded-counts`): to the first block
--- after which the conversions of both documents carry the same, or to the last. Each carries as many as it has blocks, so `countBy-first`
--- says so.
+-- after which the conversions of both documents carry the same, or to the last; of several that are replaced, these and those that begin
+-- with another carry. Each conversion carries as many as it has blocks, so `countBy-first` says so.
 use mathlib.Core.Path.{_≡_, refl, sym, ap, subst, _∙_}
 use mathlib.Core.Bool.{Bool, true, false, cond}
 use mathlib.Core.List.{List, [], _∷_}
@@ -25,7 +25,7 @@ carries-length : (ps : List Piece) → length (carries ps) ≡ length ps
 carries-length [] = refl
 carries-length (p ∷ ps) = ap suc (carries-length ps)
 
--- an accepted change: what it names is there, its conversion is accepted, and the count is the one that was worked out
+-- an accepted change: what it names can be changed, its conversion is accepted, and the count is the one that was worked out
 record AcceptedChange (b : Bool) (a : Answer) (count n : ℕ) : Type 0 where
   has : b ≡ false
   len : ℕ

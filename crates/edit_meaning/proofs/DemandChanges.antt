@@ -1,34 +1,36 @@
 -- Demand 3, over every list of changes (`demand-changes`). One change leaves buffers that hold the next document, with the answer and the
--- moved text that are demanded (`step`): by its tree's check, by whether what it names is there, by what it converts again (`remakes`,
--- which is all that a kind of change has to say), and by the room for the new text and rows. The list follows by recursion.
+-- moved text that are demanded (`step`): by its tree's check, by whether what it names can be changed, by what it converts again
+-- (`remakes`, which is all that a kind of change has to say), and by the room for the new text and rows. The list follows by recursion.
 use mathlib.Core.Path.{_≡_, refl, sym, ap, ap₂, subst, _∙_}
-use mathlib.Core.Bool.{Bool, true, false, cond}
+use mathlib.Core.Bool.{Bool, true, false, cond, and-eq-true-iff}
 use mathlib.Core.List.{List, [], _∷_, _++_, append-assoc}
 use Prim.Native.Nat.{ℕ, suc, _+_, _*_, _-_, _≤_, min, max}
 use native.Mathlib.Omega.{arith}
 use borrow.Author.Tests.{le-leb, ltb-true}
 use lib.IntN.{pos, _-ℤ_}
-use lib.ListN.{length, drop, replicate, length-append}
+use lib.ListN.{length, take, drop, replicate, length-append}
 use Rattle.mitex_meaning.specs.Conversion.{startCarry}
 use Rattle.ledger.specs.Ledger.{rowSize, encodeRows, decodeRows, Piece, written, rowsFrom}
 use Rattle.ledger.proofs.Rows.{AllEncodable, decodeRows-encode, rowsFrom-length, fits-encode}
-use Rattle.edit_meaning.specs.Walk.{CheckedFile, BlockConverter, KeepsShort, Walk, carries, walk}
+use Rattle.edit_meaning.specs.Walk.{CheckedFile, BlockConverter, KeepsShort, Walk, carries, carryAfter, walk}
 use Rattle.edit_meaning.specs.Walk.CheckedFile.{bad, good}
 use Rattle.edit_meaning.specs.Walk.Walk.{stopped, pieces}
 use Rattle.edit_meaning.specs.Edit.{Result, unchanged, textMost, room, settle, conversion, convertDocument}
 use Rattle.edit_meaning.specs.Edit.Answer.{refused, edited}
 use Rattle.edit_meaning.specs.Run.{Kept, leaves, piecesOf, editAnswer, documentAfter, Holds}
-use Rattle.edit_meaning.specs.Changes.{Kind, namedBlock, Change, namedThere, oldCount, changeFits, Stretch, comeCount, Remade, remake, frontOver, exchangeOr, change}
-use Rattle.edit_meaning.specs.Changes.{callChange, runChanges, lacksNamed, countBy, BlocksBeside, demandedChange, documentChanged, referenceChanges}
-use Rattle.edit_meaning.specs.Changes.{PermittedChange, AllowedChanges, textFromBlock, movedBy, changeMoved, ChangesMoved, DemandChanges}
-use Rattle.edit_meaning.specs.Changes.Kind.{replace, putIn, takeOut}
+use Rattle.edit_meaning.specs.Changes.{Kind, Change, riseBelow, someNamed, namedThere, oldCount, changeFits, Stretch, comeCount, Remade}
+use Rattle.edit_meaning.specs.Changes.{remake, frontOver, exchangeOr, change, callChange, runChanges, lacksNamed, countBy, BlocksBeside}
+use Rattle.edit_meaning.specs.Changes.{demandedChange, documentChanged, referenceChanges, PermittedChange, AllowedChanges}
+use Rattle.edit_meaning.specs.Changes.{textFromBlock, movedBy, blockCount, changeMoved, ChangesMoved, DemandChanges}
+use Rattle.edit_meaning.specs.Changes.Kind.{replace, putIn, takeOut, replaceAll}
 use Rattle.edit_meaning.specs.Changes.Remade.{remade}
 use Rattle.edit_meaning.proofs.Walks.{WalkedBlocks, walk-walked, walked-length}
-use Rattle.edit_meaning.proofs.Reading.{text-after}
+use Rattle.edit_meaning.proofs.Reading.{text-after, block-text, block-carry}
 use Rattle.edit_meaning.proofs.Holding.{holding, room-says, walked-encodable, rows-length, HoldsPieces, holds-pieces}
 use Rattle.edit_meaning.proofs.Holding.{StandsIn, stands-conversion, stands-encodable, stands-holds}
 use Rattle.edit_meaning.proofs.Stretches.{Spliced, exchange-spliced, frontOver-length}
 use Rattle.edit_meaning.proofs.Remaking.{Shared, PiecesMoved, Remakes, halts, comes-to, replaces, puts-in, takes-out}
+use Rattle.edit_meaning.proofs.Together.{replaces-all}
 
 -- ---- what was not converted again, in the buffers
 
@@ -42,9 +44,16 @@ module _ (ps ns : List Piece) (rest l rest′ l′ : List ℕ) (ok : AllEncodabl
       now ∙ sym was
 
   moved-pieces :
-      (k : Kind) (count : ℕ) → PiecesMoved k count ps ns
-      → movedBy k count (holding ps rest l) (holding ns rest′ l′)
-  moved-pieces k count sh = shared-after (namedBlock k + count) (namedBlock k + oldCount k count) sh
+      (k : Kind) (count blocks : ℕ) → length ns ≡ blocks → oldCount k blocks ≡ length ps → PiecesMoved k count ps ns
+      → movedBy k count blocks (holding ps rest l) (holding ns rest′ l′)
+  moved-pieces (replace k) count blocks n o sh = shared-after (k + count) (k + count) sh
+  moved-pieces (putIn k) count blocks n o sh = shared-after (k + count) (k + (count - 1)) sh
+  moved-pieces (takeOut k) count blocks n o sh = shared-after (k + count) (k + suc count) sh
+  moved-pieces (replaceAll ks) count blocks n o same =
+      λ i h e b.
+      let c : carryAfter startCarry (take i ns) ≡ carryAfter startCarry (take i ps)
+      = sym (block-carry ns rest′ l′ ok′ i (omega arith)) ∙ b ∙ block-carry ps rest l ok i (omega arith) in
+      block-text ns rest′ l′ ok′ i (omega arith) ∙ ap written (same i e c) ∙ sym (block-text ps rest l ok i (omega arith))
 
 -- the document before had as many blocks as the change says
 old-count :
@@ -52,6 +61,7 @@ old-count :
 old-count (replace k) bs bs′ h b = b .count
 old-count (putIn k) bs bs′ h b = let e : length bs′ ≡ suc (length bs) = b .count in omega arith
 old-count (takeOut k) bs bs′ h b = sym (b .count)
+old-count (replaceAll ks) bs bs′ h b = b .count
 
 module _ (𝓒 : BlockConverter) (keeps-short : KeepsShort 𝓒) where
   open BlockConverter 𝓒 using (Block, check)
@@ -63,18 +73,20 @@ module _ (𝓒 : BlockConverter) (keeps-short : KeepsShort 𝓒) where
   remakes (replace k) bs bs′ ps w h b = replaces 𝓒 bs bs′ ps w k b (ltb-true k (length bs′) h)
   remakes (putIn k) bs bs′ ps w h b = puts-in 𝓒 bs bs′ ps w k b (ltb-true k (length bs′) h)
   remakes (takeOut k) bs bs′ ps w h b = takes-out 𝓒 bs bs′ ps w k b (ltb-true k (suc (length bs′)) h)
+  remakes (replaceAll ks) bs bs′ ps w h b =
+      replaces-all 𝓒 ks bs bs′ ps w b (and-eq-true-iff (someNamed ks) (riseBelow 0 (length bs′) ks) .0 h .1)
 
   module _ (t l : List ℕ) where
     -- what one change comes to
-    record Changed (tree : List ℕ) (s : Kept) (e : Change) : Type 0 where
-      answer : (callChange 𝓒 s e) .answer ≡ demandedChange 𝓒 t l tree e
+    pub record Changed (tree : List ℕ) (s : Kept) (e : Change) : Type 0 where
+      pub answer : (callChange 𝓒 s e) .answer ≡ demandedChange 𝓒 t l tree e
       ps′ : List Piece
       rest′ : List ℕ
       l′ : List ℕ
       left : leaves (callChange 𝓒 s e) (s .size) ≡ holding ps′ rest′ l′
       stands : StandsIn 𝓒 keeps-short t l (documentChanged 𝓒 t l tree e) ps′ rest′ l′
       moved :
-          changeMoved ((callChange 𝓒 s e) .answer) (e .kind) s (leaves (callChange 𝓒 s e) (s .size))
+          changeMoved ((callChange 𝓒 s e) .answer) (e .kind) (blockCount (check (e .tree))) s (leaves (callChange 𝓒 s e) (s .size))
 
     module _ (tree : List ℕ) (ps : List Piece) (rest l₂ : List ℕ) (st : StandsIn 𝓒 keeps-short t l tree ps rest l₂) (e : Change) where
       abbrev text : List ℕ
@@ -99,7 +111,7 @@ module _ (𝓒 : BlockConverter) (keeps-short : KeepsShort 𝓒) where
       settled :
           (R : Result) → callChange 𝓒 old e ≡ R → demandedChange 𝓒 t l tree e ≡ R .answer → (ps′ : List Piece) (rest′ l′ : List ℕ)
           → leaves R kept ≡ holding ps′ rest′ l′ → StandsIn 𝓒 keeps-short t l (documentAfter (R .answer) tree (e .tree)) ps′ rest′ l′
-          → changeMoved (R .answer) (e .kind) old (leaves R kept) → Changed tree old e
+          → changeMoved (R .answer) (e .kind) (blockCount (check (e .tree))) old (leaves R kept) → Changed tree old e
       settled R r d ps′ rest′ l′ f s m =
           record {
             answer = ap (λ x. x .answer) r ∙ sym d;
@@ -108,7 +120,7 @@ module _ (𝓒 : BlockConverter) (keeps-short : KeepsShort 𝓒) where
             l′ = l′;
             left = ap (λ x. leaves x kept) r ∙ f;
             stands = subst (λ x. StandsIn 𝓒 keeps-short t l (documentAfter x tree (e .tree)) ps′ rest′ l′) (sym d) s;
-            moved = subst (λ x. changeMoved (x .answer) (e .kind) old (leaves x kept)) (sym r) m;
+            moved = subst (λ x. changeMoved (x .answer) (e .kind) (blockCount (check (e .tree))) old (leaves x kept)) (sym r) m;
           }
 
       -- a refusal leaves the document
@@ -122,7 +134,7 @@ module _ (𝓒 : BlockConverter) (keeps-short : KeepsShort 𝓒) where
       ledger-old : length (encodeRows (rowsFrom 0 ps)) ≡ rowSize * length ps
       ledger-old = rows-length ps ok
 
-      -- the tree passes the checks, has what is named, and is the document so changed
+      -- the tree passes the checks, what is named can be changed, and it is the document so changed
       module _ (bs : List Block) (ch : check (e .tree) ≡ good bs) (h : namedThere (e .kind) (length bs) ≡ true)
           (be : BlocksBeside (e .kind) (st .blocks) bs) where
         count-old : oldCount (e .kind) (length bs) ≡ length ps
@@ -208,8 +220,10 @@ module _ (𝓒 : BlockConverter) (keeps-short : KeepsShort 𝓒) where
                 textSize = ap length (ap (λ s. s .text) (sym left-is)) ∙ tn ∙ st .textSize;
                 ledgerSize = ap length (ap (λ s. s .ledger) (sym left-is)) ∙ ln ∙ st .ledgerSize;
               })
-              (subst (λ (s : Kept). movedBy (e .kind) (comeCount ss) old s) (sym left-is)
-              (moved-pieces ps ns rest l₂ restNew ledgerNew ok ok′ (e .kind) (comeCount ss) mv))
+              (rw ch
+              (subst (λ (s : Kept). movedBy (e .kind) (comeCount ss) (length bs) old s) (sym left-is)
+              (moved-pieces ps ns rest l₂ restNew ledgerNew ok ok′ (e .kind) (comeCount ss) (length bs) (sym (walked-length 𝓒 walked-new))
+              count-old mv)))
 
           room-step : (b : Bool) → room (length t) (length l) ns ≡ b → Changed tree old e
           room-step true r = accepted r
@@ -238,12 +252,12 @@ module _ (𝓒 : BlockConverter) (keeps-short : KeepsShort 𝓒) where
       step : PermittedChange 𝓒 t l tree e → Changed tree old e
       step p = check-step p (check (e .tree)) refl
 
-    changed : (tree : List ℕ) (s : Kept) → Holds 𝓒 t l tree s → (e : Change) → PermittedChange 𝓒 t l tree e → Changed tree s e
+    pub changed : (tree : List ℕ) (s : Kept) → Holds 𝓒 t l tree s → (e : Change) → PermittedChange 𝓒 t l tree e → Changed tree s e
     changed tree s ho e p =
         let f : HoldsPieces 𝓒 keeps-short t l tree s = holds-pieces 𝓒 keeps-short t l tree s ho in
         subst (λ x. Changed tree x e) (sym (f .is)) (step tree (f .ps) (f .rest) (f .l₂) (f .stands) e p)
 
-    changed-holds :
+    pub changed-holds :
         (tree : List ℕ) (s : Kept) (e : Change) → Changed tree s e
         → Holds 𝓒 t l (documentChanged 𝓒 t l tree e) (leaves (callChange 𝓒 s e) (s .size))
     changed-holds tree s e c =

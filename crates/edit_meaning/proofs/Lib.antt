@@ -1,10 +1,12 @@
 pub mod Walks
+pub mod Named
 pub mod Reading
 pub mod Holding
 pub mod Bytes
 pub mod Changes
 pub mod Stretches
 pub mod Remaking
+pub mod Together
 pub mod DemandChanges
 pub mod ChangeCalls
 pub mod Demand
@@ -16,3 +18,4 @@ pub mod Begin
 pub mod Untouched
 pub mod Counted
 pub mod Counting
+pub mod Singly

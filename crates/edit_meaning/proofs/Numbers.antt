@@ -5,7 +5,7 @@ use mathlib.Core.Bool.{Bool, true, false, _&&_, cond}
 use mathlib.Core.List.{List, [], _∷_}
 use Prim.Native.Nat.{ℕ, _+_, _*_, _-_}
 use lib.ListN.{length, drop}
-use lib.Dec.{leb}
+use lib.Dec.{leb, ltb}
 use Rattle.mitex_meaning.specs.Outcome.{Carry, Outcome}
 use Rattle.mitex_meaning.specs.Outcome.Outcome.{done, refused as declined}
 use Rattle.mitex_meaning.specs.Conversion.{startCarry}
@@ -16,9 +16,10 @@ use Rattle.edit_meaning.specs.Walk.Walk.{stopped, pieces}
 use Rattle.edit_meaning.specs.Edit.{Answer, Result, room, roomForText, settle, fromCheck, conversion, convertDocument}
 use Rattle.edit_meaning.specs.Edit.{rowCarries, again, edit}
 use Rattle.edit_meaning.specs.Numbers.{OfConvert, OfEdit}
-use Rattle.edit_meaning.specs.Changes.{Kind, oldCount, changeFits, comeCount, goneCount, Remade, stretch}
-use Rattle.edit_meaning.specs.Changes.{puttingIn, withoutFirst, takingOut, remake, textOver, exchange, exchangeOr, changeChecked, change}
-use Rattle.edit_meaning.specs.Changes.Kind.{replace, putIn, takeOut}
+use Rattle.edit_meaning.specs.Changes.{Kind, oldCount, changeFits, Stretch, comeCount, goneCount, Remade, stretch, beforeRest, stretchThen}
+use Rattle.edit_meaning.specs.Changes.{puttingIn, withoutFirst, takingOut, eachFrom, remake, textOver, exchange, exchangeOr}
+use Rattle.edit_meaning.specs.Changes.{changeChecked, change}
+use Rattle.edit_meaning.specs.Changes.Kind.{replace, putIn, takeOut, replaceAll}
 use Rattle.edit_meaning.specs.Changes.Remade.{halted, remade}
 use Rattle.edit_meaning.proofs.Changes.{edit-change}
 
@@ -61,6 +62,19 @@ module _ (P : ℕ → Type 0) where
   stretch-in k (stopped n i) h = h
   stretch-in k (pieces qs) h = tt
 
+  before-in : (s : Stretch) (x : Remade) → RemadeIn x → RemadeIn (beforeRest s x)
+  before-in s (halted n i) h = h
+  before-in s (remade ss) h = tt
+
+  then-in :
+      (k : ℕ) (w : Walk) (rest : ℕ → Remade) → WalkIn w → ((n : ℕ) → RemadeIn (rest n)) → RemadeIn (stretchThen k w rest)
+  then-in k (stopped n i) rest h g = h
+  then-in k (pieces qs) rest h g = before-in _ (rest (k + length qs)) (g (k + length qs))
+
+  either-in : (b : Bool) (x y : Remade) → RemadeIn x → RemadeIn y → RemadeIn (cond b x y)
+  either-in true x y h g = h
+  either-in false x y h g = g
+
   module _ (𝓒 : BlockConverter) (blocks : (c : Carry) (b : 𝓒 .Block) → OutcomeIn (𝓒 .convert c b)) where
     walk-in : (bs : List (𝓒 .Block)) (c : Carry) (r : ℕ) → WalkIn (walk 𝓒 c r bs)
     unfolding walk
@@ -99,11 +113,19 @@ module _ (P : ℕ → Type 0) where
       without-in c r xs [] = tt
       without-in c r xs (d ∷ ds) = stop-in (sameCarry c d) (walkUntil 𝓒 c r xs ds) (walkUntil-in xs c r ds)
 
+      each-in : (ks : List ℕ) (from : ℕ) → RemadeIn (eachFrom 𝓒 bs rows from ks)
+      unfolding eachFrom again
+      each-in [] from = tt
+      each-in (k ∷ ks) from =
+          either-in (ltb k from) _ _ (each-in ks from)
+          (then-in k (again 𝓒 bs k rows) (λ next. eachFrom 𝓒 bs rows next ks) (walkUntil-in _ _ _ _) (λ next. each-in ks next))
+
       remake-in : (k : Kind) → RemadeIn (remake 𝓒 bs rows k)
       unfolding remake again puttingIn takingOut
       remake-in (replace k) = stretch-in (replace k) (again 𝓒 bs k rows) (walkUntil-in _ _ _ _)
       remake-in (putIn k) = stretch-in (putIn k) (puttingIn 𝓒 bs rows k) (walkUntil-in _ _ _ _)
       remake-in (takeOut k) = stretch-in (takeOut k) (takingOut 𝓒 bs rows k) (without-in _ _ _ (rowCarries (drop k rows)))
+      remake-in (replaceAll ks) = each-in ks 0
 
     module _ (checks : (tree : List ℕ) (n i : ℕ) → 𝓒 .check tree ≡ bad n i → P n) (full : P 15) (six : P 6) where
       exchange-in :

@@ -1,6 +1,7 @@
--- What a change of one block converts again, beside the conversion of the new document (`Remakes`): it is halted as that conversion is
--- stopped, or its stretches turn the old pieces into the new ones, and count as demanded. A block put in is the case of a block replaced
--- whose old piece was empty and carried on what it began with; a block taken out leaves the blocks after it to begin with another carry.
+-- What a change converts again, beside the conversion of the new document (`Remakes`): it is halted as that conversion is stopped, or its
+-- stretches turn the old pieces into the new ones, and count as demanded. Here for a change of one block; Together.antt has several. A block
+-- put in is the case of a block replaced whose old piece was empty and carried on what it began with; a block taken out leaves the blocks
+-- after it to begin with another carry.
 use mathlib.Core.Path.{_≡_, refl, sym, ap, ap₂, subst, _∙_}
 use mathlib.Core.Bool.{Bool, true, false, cond}
 use mathlib.Core.List.{List, [], _∷_, _++_, append-assoc}
@@ -17,8 +18,8 @@ use Rattle.edit_meaning.specs.Walk.{BlockConverter, Walk, carries, carry
 use Rattle.edit_meaning.specs.Walk.Walk.{stopped, pieces}
 use Rattle.edit_meaning.specs.Run.{OnlyAt}
 use Rattle.edit_meaning.specs.Changes.{Kind, oldCount, namedBlock, Stretch, comeCount, Remade, stretch, puttingIn, takingOut, remake}
-use Rattle.edit_meaning.specs.Changes.{OneMore, carryAt, countFrom, countBy}
-use Rattle.edit_meaning.specs.Changes.Kind.{replace, putIn, takeOut}
+use Rattle.edit_meaning.specs.Changes.{OneMore, carryAt, countFrom, isAmong, countBy}
+use Rattle.edit_meaning.specs.Changes.Kind.{replace, putIn, takeOut, replaceAll}
 use Rattle.edit_meaning.specs.Changes.Remade.{halted, remade}
 use Rattle.edit_meaning.proofs.Walks.{carryAfter-at, ontoAll, ontoAll-pieces, ontoAll-stopped, headed}
 use Rattle.edit_meaning.proofs.Walks.{finish, resume, resume-rest}
@@ -37,7 +38,7 @@ pub record Shared (j j′ : ℕ) (ns ps : List Piece) : Type 0 where
   pub new : ns ≡ now ++ back
   pub old : ps ≡ was ++ back
 
-until-some : {ps qs : List Piece} → Until ps qs → 0 < length ps → 0 < length qs
+pub until-some : {ps qs : List Piece} → Until ps qs → 0 < length ps → 0 < length qs
 until-some at-end h = absurd (omega arith)
 until-some (met e) h = omega arith
 until-some (on-past e u) h = omega arith
@@ -47,8 +48,16 @@ drop-less zero p ps h = absurd (omega arith)
 drop-less (suc n) p ps h = ap (λ i. drop i ps) (let e : n ≡ suc n - 1 = omega arith in e)
 
 -- what was not converted again is what it was, `count` blocks being converted (`movedBy`)
+abbrev AfterMoved : Kind → ℕ → List Piece → List Piece → Type 0
+AfterMoved k count ps ns = Shared (namedBlock k + count) (namedBlock k + oldCount k count) ns ps
+
 abbrev pub PiecesMoved : Kind → ℕ → List Piece → List Piece → Type 0
-PiecesMoved k count ps ns = Shared (namedBlock k + count) (namedBlock k + oldCount k count) ns ps
+PiecesMoved (replace k) count ps ns = AfterMoved (replace k) count ps ns
+PiecesMoved (putIn k) count ps ns = AfterMoved (putIn k) count ps ns
+PiecesMoved (takeOut k) count ps ns = AfterMoved (takeOut k) count ps ns
+PiecesMoved (replaceAll ks) count ps ns =
+    (i : ℕ) → isAmong i ks ≡ false → carryAfter startCarry (take i ns) ≡ carryAfter startCarry (take i ps)
+    → take 1 (drop i ns) ≡ take 1 (drop i ps)
 
 module _ (𝓒 : BlockConverter) where
   open BlockConverter 𝓒 using (Block, rows as rowsOf)
@@ -70,6 +79,9 @@ module _ (𝓒 : BlockConverter) where
     within : oldCount kind (length qs) ≤ length (drop (namedBlock kind) ps)
     rest : drop (length qs) zs ≡ drop (oldCount kind (length qs)) (drop (namedBlock kind) ps)
     counted : length qs ≡ countBy kind (carries (single-after (namedBlock kind) ps zs qs)) (carries ps)
+    moved :
+        AfterMoved kind (length qs) ps (single-after (namedBlock kind) ps zs qs)
+        → PiecesMoved kind (length qs) ps (single-after (namedBlock kind) ps zs qs)
 
   module _ (kind : Kind) where
     abbrev k : ℕ
@@ -94,7 +106,7 @@ module _ (𝓒 : BlockConverter) where
           let n : ns ≡ a ++ (qs ++ z) = ap (λ y. a ++ (qs ++ y)) (si .rest) in
           let sp : Spliced 0 ps (s ∷ []) ns
           = at-stretch {i = 0} a m z z (sym (zero-add (length a) ∙ na)) (sym nm) p n (as-kept refl) in
-          let sh : Shared (k + length qs) (k + gone (length qs)) ns ps
+          let sh : AfterMoved kind (length qs) ps ns
           = record {
             now = a ++ qs;
             was = a ++ m;
@@ -105,7 +117,7 @@ module _ (𝓒 : BlockConverter) where
             old = p ∙ sym (append-assoc a m z);
           } in
           comes-to ns (e ∙ ontoAll-pieces a (qs ++ drop (length qs) zs)) sp (add-zero (length qs) ∙ si .counted)
-          (subst (λ count. PiecesMoved kind count ps ns) (sym (add-zero (length qs))) sh)
+          (subst (λ count. PiecesMoved kind count ps ns) (sym (add-zero (length qs))) (si .moved sh))
 
       single-walk :
           (w : Walk) → walk 𝓒 startCarry 1 bs ≡ ontoAll (take k ps) (finish w zs)
@@ -172,6 +184,7 @@ module _ (𝓒 : BlockConverter) where
               counted =
                   until-count un
                   ∙ ap₂ (λ cs ds. countTo cs ds) (sym (carries-after k ps zs qs (omega (arith, replaced-at)))) (sym (carries-drop k ps));
+              moved = λ sh. sh;
             }
 
         pub replaces : Remakes (replace k) bs′ ps (remake 𝓒 bs′ (rowsFrom 0 ps) (replace k))
@@ -205,7 +218,6 @@ module _ (𝓒 : BlockConverter) where
             let n : length (drop k bs′) ≡ length (blank ∷ zs) = rw (length-drop k bs′, length-drop k ps) (omega (arith, one-more-count)) in
             let un : Until (blank ∷ zs) qs = walkUntil-until 𝓒 (drop k bs′) (blank ∷ zs) n c r qs u in
             let some : 0 < length qs = until-some un (omega arith) in
-            let j : k + (length qs - 1) ≡ k + length qs - 1 = omega arith in
             record {
               within = omega (arith, until-within un);
               rest = drop-less (length qs) blank zs some;
@@ -213,6 +225,7 @@ module _ (𝓒 : BlockConverter) where
                   until-count un
                   ∙ ap₂ (λ cs ds. countTo cs ds) (sym (carries-after k ps (blank ∷ zs) qs put-at))
                   (ap₂ (λ d ds. d ∷ ds) (sym (carryAt-carries k ps)) (sym (carries-drop k ps)));
+              moved = λ sh. sh;
             }
 
         putting-rows : puttingIn 𝓒 bs′ (rowsFrom 0 ps) k ≡ walkUntil 𝓒 c r (drop k bs′) (carries (blank ∷ zs))
@@ -268,11 +281,11 @@ module _ (𝓒 : BlockConverter) where
               (b : Bool) → sameCarry c (p .after) ≡ b → (qs : List Piece) → out b ≡ pieces qs → Single (takeOut k) ps zs₂ qs
           taken-out-single b e qs u =
               let i : suc k + length qs ≡ k + suc (length qs) = omega arith in
-              let j : k + suc (length qs) ≡ k + length qs + 1 = omega arith in
               record {
                 within = omega (arith, taken-at, length-drop k ps, length-drop (suc k) ps, taken-out-within b qs u);
                 rest = drop-drop (length qs) (suc k) ps ∙ ap (λ n. drop n ps) i ∙ sym (drop-drop (suc (length qs)) k ps);
                 counted = taken-out-count b e qs u;
+                moved = λ sh. sh;
               }
 
           taking-rows : takingOut 𝓒 bs′ (rowsFrom 0 ps) k ≡ out (sameCarry c (p .after))

@@ -1,5 +1,5 @@
--- Refusal 6 is demanded exactly when, past 1 to 5, the named block does not exist (`demanded-six`), or what a change names is not there
--- (`demanded-change-six`): no check, no block and no lack of room gives it.
+-- Refusal 6 is demanded exactly when, past 1 to 5, the named block does not exist (`demanded-six`), or what a change names cannot be
+-- changed (`demanded-change-six`): no check, no block and no lack of room gives it.
 use mathlib.Core.Path.{_≡_, refl}
 use mathlib.Core.Logic.{_≢_, _↔_}
 use mathlib.Core.Bool.{Bool, true, false, cond}

@@ -9,30 +9,19 @@ use native.Mathlib.Nat.{add-zero, zero-add}
 use native.Mathlib.Omega.{arith}
 use lib.IntN.{pos, _-ℤ_}
 use lib.ListN.{length, take, drop, length-append, length-drop, length-replicate}
-use lib.Seq.{take-append-seam, drop-append-seam, take-at, drop-at}
+use lib.Seq.{take-append-seam, take-at, drop-at}
 use Rattle.mitex_meaning.specs.Parts.{between}
 use Rattle.ledger.specs.Ledger.{rowSize, encodeRows, moveRows, Piece, written, rowsFrom}
 use Rattle.ledger.proofs.Rows.{AllEncodable, encodable-left, encodable-right, encodeRows-length, rowsFrom-length}
 use Rattle.ledger.proofs.Rows.{written-append, rowsFrom-append, moveRows-encode}
-use Rattle.edit_meaning.specs.Edit.{unchanged, room, endBefore}
+use Rattle.edit_meaning.specs.Edit.{unchanged, room}
 use Rattle.edit_meaning.specs.Edit.Answer.{edited}
 use Rattle.edit_meaning.specs.Changes.{Stretch, blockAfter, comeCount, goneCount, textFrom, textOver, ledgerFrom, ledgerOver, frontOver, exchange}
-use Rattle.edit_meaning.proofs.Reading.{endBefore-rows}
+use Rattle.edit_meaning.proofs.Reading.{end-of, between-part}
 
--- ---- a kept part, a, after the pieces x
-
-end-of : (whole x z : List Piece) (j : ℕ) → whole ≡ x ++ z → length x ≡ j → endBefore j (rowsFrom 0 whole) ≡ length (written x)
-end-of whole x z j e n = rw (e, ← n) (endBefore-rows x z)
+-- ---- the rows of a kept part, a, after the pieces x
 
 module _ (x a y : List Piece) where
-  between-part :
-      (rest : List ℕ) → between (length (written x)) (length (written (x ++ a))) (written (x ++ (a ++ y)) ++ rest) ≡ written a
-  between-part rest =
-      let e : written (x ++ (a ++ y)) ++ rest ≡ written x ++ (written a ++ (written y ++ rest))
-      = rw (written-append x (a ++ y), written-append a y) (simp append-assoc) in
-      let n : length (written (x ++ a)) - length (written x) ≡ length (written a) = rw (written-append x a, length-append) (omega arith) in
-      rw (e, n, drop-append-seam (written x)) (take-append-seam (written a) (written y ++ rest))
-
   rows-part :
       AllEncodable (rowsFrom 0 (x ++ (a ++ y))) → (now : ℕ) (l : List ℕ)
       → moveRows (length a) (length (written x)) now (drop (rowSize * length x) (encodeRows (rowsFrom 0 (x ++ (a ++ y))) ++ l))

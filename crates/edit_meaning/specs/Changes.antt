@@ -1,14 +1,16 @@
--- Changes of one block under one rule: a block replaced (Edit), put in or taken out. A change comes to STRETCHES: from a block on, some
--- kept blocks give way to the pieces of blocks converted again; what stands after them is moved. Each kind comes to one stretch: in a
--- replacement as many blocks go as come (Edit is this change: `edit-change`), in an insertion one less, in a removal one more.
+-- Changes under one rule: a block replaced (Edit), put in or taken out, or several blocks replaced together. A change comes to STRETCHES:
+-- from a block on, some kept blocks give way to the pieces of blocks converted again; what stands after them is moved. A change of one
+-- block comes to one stretch: in a replacement as many blocks go as come (Edit is this change: `edit-change`), in an insertion one less,
+-- in a removal one more. Several blocks replaced together come to stretches like that of Edit, one after the other; a list of one is Edit
+-- (`one-replaced`).
 use mathlib.Core.Path.{_≡_}
-use mathlib.Core.Logic.{_≢_}
-use mathlib.Core.Bool.{Bool, true, false, _&&_, not, cond}
+use mathlib.Core.Logic.{_≢_, _⊎_, _↔_}
+use mathlib.Core.Bool.{Bool, true, false, _&&_, _||_, not, cond}
 use mathlib.Core.List.{List, [], _∷_, _++_}
-use Prim.Native.Nat.{ℕ, suc, _+_, _*_, _-_, max}
+use Prim.Native.Nat.{ℕ, suc, _+_, _*_, _-_, _<_, max}
 use lib.IntN.{pos, _-ℤ_}
 use lib.ListN.{length, take, drop, getD, replicate}
-use lib.Dec.{leb, ltb}
+use lib.Dec.{eqb, leb, ltb}
 use Rattle.mitex_meaning.specs.Outcome.{Carry}
 use Rattle.mitex_meaning.specs.Conversion.{startCarry}
 use Rattle.mitex_meaning.specs.Parts.{between}
@@ -22,32 +24,45 @@ use Rattle.edit_meaning.specs.Run.{Kept, Run, Reference, leaves, editAns
 
 -- ---- the kinds
 
--- block k replaced, a block put in before position k, block k taken out
+-- block k replaced, a block put in before position k, block k taken out, the blocks ks replaced together
 pub data Kind : Type 0 where
   replace : ℕ → Kind
   putIn : ℕ → Kind
   takeOut : ℕ → Kind
+  replaceAll : List ℕ → Kind
 
 -- the new tree file, and what was done to the one before
 pub record Change : Type 0 where
   pub tree : List ℕ
   pub kind : Kind
 
--- what a change names is there: told by the count n of the NEW tree's blocks alone. A block is put in before a position up to the old
--- count, n - 1, so a tree with no block has none to put in; one is taken out of n + 1.
+-- numbers that rise strictly, the first of them at least `least`, and stay below n
+abbrev pub riseBelow : ℕ → ℕ → List ℕ → Bool
+riseBelow least n [] = true
+riseBelow least n (k ∷ ks) = leb least k && (ltb k n && riseBelow (suc k) n ks)
+
+abbrev pub someNamed : List ℕ → Bool
+someNamed [] = false
+someNamed (k ∷ ks) = true
+
+-- What is named can be changed: it is there, and of several to be replaced there is one at least and their numbers rise strictly. That is
+-- told by the count n of the NEW tree's blocks alone. A block is put in before a position up to the old count, n - 1, so a tree with no
+-- block has none to put in; one is taken out of n + 1.
 abbrev pub namedThere : Kind → ℕ → Bool
 namedThere (replace k) n = ltb k n
 namedThere (putIn k) n = ltb k n
 namedThere (takeOut k) n = ltb k (suc n)
+namedThere (replaceAll ks) n = someNamed ks && riseBelow 0 n ks
 
 -- how many blocks the document before had
 abbrev pub oldCount : Kind → ℕ → ℕ
 oldCount (replace k) n = n
 oldCount (putIn k) n = n - 1
 oldCount (takeOut k) n = suc n
+oldCount (replaceAll ks) n = n
 
--- no refusal 6: what is named is there, the kept length is within the text buffer (that this counts as at most `textMost` bytes comes to
--- the same: `changeFits-counted`), the ledger fits the blocks that there were; for `replace` it is `editFits`
+-- no refusal 6: what is named can be changed, the kept length is within the text buffer (that this counts as at most `textMost` bytes comes
+-- to the same: `changeFits-counted`), the ledger fits the blocks that there were; for `replace` it is `editFits`
 unfoldable pub changeFits : Kind → ℕ → ℕ → List ℕ → List ℕ → Bool
 changeFits k n kept text ledger = namedThere k n && (leb kept (length text) && fits (oldCount k n) kept ledger)
 
@@ -76,16 +91,30 @@ pub data Remade : Type 0 where
   halted : ℕ → ℕ → Remade
   remade : List Stretch → Remade
 
--- the block or the position that a change names
+-- the block or the position that a change of one block names. Of several it is the first, but no definition asks for that.
 abbrev pub namedBlock : Kind → ℕ
 namedBlock (replace k) = k
 namedBlock (putIn k) = k
 namedBlock (takeOut k) = k
+namedBlock (replaceAll []) = 0
+namedBlock (replaceAll (k ∷ ks)) = k
 
--- from there on the blocks converted again take the place of as many kept ones as there were of them before
+-- what a change of one block comes to: from the named place on the blocks converted again take the place of as many kept ones as there
+-- were of them before
 abbrev pub stretch : Kind → Walk → Remade
 stretch k (stopped n i) = halted n i
 stretch k (pieces qs) = remade (record { block = namedBlock k; gone = oldCount k (length qs); come = qs } ∷ [])
+
+-- a stretch before others
+abbrev pub beforeRest : Stretch → Remade → Remade
+beforeRest s (halted n i) = halted n i
+beforeRest s (remade ss) = remade (s ∷ ss)
+
+-- From block k on the blocks converted again take the place of as many kept ones. After them comes what `rest` gives: the stretches of what
+-- is named from the block after them on.
+abbrev pub stretchThen : ℕ → Walk → (ℕ → Remade) → Remade
+stretchThen k (stopped n i) rest = halted n i
+stretchThen k (pieces qs) rest = beforeRest (record { block = k; gone = length qs; come = qs }) (rest (k + length qs))
 
 module _ (𝓒 : BlockConverter) where
   open BlockConverter 𝓒 using (Block, rows as rowsOf)
@@ -109,10 +138,19 @@ module _ (𝓒 : BlockConverter) where
     unfoldable pub takingOut : ℕ → Walk
     takingOut k = withoutFirst (carryBefore k rows) (firstRow k) (drop k bs) (rowCarries (drop k rows))
 
+    -- From each named block, with the carry of the kept row before it, until the carry is that of the kept row, or to the last block; then
+    -- from the next named block not converted yet. `from` is the first block after the stretch before: a named block below it is converted
+    -- already.
+    unfoldable pub eachFrom : ℕ → List ℕ → Remade
+    eachFrom from [] = remade []
+    eachFrom from (k ∷ ks) =
+        cond (ltb k from) (eachFrom from ks) (stretchThen k (again 𝓒 bs k rows) (λ next. eachFrom next ks))
+
     unfoldable pub remake : Kind → Remade
     remake (replace k) = stretch (replace k) (again 𝓒 bs k rows)
     remake (putIn k) = stretch (putIn k) (puttingIn k)
     remake (takeOut k) = stretch (takeOut k) (takingOut k)
+    remake (replaceAll ks) = eachFrom 0 ks
 
 -- ---- what is written
 
@@ -198,7 +236,7 @@ module _ (𝓒 : BlockConverter) where
 
 -- ---- the reference: each tree converted from its start, in buffers t and l as long
 
--- past 1 to 5, what is named is not there
+-- past 1 to 5, what is named cannot be changed
 abbrev pub lacksNamed : {Block : Type 0} → CheckedFile Block → Kind → Bool
 lacksNamed (bad n i) k = false
 lacksNamed (good bs) k = not (namedThere k (length bs))
@@ -217,20 +255,44 @@ abbrev pub countFrom : Carry → List Carry → List Carry → ℕ
 countFrom c cs [] = 0
 countFrom c cs (d ∷ ds) = cond (sameCarry c d) 0 (countTo cs ds)
 
+-- whether block i is among those named
+abbrev pub isAmong : ℕ → List ℕ → Bool
+isAmong i [] = false
+isAmong i (k ∷ ks) = eqb i k || isAmong i ks
+
+-- The blocks that are named, and those that begin with another carry than they did. c is the carry before block i and cs what the blocks
+-- from i on carry, in the new document; d and ds are those of the old one.
+abbrev pub countEach : ℕ → List ℕ → Carry → Carry → List Carry → List Carry → ℕ
+countEach i ks c d [] ds = 0
+countEach i ks c d (c′ ∷ cs) [] = 0
+countEach i ks c d (c′ ∷ cs) (d′ ∷ ds) = cond (isAmong i ks || not (sameCarry c d)) 1 0 + countEach (suc i) ks c′ d′ cs ds
+
 -- how many blocks are converted again, told by the two documents' conversions: cs new, ds old
 abbrev pub countBy : Kind → List Carry → List Carry → ℕ
 countBy (replace k) cs ds = countTo (drop k cs) (drop k ds)
 countBy (putIn k) cs ds = countTo (drop k cs) (carryAt k ds ∷ drop k ds)
 countBy (takeOut k) cs ds = countFrom (carryAt k ds) (drop k cs) (drop k ds)
+countBy (replaceAll ks) cs ds = countEach 0 ks startCarry startCarry cs ds
+
+-- n blocks of a document are converted again, and they are just those that are named or begin with another carry than they did (cs new, ds
+-- old). A stretch begins at a named block and goes on just as long as the next block begins with another carry than it did, so this is the
+-- count of all stretches.
+pub record JustThose (ks : List ℕ) (cs ds : List Carry) (n : ℕ) : Type 0 where
+  pub blocks : List ℕ
+  pub many : length blocks ≡ n
+  pub rising : riseBelow 0 (length cs) blocks ≡ true
+  pub are :
+      (i : ℕ) → i < length cs → (isAmong i blocks ≡ true) ↔ ((isAmong i ks ≡ true) ⊎ (carryAt i cs ≢ carryAt i ds))
 
 -- The same count in words, n blocks (`countBy-first`): as `FirstSame` has it, of what is compared. A removal counts none where the carry
--- before the block is its row's.
+-- before the block is its row's. Of several that are replaced, it counts them and those that begin with another carry.
 abbrev pub FirstSameBy : Kind → List Carry → List Carry → ℕ → Type 0
 FirstSameBy (replace k) cs ds n = FirstSame (drop k cs) (drop k ds) n
 FirstSameBy (putIn k) cs ds n = FirstSame (drop k cs) (carryAt k ds ∷ drop k ds) n
 FirstSameBy (takeOut k) cs ds n =
     (carryAt k ds ≡ getD ds k startCarry → n ≡ 0)
     × (carryAt k ds ≢ getD ds k startCarry → FirstSame (drop k cs) (drop (suc k) ds) n)
+FirstSameBy (replaceAll ks) cs ds n = JustThose ks cs ds n
 
 -- bs′ is bs with one block more, which stands at k
 pub record OneMore {Block : Type 0} (k : ℕ) (bs bs′ : List Block) : Type 0 where
@@ -238,16 +300,22 @@ pub record OneMore {Block : Type 0} (k : ℕ) (bs bs′ : List Block) : Type 0 w
   pub front : take k bs′ ≡ take k bs
   pub back : drop (suc k) bs′ ≡ drop k bs
 
+-- as many blocks, and the same ones but those named (`others`): `take 1 (drop i bs)` is block i of bs, if there is one
+pub record OnlyNamed {Block : Type 0} (ks : List ℕ) (bs bs′ : List Block) : Type 0 where
+  pub count : length bs′ ≡ length bs
+  pub others : (i : ℕ) → isAmong i ks ≡ false → take 1 (drop i bs′) ≡ take 1 (drop i bs)
+
 -- the old document's blocks beside the new one's
 abbrev pub BlocksBeside : {Block : Type 0} → Kind → List Block → List Block → Type 0
 BlocksBeside (replace k) bs bs′ = OnlyAt k bs bs′
 BlocksBeside (putIn k) bs bs′ = OneMore k bs bs′
 BlocksBeside (takeOut k) bs bs′ = OneMore k bs′ bs
+BlocksBeside (replaceAll ks) bs bs′ = OnlyNamed ks bs bs′
 
 module _ (𝓒 : BlockConverter) (t l : List ℕ) where
   open BlockConverter 𝓒 using (Block, check)
 
-  -- A change's answer, told by conversions from the start alone: 6 exactly when, past 1 to 5, what it names is not there; else as
+  -- A change's answer, told by conversions from the start alone: 6 exactly when, past 1 to 5, what it names cannot be changed; else as
   -- converting its tree is answered, with the growth since the document before and the count of blocks.
   unfoldable pub demandedChange : List ℕ → Change → Answer
   demandedChange old e =
@@ -264,7 +332,7 @@ module _ (𝓒 : BlockConverter) (t l : List ℕ) where
       let rest : Reference = referenceChanges (documentChanged old e) es in
       record { answers = demandedChange old e ∷ rest .answers; last = rest .last }
 
-  -- a change's tree beside the document that it meets; one that fails 1 to 5, or lacks what is named, may be any
+  -- a change's tree beside the document that it meets; one that fails 1 to 5, or in which what is named cannot be changed, may be any
   abbrev pub PermittedChange : List ℕ → Change → Type 0
   PermittedChange old e =
       (bs bs′ : List Block) → check old ≡ good bs → check (e .tree) ≡ good bs′ → namedThere (e .kind) (length bs′) ≡ true
@@ -280,24 +348,47 @@ module _ (𝓒 : BlockConverter) (t l : List ℕ) where
 abbrev pub textFromBlock : ℕ → Kept → List ℕ
 textFromBlock j s = drop (endBefore j (decodeRows j (s .ledger))) (take (s .size) (s .text))
 
--- after the n blocks converted again, from the named place on, stands the text from before, moved
-abbrev pub movedBy : Kind → ℕ → Kept → Kept → Type 0
-movedBy k n old new = textFromBlock (namedBlock k + n) new ≡ textFromBlock (namedBlock k + oldCount k n) old
+-- a change of one block: after the n blocks converted again, from the named place on, stands the text from before, moved
+abbrev pub movedAfter : Kind → ℕ → Kept → Kept → Type 0
+movedAfter k n old new = textFromBlock (namedBlock k + n) new ≡ textFromBlock (namedBlock k + oldCount k n) old
 
-abbrev pub changeMoved : Answer → Kind → Kept → Kept → Type 0
-changeMoved (refused m i) k old new = Unit {0}
-changeMoved (converted len m) k old new = Unit {0}
-changeMoved (edited len g n) k old new = movedBy k n old new
+-- the text of block i, and the carry that it begins with
+abbrev pub textOfBlock : ℕ → Kept → List ℕ
+textOfBlock i s =
+    let rows : List Row = decodeRows (suc i) (s .ledger) in between (endBefore i rows) (endBefore (suc i) rows) (s .text)
+
+abbrev pub carryOfBlock : ℕ → Kept → Carry
+carryOfBlock i s = carryBefore i (decodeRows i (s .ledger))
+
+-- What was not converted again is the text from before, moved. A change of one block goes by the count n: it is the text after the n blocks
+-- converted again. Several blocks replaced go by m, how many blocks the document has: it is the text of each block that is not named and
+-- begins with the carry that it began with. These are exactly the blocks outside those that `JustThose` names.
+abbrev pub movedBy : Kind → ℕ → ℕ → Kept → Kept → Type 0
+movedBy (replace k) n m old new = movedAfter (replace k) n old new
+movedBy (putIn k) n m old new = movedAfter (putIn k) n old new
+movedBy (takeOut k) n m old new = movedAfter (takeOut k) n old new
+movedBy (replaceAll ks) n m old new =
+    (i : ℕ) → i < m → isAmong i ks ≡ false → carryOfBlock i new ≡ carryOfBlock i old → textOfBlock i new ≡ textOfBlock i old
+
+-- the count of a tree's blocks
+abbrev pub blockCount : {Block : Type 0} → CheckedFile Block → ℕ
+blockCount (bad n i) = 0
+blockCount (good bs) = length bs
+
+abbrev pub changeMoved : Answer → Kind → ℕ → Kept → Kept → Type 0
+changeMoved (refused n i) k m old new = Unit {0}
+changeMoved (converted len n) k m old new = Unit {0}
+changeMoved (edited len g n) k m old new = movedBy k n m old new
 
 module _ (𝓒 : BlockConverter) where
   unfoldable pub ChangesMoved : Kept → List Change → Type 0
   ChangesMoved s [] = Unit {0}
   ChangesMoved s (e ∷ es) =
       let r : Result = callChange 𝓒 s e in
-      changeMoved (r .answer) (e .kind) s (leaves r (s .size)) × ChangesMoved (leaves r (s .size)) es
+      changeMoved (r .answer) (e .kind) (blockCount (𝓒 .check (e .tree))) s (leaves r (s .size)) × ChangesMoved (leaves r (s .size)) es
 
-  -- Demand 3 over edits, insertions and removals in any order; the fields are those of `Demand3`. The theorem is `demand-changes`, in
-  -- proofs/DemandChanges.antt.
+  -- Demand 3 over edits, insertions, removals and replacements of several blocks in any order; the fields are those of `Demand3`. The
+  -- theorem is `demand-changes`, in proofs/DemandChanges.antt.
   pub record DemandChanges (t l tree : List ℕ) (s : Kept) (es : List Change) : Type 0 where
     pub answers : (runChanges 𝓒 s es) .answers ≡ (referenceChanges 𝓒 t l tree es) .answers
     pub holds : Holds 𝓒 t l ((referenceChanges 𝓒 t l tree es) .last) ((runChanges 𝓒 s es) .left)

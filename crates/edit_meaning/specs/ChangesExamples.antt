@@ -27,7 +27,7 @@ emptyCheck (x ∷ xs) = cond (eqb x 255) (bad 3 0) (good (x ∷ xs))
 abbrev emptyToy : BlockConverter
 emptyToy = record { Block = ℕ; check = emptyCheck; convert = toyBlock; rows = one-row }
 
-abbrev becomes : List ℕ → Kind → Change
+abbrev pub becomes : List ℕ → Kind → Change
 becomes tree kind = record { tree = tree; kind = kind }
 
 -- from no blocks at all, and back
@@ -89,7 +89,7 @@ changes-demanded = refl
 
 -- Buffers that no conversion left, but whose ledger fits: blocks of 3, 2 and 2 bytes. One is put in before the last, and the second is
 -- taken out. Later rows move by a place and in length; the row left over is zeros, and so is what the text left; the rest stays.
-abbrev endsAt : ℕ → List ℕ
+abbrev pub endsAt : ℕ → List ℕ
 endsAt n = n ∷ replicate (rowSize - 1) 0
 
 foreign : Kept

@@ -13,8 +13,8 @@ use Rattle.edit_meaning.specs.Walk.{CheckedFile, BlockConverter, Walk, w
 use Rattle.edit_meaning.specs.Walk.CheckedFile.{bad, good}
 use Rattle.edit_meaning.specs.Walk.Walk.{stopped, pieces}
 
--- refused with a number and a row; Convert accepted, with the text's length and the count of blocks; a change of one block (an edit, an
--- insertion, a removal) accepted, with the new length, the growth and the count of blocks converted again
+-- refused with a number and a row; Convert accepted, with the text's length and the count of blocks; a change (an edit, an insertion, a
+-- removal, several blocks replaced) accepted, with the new length, the growth and the count of blocks converted again
 pub data Answer : Type 0 where
   refused : ℕ → ℕ → Answer
   converted : ℕ → ℕ → Answer

@@ -4,6 +4,8 @@ pub mod Run
 pub mod Calls
 pub mod Changes
 pub mod ChangeCalls
+pub mod Singly
 pub mod Numbers
 pub mod Examples
 pub mod ChangesExamples
+pub mod TogetherExamples

@@ -67,14 +67,14 @@ abbrev pub piecesOf : Walk → List Piece
 piecesOf (stopped n i) = []
 piecesOf (pieces ps) = ps
 
--- what an edit answers where Convert answers so: the same refusal; or the same length, the growth since the document before, and
+-- what a change answers where Convert answers so: the same refusal; or the same length, the growth since the document before, and
 -- a count
 abbrev pub editAnswer : Answer → ℕ → ℕ → Answer
 editAnswer (refused n i) old count = refused n i
 editAnswer (converted len n) old count = edited len (pos len -ℤ pos old) count
 editAnswer (edited len g n) old count = refused 0 0
 
--- the document after an edit: its tree where it is accepted
+-- the document after a change: its tree where it is accepted
 abbrev pub documentAfter : Answer → List ℕ → List ℕ → List ℕ
 documentAfter (refused n i) old new = old
 documentAfter (converted len n) old new = new

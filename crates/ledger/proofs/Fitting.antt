@@ -1,5 +1,5 @@
 -- A ledger that fits. The code goes from row to row: what the rows from i on say decides the whole (`fits-next`). Of a ledger
--- that fits, each row fits, and the lengths rise to the kept one (`fits-row`, `fits-rise`, `fits-end`).
+-- that fits, each row fits, and the lengths rise to the kept one (`fits-row`, `fits-rise`, `fits-end`, `fits-ends`).
 use mathlib.Core.Path.{_≡_, sym, ap, _∙_}
 use mathlib.Core.Bool.{Bool, true, false, _&&_, not, and-eq-true-iff}
 use mathlib.Core.List.{List}
@@ -125,6 +125,12 @@ rowsFit-rise (suc n) at kept l e (suc i) zero h k = absurd (omega arith)
 rowsFit-rise (suc n) at kept l e (suc i) (suc j) h k =
     rw (row-later i l, row-later j l) (rowsFit-rise n (fourAt 0 l) kept (drop rowSize l) (rest-fits n at kept l e) i j (omega arith) (omega arith))
 
+rowsFit-ends : (n at kept : ℕ) (l : List ℕ) → rowsFit (suc n) at kept l ≡ true → (rowAt n l) .end ≡ kept
+unfolding decodeRow
+rowsFit-ends zero at kept l e = eqb-true (fourAt 0 l) kept (rest-fits 0 at kept l e)
+rowsFit-ends (suc n) at kept l e =
+    rw (row-later n l) (rowsFit-ends n (fourAt 0 l) kept (drop rowSize l) (rest-fits (suc n) at kept l e))
+
 module _ (n kept : ℕ) (l : List ℕ) (e : fits n kept l ≡ true) where
   pub fits-long : rowSize * n ≤ length l
   unfolding fits
@@ -146,3 +152,11 @@ module _ (n kept : ℕ) (l : List ℕ) (e : fits n kept l ≡ true) where
   -- rows after the place `old` can be moved as far as the whole text can
   pub fits-movable : (old new j : ℕ) → j < n → old ≤ (rowAt j l) .end → new + (kept - old) < 4294967296 → Movable j old new l
   fits-movable old new j h b s = record { behind = b; small = omega (arith, fits-end j h) }
+
+-- the kept length is that of the last row, and 0 where there is none
+module _ (kept : ℕ) (l : List ℕ) where
+  pub fits-none : fits 0 kept l ≡ true → 0 ≡ kept
+  fits-none e = eqb-true 0 kept (rows-fit 0 kept l e)
+
+  pub fits-ends : (n : ℕ) → fits (suc n) kept l ≡ true → (rowAt n l) .end ≡ kept
+  fits-ends n e = rowsFit-ends n 0 kept l (rows-fit (suc n) kept l e)

@@ -5,3 +5,4 @@ pub mod Carrying
 pub mod Fitting
 pub mod Writing
 pub mod Moving
+pub mod Fronts

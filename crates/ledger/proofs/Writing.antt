@@ -3,11 +3,11 @@
 use mathlib.Core.Path.{_≡_, refl, sym, ap, _∙_}
 use mathlib.Core.Bool.{Bool, true, false, cond}
 use mathlib.Core.List.{List, [], _∷_, _++_, append-assoc, append-nil}
-use Prim.Native.Nat.{ℕ, _+_, _*_, _-_, _≤_, _<_}
+use Prim.Native.Nat.{ℕ, suc, _+_, _*_, _-_, _≤_, _<_}
 use native.Mathlib.Omega.{arith}
 use native.Mathlib.Nat.{zero-add}
-use lib.ListN.{length, take, drop, replicate, length-append, length-take, length-drop, take-append-drop, drop-of-length-le}
-use lib.Seq.{sets, sets-eq, length-sets, take-at, drop-at, drop-drop, length-take-le}
+use lib.ListN.{length, take, drop, set, replicate, length-append, length-take, length-drop, length-set, take-append-drop, drop-of-length-le}
+use lib.Seq.{sets, sets-eq, length-sets, take-at, drop-at, drop-drop, length-take-le, set-append-left, set-comm, take-set-le, drop-set-lt}
 use Rattle.text.specs.Numbers.{four}
 use Rattle.text.proofs.Writing.{sets-append}
 use Rattle.mitex_meaning.specs.Outcome.{labelMost}
@@ -37,6 +37,44 @@ sets-same n l i h =
     ∙ ap (λ r. take i l ++ (take n (drop i l) ++ r)) (sym (drop-drop n i l))
     ∙ ap (λ r. take i l ++ r) (take-append-drop n (drop i l))
     ∙ take-append-drop i l
+
+-- two runs of bytes stored apart from each other, in either order
+set-past : (xs l : List ℕ) (i j b : ℕ) → i + length xs ≤ j → set (sets l i xs) j b ≡ sets (set l j b) i xs
+set-past [] l i j b h = refl
+set-past (a ∷ xs) l i j b h =
+    set-past xs (set l i a) (suc i) j b (omega arith)
+    ∙ ap (λ m. sets m (suc i) xs) (set-comm l i j a b (λ e. omega arith))
+
+pub sets-swap : (xs ys l : List ℕ) (i j : ℕ) → i + length xs ≤ j → sets (sets l i xs) j ys ≡ sets (sets l j ys) i xs
+sets-swap xs [] l i j h = refl
+sets-swap xs (b ∷ ys) l i j h =
+    ap (λ m. sets m (suc j) ys) (set-past xs l i j b h) ∙ sets-swap xs ys (set l j b) i (suc j) (omega arith)
+
+-- one stored before one that stands already
+pub sets-before : (xs ys l : List ℕ) (i j : ℕ) → j ≡ i + length xs → sets (sets l j ys) i xs ≡ sets l i (xs ++ ys)
+sets-before xs ys l i j e =
+    sym (sets-swap xs ys l i j (omega arith)) ∙ ap (λ k. sets (sets l i xs) k ys) e ∙ sym (sets-append xs ys l i)
+
+-- what stands before a run is as it was, and what stands after it
+pub take-sets-le : (vs l : List ℕ) (i k : ℕ) → k ≤ i → take k (sets l i vs) ≡ take k l
+take-sets-le [] l i k h = refl
+take-sets-le (v ∷ vs) l i k h = take-sets-le vs (set l i v) (suc i) k (omega arith) ∙ take-set-le k l i v h
+
+pub drop-sets-le : (vs l : List ℕ) (i k : ℕ) → i + length vs ≤ k → drop k (sets l i vs) ≡ drop k l
+drop-sets-le [] l i k h = refl
+drop-sets-le (v ∷ vs) l i k h = drop-sets-le vs (set l i v) (suc i) k (omega arith) ∙ drop-set-lt k l i v (omega arith)
+
+-- a run of bytes stored in the front of a list
+sets-left : (vs a b : List ℕ) (i : ℕ) → i + length vs ≤ length a → sets (a ++ b) i vs ≡ sets a i vs ++ b
+sets-left [] a b i h = refl
+sets-left (v ∷ vs) a b i h =
+    ap (λ l. sets l (suc i) vs) (set-append-left a b i v (omega arith))
+    ∙ sets-left vs (set a i v) b (suc i) (omega (arith, length-set a i v))
+
+pub front-stored : (l vs : List ℕ) (i k : ℕ) → i + length vs ≤ k → k ≤ length l → sets (take k l) i vs ++ drop k l ≡ sets l i vs
+front-stored l vs i k h h′ =
+    sym (sets-left vs (take k l) (drop k l) i (omega (arith, length-take-le k l h′)))
+    ∙ ap (λ x. sets x i vs) (take-append-drop k l)
 
 -- a part of k bytes from a on, written anew
 pub part-written : (l ys : List ℕ) (a k : ℕ) → length ys ≡ k → a + k ≤ length l → take a l ++ (ys ++ drop k (drop a l)) ≡ sets l a ys

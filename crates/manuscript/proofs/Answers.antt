@@ -1,6 +1,5 @@
--- What Convert and the changes of one block, Edit among them, answer, in every mode, with any files and any buffers: a refusal with one of
--- the numbers 1 to 15, or a result of their own kind. The numbers are those of the checks and of the blocks (`numbered`), 6 of changes, and
--- 15.
+-- What Convert and the changes, Edit among them, answer, in every mode, with any files and any buffers: a refusal with one of the numbers 1
+-- to 15, or a result of their own kind. The numbers are those of the checks and of the blocks (`numbered`), 6 of changes, and 15.
 use mathlib.Core.Path.{_≡_}
 use mathlib.Core.Logic.{_≢_}
 use mathlib.Core.List.{List}

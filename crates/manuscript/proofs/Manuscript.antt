@@ -1,4 +1,4 @@
--- What the theorem over lists of edits asks of a converter of blocks holds of this one (`keeps-short`, `numbered`); past the checks a
+-- What the theorem over lists of changes asks of a converter of blocks holds of this one (`keeps-short`, `numbered`); past the checks a
 -- call goes by the blocks (`opened-as`); and the blocks one after the other are the document (`walk-blocks`, `walk-root`).
 use mathlib.Core.Path.{_≡_, refl, sym, ap, subst, _∙_}
 use mathlib.Core.Bool.{Bool, true, false, _&&_, cond}

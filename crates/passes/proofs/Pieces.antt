@@ -1,9 +1,9 @@
 -- Laws of the pieces that a walk comes to: they are given by the first of its blocks one after the other (`walk-gives`), no more than
 -- there are blocks, each with a label that has room in a row.
-use mathlib.Core.Path.{_≡_, refl, sym, subst}
+use mathlib.Core.Path.{_≡_, refl, sym, ap, subst}
 use mathlib.Core.Bool.{Bool, true, false, cond}
 use mathlib.Core.List.{List, [], _∷_}
-use Prim.Native.Nat.{ℕ, _+_, _≤_, min}
+use Prim.Native.Nat.{ℕ, _+_, _≤_, _<_, min}
 use native.Mathlib.Omega.{arith}
 use lib.ListN.{length}
 use Rattle.text.specs.Writing.{cap}
@@ -78,6 +78,22 @@ module _ (𝓒 : BlockConverter) where
   pub gives-short : KeepsShort 𝓒 → {c : Carry} {bs : List Block} {ps : List Piece} → Short c → FirstPieces 𝓒 c bs ps → AllShort ps
   gives-short keeps h none-yet = short-none
   gives-short keeps h (one-more {c} {c′} {b} {t = t} e g) = let s = keeps c c′ b t h e in short-more s (gives-short keeps s g)
+
+-- ---- where there is a block, and a carry to compare with, one is converted
+some-onto : (p : Piece) (v : Walk) (qs : List Piece) → onto p v ≡ pieces qs → 0 < length qs
+some-onto p (stopped n i) qs e = let z : _≡_ {A = ℕ} 0 1 = cc in absurd (omega arith)
+some-onto p (pieces ps) qs e = let q : p ∷ ps ≡ qs = cc in omega (arith, ap length q)
+
+some-next : (o : Outcome) (r : ℕ) (d : Carry) (f : Carry → Walk) (qs : List Piece) → nextUntil o r d f ≡ pieces qs → 0 < length qs
+some-next (refused n i) r d f qs e = let z : _≡_ {A = ℕ} 0 1 = cc in absurd (omega arith)
+some-next (done c t) r d f qs e = some-onto (record { text = t; after = c }) (cond (sameCarry c d) (pieces []) (f c)) qs e
+
+pub some-until :
+    (𝓒 : BlockConverter) (c : Carry) (r : ℕ) (bs : List (𝓒 .Block)) (d : Carry) (ds : List Carry) (qs : List Piece) → 0 < length bs
+    → walkUntil 𝓒 c r bs (d ∷ ds) ≡ pieces qs → 0 < length qs
+unfolding walkUntil
+some-until 𝓒 c r [] d ds qs h e = absurd (omega arith)
+some-until 𝓒 c r (b ∷ bs) d ds qs h e = some-next (𝓒 .convert c b) r d (λ c′. walkUntil 𝓒 c′ (r + 𝓒 .rows b) bs ds) qs e
 
 -- ---- what a measuring pass came to
 

@@ -17,7 +17,7 @@ use Rattle.mitex_meaning.specs.declared.Converter.{Converter}
 use Rattle.edit_meaning.specs.Walk.{rowsAll}
 use Rattle.manuscript.specs.Manuscript.{listed}
 use Rattle.manuscript.proofs.Manuscript.{listed-count}
-use Rattle.passes.specs.Passes.{SomeBlocks, StandsBefore}
+use Rattle.passes.specs.Passes.{SomeBlocks, Reached, Reaches, StandsBefore}
 use Rattle.passes.specs.declared.Standing.{Standing}
 
 -- ---- counting blocks and their rows
@@ -33,14 +33,6 @@ rowsAll-append [] ys = omega arith
 rowsAll-append (x ∷ xs) ys = omega (arith, rowsAll-append xs ys)
 
 -- ---- before block k of a forest
-
-pub record Reached (blocks : Forest) (rows text : List ℕ) (k i j : ℕ) : Type 0 where
-  pub left : Forest
-  pub are : listed left ≡ drop k (listed blocks)
-  pub spells : SpellsAll left (drop i rows) (drop j text)
-  pub row : i ≡ 8 * rowsAll size (take k (listed blocks))
-  pub low : i ≤ length rows
-  pub begun : j ≤ length text
 
 pub reached-start : {blocks : Forest} {rows text : List ℕ} → SpellsAll blocks rows text → Reached blocks rows text 0 0 0
 reached-start {blocks} sp = record { left = blocks; are = refl; spells = sp; row = refl; low = omega arith; begun = omega arith }
@@ -84,10 +76,16 @@ module _ {blocks : Forest} {rows text : List ℕ} {k i j : ℕ} (r : Reached blo
 
 -- ---- the same of whatever forest of so many blocks the rows spell
 
-abbrev pub Reaches : (rows : List ℕ) (block k i j : ℕ) → Type 0
-Reaches rows block k i j =
-    (blocks : Forest) (text : List ℕ) → SpellsAll blocks rows text → block ≤ count blocks → length text ≤ fileMost
-    → Reached blocks rows text k i j
+-- with more blocks it holds all the more
+pub reaches-more : {rows : List ℕ} {block block′ k i j : ℕ} → block ≤ block′ → Reaches rows block k i j → Reaches rows block′ k i j
+reaches-more h r blocks text sp many short = r blocks text sp (omega arith) short
+
+-- where a pass stood
+pub stood-reaches :
+    {rows : List ℕ} {k at : ℕ} {c : Converter} {r : Standing} → StandsBefore rows k at c r → Reaches rows k k (r .i) (r .j)
+stood-reaches s blocks text sp many short =
+    let x = s blocks text sp many short in
+    record { left = x .left; are = x .are; spells = x .spells; row = x .exact; low = x .low; begun = x .begun }
 
 pub reaches-start : {rows : List ℕ} {block : ℕ} → Reaches rows block 0 0 0
 reaches-start blocks text sp many short = reached-start sp
@@ -125,6 +123,7 @@ reaches-stands {rows} {block} {r = r} x e b w blocks text sp many short =
       left = y .left;
       are = y .are;
       spells = y .spells;
+      exact = y .row;
       row = omega (arith, y .row);
       low = y .low;
       begun = y .begun;

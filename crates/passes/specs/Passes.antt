@@ -17,19 +17,31 @@ use Rattle.tree_file.specs.Layout.{blocksMost}
 use Rattle.mitex_meaning.specs.Outcome.{Carry, labelMost}
 use Rattle.mitex_meaning.specs.Outcome.Outcome.{done}
 use Rattle.mitex_meaning.specs.Conversion.{startCarry}
-use Rattle.mitex_meaning.specs.State.{carryOf}
+use Rattle.mitex_meaning.specs.State.{newOf, carryOf, Carried}
 use Rattle.mitex_meaning.specs.Contract.{placeOf, Agrees, Went}
 use Rattle.mitex_meaning.specs.declared.LaTeXEnv.the-variants.{None}
+use Rattle.mitex_meaning.specs.declared.LaTeXMode.{LaTeXMode}
 use Rattle.mitex_meaning.specs.declared.Converter.{Converter}
 use Rattle.ledger.specs.Ledger.{Row, rowSize, sameCarry, decodeRows, encodeRows, Piece, written, rowsFrom}
 use Rattle.edit_meaning.specs.Walk.{Walk, rowsAll, walk, walkUntil}
 use Rattle.edit_meaning.specs.Walk.Walk.{stopped, pieces}
 use Rattle.edit_meaning.specs.Walk.{BlockConverter}
-use Rattle.edit_meaning.specs.Edit.{carryBefore, rowCarries}
+use Rattle.edit_meaning.specs.Edit.{endBefore, carryBefore, rowCarries}
 use Rattle.manuscript.specs.Manuscript.{listed, block, blocksIn}
 use Rattle.passes.specs.declared.Standing.{Standing}
 
 -- ---- what is given
+
+-- a document past the checks: its rules, and its blocks, spelt by the rows after the root's
+pub record Document (rules index rows text : List ℕ) (n : ℕ) : Type 0 where
+  pub rs : List Rule
+  pub ready : Ready rules index rs
+  pub blocks : Forest
+  pub spells : SpellsAll blocks rows text
+  pub many : count blocks ≡ n
+  pub most : n ≤ blocksMost
+  pub few : length rows ≤ fileMost
+  pub short : length text ≤ fileMost
 
 -- a converter outside of all environments, whose label has room
 pub record Outside (c : Converter) : Type 0 where
@@ -91,7 +103,29 @@ pub record SomeBlocks (rows : List ℕ) (block : ℕ) : Type 0 where
   pub few : length rows ≤ fileMost
   pub short : length text ≤ fileMost
 
+-- before block k of some blocks: those from it on are spelt by the rows from byte i and the text from byte j on
+pub record Reached (blocks : Forest) (rows text : List ℕ) (k i j : ℕ) : Type 0 where
+  pub left : Forest
+  pub are : listed left ≡ drop k (listed blocks)
+  pub spells : SpellsAll left (drop i rows) (drop j text)
+  pub row : i ≡ 8 * rowsAll size (take k (listed blocks))
+  pub low : i ≤ length rows
+  pub begun : j ≤ length text
+
+-- the same of whatever forest of so many blocks the rows spell
+abbrev pub Reaches : (rows : List ℕ) (block k i j : ℕ) → Type 0
+Reaches rows block k i j =
+    (blocks : Forest) (text : List ℕ) → SpellsAll blocks rows text → block ≤ count blocks → length text ≤ fileMost
+    → Reached blocks rows text k i j
+
 -- ---- what is promised
+
+-- where a block begins, and the converter that it begins with, in a ledger of n rows or more
+abbrev pub EndsBefore : (ledger : List ℕ) (k : ℕ) (r : ℕ) → Type 0
+EndsBefore ledger k r = (n : ℕ) → k ≤ n → r ≡ endBefore k (decodeRows n ledger)
+
+abbrev pub CarriesBefore : (ledger : List ℕ) (k : ℕ) (m : LaTeXMode) (r : Converter) → Type 0
+CarriesBefore ledger k m r = (n : ℕ) → k ≤ n → Carried (newOf m) (carryBefore k (decodeRows n ledger)) r
 
 -- a block was passed: t, and g are left
 pub record Stepped (rules index rows text : List ℕ) (s : Standing) (rs : List Rule) (t : Tree) (g : Forest) (out : List ℕ) (r : Standing)
@@ -115,6 +149,7 @@ pub record Stood (blocks : Forest) (rows text : List ℕ) (k at : ℕ) (c : Conv
   pub left : Forest
   pub are : listed left ≡ drop k (listed blocks)
   pub spells : SpellsAll left (drop (r .i) rows) (drop (r .j) text)
+  pub exact : r .i ≡ 8 * rowsAll size (take k (listed blocks))
   pub row : rowNo r ≡ 1 + rowsAll size (take k (listed blocks))
   pub low : r .i ≤ length rows
   pub begun : r .j ≤ length text

@@ -1,6 +1,8 @@
-// Passes over the blocks of a document, one block a turn. Convert's goes over all blocks, measures and writes. A change of one block has
-// two: one that measures up to the first block after which the carry is the kept one, and one that writes what was measured.
+// Passes over the blocks of a document, one block a turn. Convert's goes over all blocks, measures and writes. A change has two for each
+// stretch of blocks that it converts again: one that measures up to the first block after which the carry is the kept one, and one that
+// writes what was measured.
 use mitex_meaning::Converter;
+use mitex_meaning::LaTeXMode;
 use mitex_meaning::Walked;
 ghost use mathlib.Core.Path.{_≡_};
 ghost use mathlib.Core.Bool.{true, false};
@@ -12,7 +14,7 @@ ghost use Rattle.text.specs.Writing.{cap};
 ghost use Rattle.mitex_meaning.specs.Outcome.{labelMost};
 ghost use Rattle.mitex_meaning.specs.State.{carryOf};
 ghost use Rattle.ledger.specs.Ledger.{rowSize, encodeRow, HasRow, RowFits};
-ghost use Rattle.passes.specs.Passes.{BlocksGiven, BlocksUpTo, Pieced, SomeBlocks, Steps, StandsBefore, MeetsBefore, Measures, Writes};
+ghost use Rattle.passes.specs.Passes.{BlocksGiven, BlocksUpTo, Pieced, SomeBlocks, Reaches, EndsBefore, CarriesBefore, Steps, StandsBefore, MeetsBefore, Measures, Writes};
 
 // The end of a text that a row cannot say any more.
 const CAP: usize = 4294967296;
@@ -25,27 +27,67 @@ pub struct Standing {
     pub walked: Walked,
 }
 
-// After the blocks before a named one, by their rows alone.
-pub fn stand_at(rows: &[u8], block: usize, at: usize, converter: Converter) -> Standing
+// Where block `k` begins, by the row before it.
+pub fn end_before(ledger: &[u8], k: usize) -> usize
+    requires { ⌜ (0 < k → HasRow (k - 1) (now ledger)) ⌝ }
+    ensures { λ r. ⌜ EndsBefore (now (ledger .entry)) k r × (r < cap) ⌝ }
+{
+    if k == 0 {
+        return 0;
+    }
+    ledger::row_end(ledger, k - 1)
+}
+
+// The converter with which block `k` begins, by the row before it.
+pub fn carry_before(ledger: &[u8], k: usize, mode: LaTeXMode) -> Converter
+    requires { ⌜ (0 < k → RowFits (k - 1) (now ledger)) ⌝ }
+    ensures { λ r. ⌜ CarriesBefore (now (ledger .entry)) k mode r ⌝ }
+{
+    if k == 0 {
+        return Converter::opening(mode);
+    }
+    ledger::row_carry(ledger, k - 1, Converter::opening(mode))
+}
+
+// Before block `block`, by the rows of those before it alone: they are passed from block `from` on, whose rows begin at byte `i` and whose
+// text begins at byte `j`.
+pub fn stand_on(
+    rows: &[u8],
+    from: usize,
+    i: usize,
+    j: usize,
+    block: usize,
+    at: usize,
+    converter: Converter,
+) -> Standing
     requires { ⌜ SomeBlocks (now rows) block ⌝ }
+    requires { ⌜ (from ≤ block) × Reaches (now rows) block from i j ⌝ }
     ensures { λ r. ⌜ StandsBefore (now (rows .entry)) block at converter r ⌝ }
 {
-    let mut i = 0;
-    let mut j = 0;
-    let mut k = 0;
+    let mut a = i;
+    let mut b = j;
+    let mut k = from;
     while k < block {
-        let n = mitex_syntax::span_at(rows, i);
-        i += n.rows;
-        j += n.text;
+        let n = mitex_syntax::span_at(rows, a);
+        a += n.rows;
+        b += n.text;
         k += 1;
     }
     let walked = mitex_meaning::went(converter, at);
     Standing {
         block,
-        i,
-        j,
+        i: a,
+        j: b,
         walked,
     }
+}
+
+// The same from the first block on.
+pub fn stand_at(rows: &[u8], block: usize, at: usize, converter: Converter) -> Standing
+    requires { ⌜ SomeBlocks (now rows) block ⌝ }
+    ensures { λ r. ⌜ StandsBefore (now (rows .entry)) block at converter r ⌝ }
+{
+    stand_on(rows, 0, 0, 0, block, at, converter)
 }
 
 // The next block, converted. It stands one row after those before it, since the root is row 0.

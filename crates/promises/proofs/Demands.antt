@@ -32,7 +32,8 @@ use Rattle.edit_meaning.proofs.Holding.{room-says, rows-length, walked-encodabl
 use Rattle.edit_meaning.proofs.Untouched.{convert-untouched, change-untouched, edit-untouched}
 use Rattle.edit_meaning.proofs.Begin.{converts-holds, converts-starts}
 use Rattle.edit_meaning.proofs.Calls.{runs-demanded}
-use Rattle.edit_meaning.proofs.ChangeCalls.{edits-alter, alters-demanded, converted-demanded}
+use Rattle.edit_meaning.proofs.ChangeCalls.{edits-alter, edits-one, alters-converted, alters-demanded, converted-demanded}
+use Rattle.edit_meaning.proofs.Singly.{alters-singly}
 use Rattle.edit_meaning.proofs.Six.{demanded-change-six, demanded-six}
 use Rattle.edit_meaning.proofs.Counting.{demanded-change-counts, demanded-counts}
 use Rattle.manuscript.specs.Manuscript.{modeOf, listed, manuscript, blocksIn, together}
@@ -166,11 +167,16 @@ demand-3 =
           same-text same-rows;
       runs = λ mode rules kept text ledger es said kept′ text′ ledger′ r.
           alters-demanded (manuscript mode rules) (keeps-short (modeOf mode) (rulesOf rules)) r;
+      afresh = λ mode rules t l old kept text ledger ho e may has a text′ ledger′ al b text″ ledger″ co.
+          alters-converted (manuscript mode rules) (keeps-short (modeOf mode) (rulesOf rules)) ho may has al co;
+      singly = λ mode rules t l old new bs bs′ ks es kept text ledger ho c c′ named only si a text′ ledger′ al said kept″ text″ ledger″ ru acs.
+          alters-singly (manuscript mode rules) (keeps-short (modeOf mode) (rulesOf rules)) t l ho c c′ named only si al ru acs;
       blocks = same-tree;
       six = λ mode rules t l old e. demanded-change-six (manuscript mode rules) (numbered (modeOf mode) (rulesOf rules)) t l old e;
       counts = λ mode rules t l old s ho e p.
           demanded-change-counts (manuscript mode rules) (keeps-short (modeOf mode) (rulesOf rules)) t l old s ho e p;
       edits = λ mode rules tree block kept text ledger a text′ ledger′ c. edits-alter c;
+      one = λ mode rules tree block kept text ledger a text′ ledger′. edits-one;
       edits-list = λ mode rules tree text ledger kept blocks text′ ledger′ c es al said kept″ text″ ledger″ r.
           let ks = keeps-short (modeOf mode) (rulesOf rules) in
           let d = runs-demanded (manuscript mode rules) ks r text ledger tree

@@ -14,6 +14,7 @@ use Rattle.edit_meaning.specs.Calls.{Gives, Converts, Edits}
 use Rattle.edit_meaning.specs.ChangeCalls.{Alters}
 use Rattle.manuscript.specs.Manuscript.{manuscript}
 use Rattle.promises.specs.Starred.{zeros, Call, Trial, trial, result, hand, starred, small, small-hold, altered, altered-hold}
+use Rattle.promises.specs.Starred.{joint, joint-hold}
 use Rattle.promises.specs.Starred.Call.{convertCall, editCall, alterCall}
 
 -- ---- programs
@@ -22,7 +23,7 @@ use Rattle.promises.specs.Starred.Call.{convertCall, editCall, alterCall
 abbrev pub Program : Type 0
 Program = Call → Result
 
--- what the contracts of `convert`, `edit`, `insert` and `remove` say of a call
+-- what the contracts of `convert`, `edit`, `insert`, `remove` and `replace_all` say of a call
 abbrev pub Right : Call → Result → Type 0
 Right (convertCall mode rules tree text ledger) r =
     Converts (manuscript mode rules) tree text ledger (r .answer) (r .text) (r .ledger)
@@ -141,6 +142,23 @@ closedCall = callAt 4 altered
 -- the label's block taken out
 abbrev looseCall : Call
 looseCall = callAt 5 altered
+
+-- `one` and `six` replaced around `two`; the same, and all three, in a buffer that is full and where the first grows
+abbrev aroundCall : Call
+aroundCall = callAt 0 joint
+
+abbrev fullCall : Call
+fullCall = callAt 1 joint
+
+abbrev fullerCall : Call
+fullerCall = callAt 2 joint
+
+-- the label's block and the table replaced; two letters by a line feed and a space
+abbrev relabelledCall : Call
+relabelledCall = callAt 5 joint
+
+abbrev brokenCall : Call
+brokenCall = callAt 7 joint
 
 -- what is right for those that the tables do not have
 abbrev further : List Trial
@@ -282,4 +300,25 @@ module _ (p : Program) (meets : Meets p) where
   rows-stay = (
     λ h. let z : _≡_ {A = ℕ} 0 9 = ap (byteAt 0) (subst (RowsStay 2 takenCall) (at-call altered altered-hold 1) h) in omega arith,
     λ h. let z : _≡_ {A = ℕ} 0 160 = ap (byteAt 0) (subst (RowsStay 1 looseCall) (at-call altered altered-hold 5) h) in omega arith,
+  )
+
+  -- several replaced by converting from the first of them to the last
+  pub straight-through : (countSaid ((p aroundCall) .answer) ≡ 3 → ⊥) × (countSaid ((p fullCall) .answer) ≡ 3 → ⊥)
+  straight-through = (
+    λ h. let z : _≡_ {A = ℕ} 3 2 = sym h ∙ ap (λ r. countSaid (r .answer)) (at-call joint joint-hold 0) in omega arith,
+    λ h. let z : _≡_ {A = ℕ} 3 2 = sym h ∙ ap (λ r. countSaid (r .answer)) (at-call joint joint-hold 1) in omega arith,
+  )
+
+  -- several replaced, one of which was converted again before and now counts twice
+  pub counted-twice : (countSaid ((p relabelledCall) .answer) ≡ 3 → ⊥) × (countSaid ((p brokenCall) .answer) ≡ 3 → ⊥)
+  counted-twice = (
+    λ h. let z : _≡_ {A = ℕ} 3 2 = sym h ∙ ap (λ r. countSaid (r .answer)) (at-call joint joint-hold 5) in omega arith,
+    λ h. let z : _≡_ {A = ℕ} 3 2 = sym h ∙ ap (λ r. countSaid (r .answer)) (at-call joint joint-hold 7) in omega arith,
+  )
+
+  -- several replaced by edits one by one, with 15 for a length in between
+  pub between-fifteen : ((p fullCall) .answer ≡ refused 15 0 → ⊥) × ((p fullerCall) .answer ≡ refused 15 0 → ⊥)
+  between-fifteen = (
+    λ h. let z : _≡_ {A = ℕ} 15 0 = ap numberSaid (sym h ∙ ap (λ r. r .answer) (at-call joint joint-hold 1)) in omega arith,
+    λ h. let z : _≡_ {A = ℕ} 15 0 = ap numberSaid (sym h ∙ ap (λ r. r .answer) (at-call joint joint-hold 2)) in omega arith,
   )

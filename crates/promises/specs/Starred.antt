@@ -1,7 +1,7 @@
 -- The starred ones of the cases tried by hand, as one statement over a table: files and buffers in, an answer and buffers out, all
 -- of them bytes, by the definitions that the contracts of the calls cite (`result`). The table is `hand`, the statement `starred`. A second
 -- table, `small`, has edits of three words, refused ones among them, buffers one byte too short, and a table whose last cell is open; a
--- third, `altered`, has insertions and removals.
+-- third, `altered`, has insertions and removals; a fourth, `joint`, has several blocks replaced together.
 -- A file is written as it stands: the text area, which reads like LaTeX, its rows of 8 bytes, and the trailer. Bytes that no call
 -- has written are 7, so that one sees what is left alone.
 use mathlib.Core.Path.{_≡_, refl}
@@ -30,8 +30,8 @@ use Rattle.edit_meaning.specs.Walk.{walk, walkUntil}
 use Rattle.edit_meaning.specs.Edit.{Answer, Result, roomForText, room, settle, conversion, convertDocument}
 use Rattle.edit_meaning.specs.Edit.{editFits, textAfter, ledgerAfter, write, again, edit}
 use Rattle.edit_meaning.specs.Edit.Answer.{refused, converted, edited}
-use Rattle.edit_meaning.specs.Changes.{Kind, changeFits, puttingIn, takingOut, remake, frontOver, exchange, change}
-use Rattle.edit_meaning.specs.Changes.Kind.{putIn, takeOut}
+use Rattle.edit_meaning.specs.Changes.{Kind, changeFits, puttingIn, takingOut, eachFrom, remake, frontOver, exchange, change}
+use Rattle.edit_meaning.specs.Changes.Kind.{putIn, takeOut, replaceAll}
 use Rattle.manuscript.specs.Manuscript.{manuscript}
 
 -- ---- calls
@@ -46,7 +46,7 @@ pub data Call : Type 0 where
 unfoldable pub result : Call → Result
 unfolding rulesOf rulesIn ruleRowFits risesFrom valid charSteps precedes checkTree decode lines treeRowAt grow split count depth lowest hold
     walk walkUntil conversion convertDocument settle room roomForText edit editFits again write textAfter ledgerAfter
-    change changeFits remake puttingIn takingOut exchange frontOver
+    change changeFits remake puttingIn takingOut eachFrom exchange frontOver
     encodeRow encodeCarry decodeRow fits rowFits marksFit allZero moveRow sameCarry
 result (convertCall mode rules tree text ledger) = convertDocument (manuscript mode rules) tree text ledger
 result (editCall mode rules tree block kept text ledger) = edit (manuscript mode rules) tree block kept text ledger
@@ -338,6 +338,63 @@ altered =
 pub altered-hold : map (λ c. result (c .call)) altered ≡ map (λ c. c .gives) altered
 unfolding result flatten
 altered-hold = refl
+
+-- ---- several blocks replaced together
+
+-- three words of so many bytes
+abbrev pub threeWords : String → ℕ → ℕ → ℕ → List ℕ
+threeWords s i j k = treeWith s (wordRow i ∷ wordRow j ∷ wordRow k ∷ [])
+
+-- the space before the label's block and the table
+abbrev spaceFirstTree : List ℕ
+spaceFirstTree = treeWith " ${\\label{e}}$tabular{|l|}a\\\\tabular" (spaceRow ∷ formulaRows ++ tableRows)
+
+-- a line feed and a space
+abbrev feedTree : List ℕ
+feedTree = treeWith "\n " (breakRow ∷ spaceRow ∷ [])
+
+-- `one` and `six` replaced by a letter each
+abbrev bothShort : List ℕ → Call
+bothShort ks = alterCall textMode ruleFile (threeWords "xtwoy" 1 3 1) (replaceAll ks) 9 wordsText wordsLedger
+
+abbrev pub joint : List Trial
+joint =
+    -- `one` and `six` replaced around `two`, which is moved down, or up; where the text fills its buffer, a length in between is no 15
+    trial (alterCall textMode ruleFile (threeWords "xtwoeleven" 1 3 6) (replaceAll (0 ∷ 2 ∷ [])) 9 wordsText wordsLedger)
+    (edited 10 (pos 1) 2) (ascii "xtwoeleven" ++ sevens 2) (ledgerRow (1 ∷ []) ++ ledgerRow (4 ∷ []) ++ ledgerRow (10 ∷ []) ++ sevens 2)
+    ∷ trial (alterCall textMode ruleFile (threeWords "seventwox" 5 3 1) (replaceAll (0 ∷ 2 ∷ [])) 9 (ascii "onetwosix") wordsLedger)
+    (edited 9 (pos 0) 2) (ascii "seventwox") (ledgerRow (5 ∷ []) ++ ledgerRow (8 ∷ []) ++ ledgerRow (9 ∷ []) ++ sevens 2)
+    ∷ trial (alterCall textMode ruleFile (threeWords "elevenxto" 6 1 2) (replaceAll (0 ∷ 1 ∷ 2 ∷ [])) 9 (ascii "onetwosix") wordsLedger)
+    (edited 9 (pos 0) 3) (ascii "elevenxto") (ledgerRow (6 ∷ []) ++ ledgerRow (7 ∷ []) ++ ledgerRow (9 ∷ []) ++ sevens 2)
+    -- whatever the text came from: what stands between the blocks is kept
+    ∷ trial (alterCall textMode ruleFile (threeWords "xtwoy" 1 3 1) (replaceAll (0 ∷ 2 ∷ [])) 9 (ascii "ONETWOSIX") wordsLedger)
+    (edited 5 (minus 4) 2) (ascii "xTWOy" ++ zeros 4) (ledgerRow (1 ∷ []) ++ ledgerRow (4 ∷ []) ++ ledgerRow (5 ∷ []) ++ sevens 2)
+    -- the label's block and the space after it change places: the label is held after both, so the table stays as it was
+    ∷ trial (alterCall textMode ruleFile spaceFirstTree (replaceAll (0 ∷ 1 ∷ [])) 161 spacedText spacedLedger)
+    (edited 161 (pos 0) 2) (ascii " " ++ formulaText ++ tableText ++ ascii "<e>" ++ sevens 4)
+    (ledgerRow (1 ∷ []) ++ labelRow 34 ++ ledgerRow (161 ∷ []) ++ sevens 4)
+    -- the label's block becomes `a`, and the table is converted again, as it is named or as it is not: once
+    ∷ trial (alterCall textMode ruleFile unlabelledTree (replaceAll (0 ∷ 1 ∷ [])) 160 keptText keptLedger)
+    (edited 125 (minus 35) 2) (ascii "a" ++ tableText ++ zeros 35 ++ sevens 5) (ledgerRow (1 ∷ []) ++ ledgerRow (125 ∷ []) ++ sevens 4)
+    ∷ trial (alterCall textMode ruleFile unlabelledTree (replaceAll (0 ∷ [])) 160 keptText keptLedger)
+    (edited 125 (minus 35) 2) (ascii "a" ++ tableText ++ zeros 35 ++ sevens 5) (ledgerRow (1 ∷ []) ++ ledgerRow (125 ∷ []) ++ sevens 4)
+    -- two letters become a line feed and a space, which writes nothing after it
+    ∷ trial (alterCall textMode ruleFile feedTree (replaceAll (0 ∷ 1 ∷ [])) 2 (ascii "ab") (ledgerRow (1 ∷ []) ++ ledgerRow (2 ∷ [])))
+    (edited 1 (minus 1) 2) (ascii "\n" ++ zeros 1) (flagRow 1 ++ ledgerRow (1 ∷ []))
+    -- 6: no number, equal ones, falling ones, one that is not below the count. 15: one byte too long. 11: at a row counted from the root
+    ∷ trial (bothShort []) (refused 6 0) wordsText wordsLedger
+    ∷ trial (bothShort (0 ∷ 0 ∷ [])) (refused 6 0) wordsText wordsLedger
+    ∷ trial (bothShort (2 ∷ 0 ∷ [])) (refused 6 0) wordsText wordsLedger
+    ∷ trial (bothShort (0 ∷ 3 ∷ [])) (refused 6 0) wordsText wordsLedger
+    ∷ trial (alterCall textMode ruleFile (threeWords "seventwoxy" 5 3 2) (replaceAll (0 ∷ 2 ∷ [])) 9 (ascii "onetwosix") wordsLedger)
+    (refused 15 0) (ascii "onetwosix") wordsLedger
+    ∷ trial (alterCall textMode ruleFile (treeWith "xtwo\\item" (wordRow 1 ∷ wordRow 3 ∷ itemRows)) (replaceAll (0 ∷ 2 ∷ [])) 9 wordsText wordsLedger)
+    (refused 11 3) wordsText wordsLedger
+    ∷ []
+
+pub joint-hold : map (λ c. result (c .call)) joint ≡ map (λ c. c .gives) joint
+unfolding result flatten
+joint-hold = refl
 
 -- ---- the files once more
 

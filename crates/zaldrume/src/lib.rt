@@ -1,9 +1,10 @@
-// Convert and the three changes of one block for programs in other languages, on numbers and byte slices: `include/zaldrume.h` says how
-// each passes. The answer is a refusal's number, 0 where there is none, and numbers written through the lent places.
+// Convert, the three changes of one block, and several blocks replaced together, for programs in other languages, on numbers and slices:
+// `include/zaldrume.h` says how each passes. The answer is a refusal's number, 0 where there is none, and numbers written through the lent
+// places.
 use calls::Converted;
 use calls::Edited;
 ghost use Rattle.edit_meaning.specs.Edit.{convertDocument, edit as editDocument};
-ghost use Rattle.edit_meaning.specs.Changes.{putIn, takeOut, change};
+ghost use Rattle.edit_meaning.specs.Changes.{putIn, takeOut, replaceAll, change};
 ghost use Rattle.manuscript.specs.Manuscript.{manuscript};
 ghost use Rattle.calls.specs.Calls.{answerOfEdit};
 ghost use Rattle.zaldrume.specs.Answers.{AnswerTold, Tells};
@@ -123,5 +124,27 @@ pub extern "C" fn zaldrume_remove<'a>(
         (now (ledger .entry))) r (now (place .exit)) (now (growth .exit)) (now (count .exit)) (now (text .exit)) (now (ledger .exit)) ⌝ }
 {
     let r = calls::remove(mode, rules, tree, block, kept, text, ledger);
+    tell(r, place, growth, count)
+}
+
+// Several blocks replaced together: those of the numbers `blocks`.
+#[no_mangle]
+pub extern "C" fn zaldrume_replace_all<'a>(
+    mode: u8,
+    rules: &'a [u8],
+    tree: &'a [u8],
+    blocks: &[usize],
+    kept: usize,
+    text: &mut [u8],
+    ledger: &mut [u8],
+    place: &mut usize,
+    growth: &mut i64,
+    count: &mut usize,
+) -> u8
+    ensures { λ r. ⌜ Tells (change (manuscript mode (now (rules .entry))) (now (tree .entry)) (replaceAll (now (blocks .entry))) kept
+        (now (text .entry)) (now (ledger .entry))) r (now (place .exit)) (now (growth .exit)) (now (count .exit)) (now (text .exit))
+        (now (ledger .exit)) ⌝ }
+{
+    let r = calls::replace_all(mode, rules, tree, blocks, kept, text, ledger);
     tell(r, place, growth, count)
 }

@@ -1,4 +1,4 @@
-//! Convert, edit, insertion and removal on the caller's bytes.
+//! Convert and the changes on the caller's bytes.
 
 use crate::converter::{Converter, Mode, Output};
 use crate::ledger::{self, Carry, Row, ROW_SIZE};
@@ -159,10 +159,7 @@ fn change(
     let blocks = root.children();
     let before = what.blocks_before(blocks.len(), place);
     let before = before.ok_or(Refused::whole(6))?;
-    if kept > text.len() {
-        return Err(Refused::whole(6));
-    }
-    let old = marks(ledger, before, kept).ok_or(Refused::whole(6))?;
+    let old = marks(text, ledger, before, kept).ok_or(Refused::whole(6))?;
 
     let room = text.len().min(TEXT_MOST);
     let carry = old[place].carry.clone();
@@ -175,28 +172,79 @@ fn change(
     }
     text.copy_within(part.old_end..kept, part.end);
     text[old[place].end..part.end].copy_from_slice(&part.bytes);
-    if length < kept {
-        text[length..kept].fill(0);
-    }
     write_rows(ledger, place, &part.rows);
     if blocks.len() < before {
         ledger[blocks.len() * ROW_SIZE..before * ROW_SIZE].fill(0);
     }
-    Ok(Edited {
-        length,
-        growth: length as i64 - kept as i64,
-        count: part.count,
-    })
+    Ok(edited(text, length, kept, part.count))
 }
 
-/// The kept rows after one for the start: `[i]` is what stood after `i` blocks.
-fn marks(ledger: &[u8], blocks: usize, kept: usize) -> Option<Vec<Row>> {
+/// Several blocks replaced together: text and rows are put together anew, and a block is converted
+/// where it is named or begins with another carry than the kept one.
+pub fn replace_all(
+    mode: u8,
+    rules: &[u8],
+    tree: &[u8],
+    named: &[usize],
+    kept: usize,
+    text: &mut [u8],
+    ledger: &mut [u8],
+) -> Result<Edited, Refused> {
+    let (mode, rules, root) = open(mode, rules, tree)?;
+    let blocks = root.children();
+    let rising = named.windows(2).all(|pair| pair[0] < pair[1]);
+    let there = named.last().is_some_and(|&last| last < blocks.len());
+    if !rising || !there {
+        return Err(Refused::whole(6));
+    }
+    let old = marks(text, ledger, blocks.len(), kept).ok_or(Refused::whole(6))?;
+
+    let room = text.len().min(TEXT_MOST);
+    let mut converter = Converter::new(&rules, mode, Carry::default(), Output::new(room));
+    let mut rows = Vec::new();
+    let mut count = 0;
+    for (i, block) in blocks.iter().enumerate() {
+        if named.contains(&i) || converter.carry != old[i].carry {
+            converter.convert(block)?;
+            count += 1;
+        } else {
+            converter.out.put(&text[old[i].end..old[i + 1].end]);
+            converter.carry = old[i + 1].carry.clone();
+        }
+        rows.push(Row {
+            end: converter.out.length,
+            carry: converter.carry.clone(),
+        });
+    }
+    let Output { bytes, length, .. } = converter.out;
+    if length > room {
+        return Err(Refused::whole(15));
+    }
+    text[..length].copy_from_slice(&bytes);
+    write_rows(ledger, 0, &rows);
+    Ok(edited(text, length, kept, count))
+}
+
+/// The kept rows after one for the start: `[i]` is what stood after `i` blocks. Nothing where they or the kept length do not fit.
+fn marks(text: &[u8], ledger: &[u8], blocks: usize, kept: usize) -> Option<Vec<Row>> {
     let start = Row {
         end: 0,
         carry: Carry::default(),
     };
     let rows = ledger::decode(ledger, blocks, kept)?;
-    Some([vec![start], rows].concat())
+    (kept <= text.len()).then(|| [vec![start], rows].concat())
+}
+
+/// A change that is accepted: zeros where the text shrank, and the answer.
+fn edited(text: &mut [u8], length: usize, kept: usize, count: usize) -> Edited {
+    if length < kept {
+        text[length..kept].fill(0);
+    }
+    Edited {
+        length,
+        growth: length as i64 - kept as i64,
+        count,
+    }
 }
 
 /// The part of a text that a change replaces.

@@ -90,21 +90,25 @@ pub fn documents(seed: u64) -> Vec<Document> {
     let mut documents = Vec::new();
     for count in [8, BLOCKS_MOST] {
         for Construct { name, part, .. } in CONSTRUCTS {
-            let blocks = filled(count, || part(&mut random));
+            let blocks = filled(count, SPARE, || part(&mut random));
             documents.push(Document::new(name, blocks));
         }
-        documents.push(Document::new("mixture", mixture(count, &mut random)));
+        documents.push(mixture(count, SPARE, &mut random));
     }
     documents.push(Document::new("LaTeX-like", latex_like(seed)));
-    let blocks = filled(8, || vec![many_byte_word(&mut random), space()]);
+    let blocks = filled(8, SPARE, || vec![many_byte_word(&mut random), space()]);
     documents.push(Document::new("many-byte words", blocks));
     documents
 }
 
-/// Blocks whose tree file is nearly as long as it may be. One that has no room for the next part is a line break.
-fn filled(count: usize, mut next: impl FnMut() -> Vec<Made>) -> Vec<Made> {
-    // 16 bytes are the root's row and the trailer, 64 are left for edits, and a block has a row of its own
-    let room = (FILE_MOST - 16 - 64) / count - 8;
+/// Bytes of a tree file that are left for an edit.
+const SPARE: usize = 64;
+
+/// Blocks whose tree file is as long as it may be, less the bytes that it has to spare. One that has no room for the next part is a line
+/// break.
+fn filled(count: usize, spare: usize, mut next: impl FnMut() -> Vec<Made>) -> Vec<Made> {
+    // 16 bytes are the root's row and the trailer, and a block has a row of its own
+    let room = (FILE_MOST - 16 - spare) / count - 8;
     let mut left = 0;
     let mut part = next();
     let block = |_| {
@@ -125,9 +129,9 @@ fn filled(count: usize, mut next: impl FnMut() -> Vec<Made>) -> Vec<Made> {
 }
 
 /// Each part is of any construct that is behind its share of the bytes so far.
-fn mixture(count: usize, random: &mut Random) -> Vec<Made> {
+pub fn mixture(count: usize, spare: usize, random: &mut Random) -> Document {
     let mut bytes = [0; CONSTRUCTS.len()];
-    filled(count, || {
+    let blocks = filled(count, spare, || {
         let all: usize = bytes.iter().sum();
         let is_behind = |&i: &usize| bytes[i] * 100 <= CONSTRUCTS[i].share * all;
         let behind: Vec<_> = (0..bytes.len()).filter(is_behind).collect();
@@ -135,7 +139,8 @@ fn mixture(count: usize, random: &mut Random) -> Vec<Made> {
         let part = (CONSTRUCTS[i].part)(random);
         bytes[i] += size(&part);
         part
-    })
+    });
+    Document::new("mixture", blocks)
 }
 
 /// As many paragraphs, each a block, as a tree file of 65,200 bytes holds.

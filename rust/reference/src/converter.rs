@@ -48,7 +48,7 @@ impl Output {
         }
     }
 
-    fn put(&mut self, text: impl AsRef<[u8]>) {
+    pub fn put(&mut self, text: impl AsRef<[u8]>) {
         let text = text.as_ref();
         self.length += text.len();
         if self.length <= self.room {

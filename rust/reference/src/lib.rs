@@ -1,4 +1,4 @@
-//! Convert, edit, insertion and removal written a second time, in plain Rust over a parsed tree.
+//! Convert and the changes written a second time, in plain Rust over a parsed tree.
 //!
 //! It shares no code with the proved library and is compared with it, answer by answer and byte by
 //! byte. [`made`] makes the inputs, and [`constructs`] and [`hostile`] those on which speed is measured.
@@ -13,7 +13,7 @@ pub mod constructs;
 pub mod hostile;
 pub mod made;
 
-pub use calls::{check, convert, edit, insert, remove, Converted, Edited};
+pub use calls::{check, convert, edit, insert, remove, replace_all, Converted, Edited};
 pub use ledger::{ledger_fits, LABEL_MOST, ROW_SIZE};
 pub use tree::Kind;
 

@@ -3,7 +3,7 @@ use mathlib.Core.Path.{sym, subst}
 use native.Mathlib.Omega.{arith}
 use borrow.Author.Needs.{needs}
 use lib.Seq.{length-take-le}
-use Rattle.calls.specs.Calls.{CallBegins}
+use Rattle.calls.specs.Calls.{CallBegins, kindBy}
 use Rattle.calls.specs.declared.Opened.{Opened}
 use Rattle.calls.specs.declared.Opened.the-variants.{Open}
 use Rattle.calls.proofs.Files.{long, document, opened-changes, alters-shut}
@@ -45,7 +45,7 @@ returns-2 c =
     let b = c .before .before .before .before in
     let r = given (b .before) in
     let a = start (r .before .before .before .before .before) .args in
-    opened-changes (here (r .before .before)) (r .block-rows .ensures) (b .change-blocks .result) (a .way) (a .block) (b .change-blocks .ensures)
+    opened-changes (here (r .before .before)) (r .block-rows .ensures) (b .change-blocks .result) (kindBy (a .way) (a .block)) (b .change-blocks .ensures)
 
 pub change-spec : {M : Type 1} → statement M
 change-spec =

@@ -3,9 +3,8 @@ use mathlib.Core.Path.{sym, subst}
 use native.Mathlib.Omega.{arith}
 use borrow.Author.Needs.{needs}
 use borrow.Author.Tests.{not-true, not-false}
-use Rattle.passes.specs.Passes.{Stood}
-use Rattle.calls.specs.Calls.{Document}
-use Rattle.calls.proofs.Starting.{some-blocks, blocks-begin}
+use Rattle.passes.specs.Passes.{Document, Stood}
+use Rattle.passes.proofs.Starting.{some-blocks, blocks-begin}
 use Rattle.calls.proofs.Again.{Fitting, fitting, MeasuredAgain, fitting-row, row-before, changed-unfit, changed-refused, change-measured, changed-as}
 use Rattle.calls.proofs.change_blocks.Statement.{statement}
 use Rattle.calls.proofs.change_blocks.Tie as tie

@@ -9,9 +9,8 @@ use lib.ListN.{length}
 use lib.Seq.{length-take-le}
 use Rattle.mitex_meaning.proofs.Holding.{opening-says}
 use Rattle.edit_meaning.specs.Edit.{textMost}
-use Rattle.passes.specs.Passes.{Stood}
-use Rattle.calls.specs.Calls.{Document}
-use Rattle.calls.proofs.Starting.{some-blocks, blocks-begin}
+use Rattle.passes.specs.Passes.{Document, Stood}
+use Rattle.passes.proofs.Starting.{some-blocks, blocks-begin}
 use Rattle.calls.proofs.Settling.{DraftPassed, draft-passed, settled-refused, settled-no-room, settled-within, settled-draft, settled-done}
 use Rattle.calls.proofs.convert_by_draft.Statement.{statement}
 use Rattle.calls.proofs.convert_by_draft.Tie as tie

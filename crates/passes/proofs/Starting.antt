@@ -14,10 +14,9 @@ use Rattle.mitex_meaning.specs.declared.LaTeXMode.{LaTeXMode}
 use Rattle.mitex_meaning.specs.declared.Converter.{Converter}
 use Rattle.edit_meaning.specs.Walk.{rowsAll}
 use Rattle.manuscript.specs.Manuscript.{listed, blocksIn}
-use Rattle.passes.specs.Passes.{Outside, BlocksUpTo, SomeBlocks, Stood, rowNo, converterOf, walkBy}
-use Rattle.passes.specs.declared.Standing.{Standing}
 use Rattle.manuscript.proofs.Manuscript.{listed-count}
-use Rattle.calls.specs.Calls.{Document}
+use Rattle.passes.specs.Passes.{Document, Outside, BlocksUpTo, SomeBlocks, Stood, rowNo, converterOf, walkBy}
+use Rattle.passes.specs.declared.Standing.{Standing}
 
 module _ {rules index rows text : List ℕ} {n : ℕ} (w : Document rules index rows text n) where
   pub some-blocks : (k : ℕ) → k ≤ n → SomeBlocks rows k

@@ -1,9 +1,9 @@
 -- `end_before`: block 0 begins at 0, any other where the row before it ends.
 use native.Mathlib.Omega.{arith}
-use Rattle.calls.proofs.Splicing.{ends-first, ends-before}
+use Rattle.passes.proofs.Ends.{ends-first, ends-before}
 use borrow.Author.Needs.{needs}
-use Rattle.calls.proofs.end_before.Statement.{statement}
-use Rattle.calls.proofs.end_before.Tie as tie
+use Rattle.passes.proofs.end_before.Statement.{statement}
+use Rattle.passes.proofs.end_before.Tie as tie
 
 returns : tie.Need-returns
 returns c = (ends-first _ _ (c .if1 .taken), omega arith)

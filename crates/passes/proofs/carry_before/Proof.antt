@@ -12,8 +12,8 @@ use Rattle.ledger.specs.Ledger.{rowAt, decodeRows}
 use Rattle.ledger.proofs.Reading.{rowAt-short}
 use Rattle.edit_meaning.specs.Edit.{carryBefore}
 use Rattle.edit_meaning.proofs.Bytes.{carryBefore-at}
-use Rattle.calls.proofs.carry_before.Statement.{statement}
-use Rattle.calls.proofs.carry_before.Tie as tie
+use Rattle.passes.proofs.carry_before.Statement.{statement}
+use Rattle.passes.proofs.carry_before.Tie as tie
 
 row-before : (k n : ℕ) (l : List ℕ) → (k ≡ 0 → ⊥) → k ≤ n → (rowAt (k - 1) l) .carry ≡ carryBefore k (decodeRows n l)
 row-before zero n l z h = absurd (z (omega arith))
