@@ -1,10 +1,11 @@
-//! How long conversions and changes take, beside the reference on the same inputs: `cargo bench --offline`.
+//! How long conversions, changes and the writing of tree files take, beside the reference on the same inputs: `cargo bench --offline`.
 //!
 //! `ZALDRUME_SEED` is the seed of the documents (7 where it is not set). Every time is the least mean of a few calls, over rounds in
 //! which all that a table has take turns.
 
 use std::hint::black_box;
 
+use reference::builder::Builder;
 use reference::constructs::{
     curly, documents, environment, formula, label, least_means, mixture, rules, word, Document,
     CALLS,
@@ -12,8 +13,9 @@ use reference::constructs::{
 use reference::hostile;
 use reference::made::{node, token, Random};
 use reference::Kind::*;
-use reference::{Refused, BLOCKS_MOST, FILE_MOST, ROW_SIZE};
-use zaldrume::raw::{self, Answer};
+use reference::{Refused, Step, BLOCKS_MOST, FILE_MOST, ROW_SIZE};
+use zaldrume::file::{Kind, TreeFile};
+use zaldrume::raw::{self, Answer, WRITER_STATE};
 
 fn micro(nanos: f64) -> String {
     format!("{:.1}", nanos / 1000.0)
@@ -609,6 +611,139 @@ fn hostile() {
     }
 }
 
+/// The steps under the root of a file of just [`FILE_MOST`] bytes: the same ones over and over, and a last token.
+fn steps_of_full_file(repeated: Vec<Step>) -> Vec<Step> {
+    let size = |steps: &[Step]| -> usize {
+        let bytes = |step: &Step| match step {
+            Step::Open(_) => 8,
+            Step::Token(_, text) => 8 + text.len(),
+            Step::Close | Step::Finish => 0,
+        };
+        steps.iter().map(bytes).sum()
+    };
+    // root, one node under it, last token and trailer
+    let left = FILE_MOST - 8 * 4;
+    let turns = (left - 1) / size(&repeated);
+    let last = left - turns * size(&repeated);
+    let mut steps = vec![Step::Open(ItemText as u8)];
+    steps.extend(vec![repeated; turns].concat());
+    steps.push(Step::Token(TokenWord as u8, vec![b'w'; last]));
+    steps.push(Step::Close);
+    steps
+}
+
+fn full_files() -> [(&'static str, Vec<Step>); 4] {
+    let word = |size| Step::Token(TokenWord as u8, vec![b'w'; size]);
+    let open = Step::Open(ItemText as u8);
+    let nodes = |depth| [vec![open.clone(); depth], vec![Step::Close; depth]].concat();
+    [
+        ("tokens of 1 byte", vec![word(1)]),
+        ("nodes side by side", nodes(1)),
+        ("nodes 60 deep", nodes(60)),
+        ("tokens of 8,000 bytes", vec![word(8_000)]),
+    ]
+    .map(|(name, repeated)| (name, steps_of_full_file(repeated)))
+}
+
+/// The four calls, on a buffer that is there: the file's length.
+fn write_by_calls(steps: &[Step], buffer: &mut [u8]) -> usize {
+    let state = &mut [0; WRITER_STATE];
+    let mut number = raw::writer_open(state, buffer, ScopeRoot as u8);
+    for step in steps {
+        number |= match step {
+            Step::Open(kind) => raw::writer_open(state, buffer, *kind),
+            Step::Token(kind, text) => raw::writer_token(state, buffer, *kind, text),
+            Step::Close | Step::Finish => raw::writer_close(state, buffer),
+        };
+    }
+    number |= raw::writer_close(state, buffer);
+    let (finish, length) = raw::writer_finish(state, buffer);
+    assert_eq!(number | finish, 0);
+    length
+}
+
+/// A step as the package's builder takes it.
+enum PackageStep<'a> {
+    Start(Kind),
+    Token(Kind, &'a str),
+    Finish,
+}
+
+fn package_steps(steps: &[Step]) -> Vec<PackageStep<'_>> {
+    let kind = |number| Kind::try_from(number).expect("a kind");
+    let text = |bytes| std::str::from_utf8(bytes).expect("a text");
+    let package_step = |step| match step {
+        &Step::Open(number) => PackageStep::Start(kind(number)),
+        Step::Token(number, bytes) => PackageStep::Token(kind(*number), text(bytes)),
+        Step::Close | Step::Finish => PackageStep::Finish,
+    };
+    steps.iter().map(package_step).collect()
+}
+
+/// The package's builder, which stands on these calls.
+fn write_by_package(steps: &[PackageStep]) -> Vec<u8> {
+    let mut tree = TreeFile::new();
+    for step in steps {
+        match step {
+            PackageStep::Start(kind) => tree.start(*kind),
+            PackageStep::Token(kind, text) => tree.token(*kind, text),
+            PackageStep::Finish => tree.finish(),
+        }
+    }
+    tree.build().expect("accepted")
+}
+
+/// The builder that checks nothing.
+fn write_unchecked(steps: &[Step]) -> Vec<u8> {
+    let mut tree = Builder::default();
+    for step in steps {
+        match step {
+            Step::Open(kind) => tree.start(*kind),
+            Step::Token(kind, text) => tree.token(*kind, text),
+            Step::Close | Step::Finish => tree.finish(),
+        }
+    }
+    tree.build().expect("short enough")
+}
+
+fn writings() {
+    title(
+        "Tree files of 65,536 bytes, written step by step",
+        "| file | steps | library µs | ns a step | by the package's builder µs | by a builder that checks nothing µs | library / that builder |",
+    );
+    let files = full_files();
+    let packaged: Vec<_> = files
+        .iter()
+        .map(|(_, steps)| package_steps(steps))
+        .collect();
+    let mut buffer = vec![0; FILE_MOST];
+    for ((_, steps), packaged) in files.iter().zip(&packaged) {
+        assert_eq!(write_by_calls(steps, &mut buffer), FILE_MOST);
+        assert!(buffer == write_by_package(packaged) && buffer == write_unchecked(steps));
+    }
+    let means = columns(files.len(), |column, i| {
+        let (steps, packaged) = black_box((&files[i].1, &packaged[i]));
+        let length = match column {
+            0 => write_by_calls(steps, &mut buffer),
+            1 => black_box(write_by_package(packaged)).len(),
+            _ => black_box(write_unchecked(steps)).len(),
+        };
+        assert_eq!(length, FILE_MOST);
+    });
+    for ((name, steps), [library, package, unchecked]) in files.iter().zip(means) {
+        // root, its close and the finish
+        let count = steps.len() + 3;
+        println!(
+            "| {name} | {count} | {} | {:.1} | {} | {} | {:.2} |",
+            micro(library),
+            library / count as f64,
+            micro(package),
+            micro(unchecked),
+            library / unchecked,
+        );
+    }
+}
+
 fn main() {
     let seed = std::env::var("ZALDRUME_SEED").map_or(7, |seed| seed.parse().expect("a number"));
     let documents = documents(seed);
@@ -618,4 +753,5 @@ fn main() {
     insertions(&documents);
     replacements(seed);
     hostile();
+    writings();
 }

@@ -1,148 +1,17 @@
 //! Builders of rule files and tree files.
 //!
 //! A file is a text area, rows of 8 bytes, and a trailer of 8 bytes that says where the rows begin
-//! and how many they are.
+//! and how many they are. [`TreeFile`] and [`TreeWriter`] stand on the library's writer.
 
 use std::collections::BTreeMap;
 
 use crate::FILE_MOST;
 
-/// What an element of a tree is.
-///
-/// Kinds named `Token`, `ClauseCommandName` and `ItemNewLine` are tokens, the rest nodes;
-/// `TokenError` may be either.
-#[allow(missing_docs)]
-#[derive(Debug, Clone, Copy, PartialEq, Eq, Hash)]
-#[repr(u8)]
-pub enum Kind {
-    TokenError = 1,
-    ItemLR,
-    ClauseArgument,
-    ScopeRoot,
-    ItemText,
-    ItemBracket,
-    ItemParen,
-    ItemFormula,
-    ItemCurly,
-    ClauseLR,
-    ItemAttachComponent,
-    ClauseCommandName,
-    ItemBegin,
-    ItemEnd,
-    TokenWord,
-    TokenLBrace,
-    TokenRBrace,
-    TokenDollar,
-    TokenBeginMath,
-    TokenEndMath,
-    TokenComment,
-    ItemBlockComment,
-    TokenWhiteSpace,
-    TokenLineBreak,
-    TokenApostrophe,
-    TokenComma,
-    TokenSlash,
-    TokenCaret,
-    TokenUnderscore,
-    TokenHash,
-    TokenAsterisk,
-    TokenAtSign,
-    TokenDitto,
-    TokenSemicolon,
-    TokenLParen,
-    TokenRParen,
-    TokenLBracket,
-    TokenRBracket,
-    TokenTilde,
-    TokenAmpersand,
-    ItemNewLine,
-    TokenCommandSym,
-    ItemCmd,
-    ItemEnv,
-    ItemTypstCode,
-}
+mod kind;
+mod tree;
 
-/// A tree file in the making: the root is open from the start, and its children are the blocks.
-///
-/// ```
-/// use zaldrume::file::{Kind, TreeFile};
-///
-/// let mut tree = TreeFile::new();
-/// tree.start(Kind::ItemCurly);
-/// tree.token(Kind::TokenLBrace, "{");
-/// tree.token(Kind::TokenWord, "a");
-/// tree.token(Kind::TokenRBrace, "}");
-/// tree.finish();
-/// let file = tree.build().unwrap();
-/// assert_eq!(file.len(), "{a}".len() + 8 * 5 + 8);
-/// ```
-#[derive(Debug, Clone)]
-pub struct TreeFile {
-    text: Vec<u8>,
-    rows: Vec<[u8; 8]>,
-    open: Vec<usize>,
-}
-
-impl TreeFile {
-    /// A tree with an open root.
-    pub fn new() -> Self {
-        let mut tree = TreeFile {
-            text: Vec::new(),
-            rows: Vec::new(),
-            open: Vec::new(),
-        };
-        tree.start(Kind::ScopeRoot);
-        tree
-    }
-
-    /// Opens a node: what follows, up to the matching [`finish`](Self::finish), lies under it.
-    pub fn start(&mut self, kind: Kind) {
-        self.open.push(self.rows.len());
-        self.rows.push([kind as u8, 0, 0, 0, 0, 0, 0, 0]);
-    }
-
-    /// A token with its text, which is not empty.
-    pub fn token(&mut self, kind: Kind, text: &str) {
-        self.text.extend_from_slice(text.as_bytes());
-        self.push(kind, 1, text.len());
-    }
-
-    /// Closes the node that was opened last.
-    ///
-    /// # Panics
-    ///
-    /// Where no node but the root is open.
-    pub fn finish(&mut self) {
-        assert!(self.open.len() > 1, "no node is open");
-        self.close();
-    }
-
-    /// The file, with every open node closed; nothing where it has over [`FILE_MOST`] bytes.
-    pub fn build(mut self) -> Option<Vec<u8>> {
-        while !self.open.is_empty() {
-            self.close();
-        }
-        assemble(self.text, &self.rows)
-    }
-
-    fn push(&mut self, kind: Kind, token: u8, size: usize) {
-        let [a, b, c, d] = (size as u32).to_le_bytes();
-        self.rows.push([kind as u8, token, 0, 0, a, b, c, d]);
-    }
-
-    fn close(&mut self) {
-        if let Some(node) = self.open.pop() {
-            let under = self.rows.len() - node - 1;
-            self.rows[node][4..].copy_from_slice(&(under as u32).to_le_bytes());
-        }
-    }
-}
-
-impl Default for TreeFile {
-    fn default() -> Self {
-        TreeFile::new()
-    }
-}
+pub use kind::{Kind, UnknownKind, UnknownName};
+pub use tree::{StepRefusal, TreeFile, TreeWriter};
 
 /// What a rule says of a command or of an environment.
 #[derive(Debug, Clone, Copy, PartialEq, Eq, Hash)]

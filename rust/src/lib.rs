@@ -1,9 +1,10 @@
 //! LaTeX trees to Typst, block by block, by a proved static library.
 //!
 //! A caller's parser hands over a document as a *tree file* and the commands it knows as a *rule
-//! file* ([`mod@file`] builds both). [`convert`], [`edit`], [`insert`], [`remove`] and
-//! [`replace_all`] work on the caller's buffers: the Typst text, and a *ledger* that has a row of
-//! [`ROW_SIZE`] bytes for each block. [`Document`] owns the buffers and keeps them up to date.
+//! file* ([`mod@file`] builds both; [`TreeFile`](file::TreeFile) shows how a parser's tree is walked
+//! into one). [`convert`], [`edit`], [`insert`], [`remove`] and [`replace_all`] work on the caller's
+//! buffers: the Typst text, and a *ledger* that has a row of [`ROW_SIZE`] bytes for each block.
+//! [`Document`] owns the buffers and keeps them up to date.
 //!
 //! ```
 //! use zaldrume::file::{Kind, RuleFile, TreeFile};
@@ -36,7 +37,7 @@
 //! # Ok::<(), zaldrume::Refusal>(())
 //! ```
 //!
-//! Any bytes may be passed: a call gives a result or one of fifteen [`Refusal`]s, and a refusal
+//! Any bytes may be passed: a call gives a result or one of sixteen [`Refusal`]s, and a refusal
 //! changes nothing that was lent.
 
 #![warn(missing_docs)]

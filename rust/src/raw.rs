@@ -1,8 +1,9 @@
-//! The five calls on plain numbers, as `include/zaldrume.h` has them.
+//! The calls on plain numbers, as `include/zaldrume.h` has them: five on documents, and the four steps
+//! of the writer of tree files.
 //!
 //! A slice passes as its first element's address and its length. The static library asks that no
-//! address is null, that each part holds as many elements as is said, and that the buffers overlap
-//! with nothing else: Rust's references are all of that, so these functions are safe for any
+//! address is null, that each part holds as many elements as is said, and that what is written
+//! overlaps with nothing else: Rust's references are all of that, so these functions are safe for any
 //! arguments.
 
 /// What a call tells: a refusal's number or 0, and the numbers that go with it.
@@ -48,6 +49,28 @@ mod boundary {
         zaldrume_insert(position: usize, kept: usize);
         zaldrume_remove(block: usize, kept: usize);
         zaldrume_replace_all(blocks: *const usize, blocks_count: usize, kept: usize);
+    }
+
+    /// The steps of the writer pass alike but for what stands after the buffer.
+    macro_rules! steps {
+        ($($name:ident($($after:ident: $type:ty),*);)*) => {
+            extern "C" {
+                $(pub fn $name(
+                    state: *mut u64,
+                    state_count: usize,
+                    buffer: *mut u8,
+                    buffer_size: usize,
+                    $($after: $type,)*
+                ) -> u8;)*
+            }
+        };
+    }
+
+    steps! {
+        zaldrume_writer_open(kind: u8);
+        zaldrume_writer_token(kind: u8, text: *const u8, text_size: usize);
+        zaldrume_writer_close();
+        zaldrume_writer_finish(place: *mut usize);
     }
 }
 
@@ -135,4 +158,49 @@ pub fn replace_all(
 ) -> Answer {
     let (first, count) = (blocks.as_ptr(), blocks.len());
     answer!(zaldrume_replace_all: mode, rules, tree; first, count, kept; text, ledger)
+}
+
+/// A writer's state has so many numbers: whether it has finished, how many rows, bytes of text, blocks
+/// and open nodes there are, the row of the innermost of these, and the buffer's length.
+pub const WRITER_STATE: usize = 7;
+
+/// What a step of the writer answers, given its state, its buffer and what stands after them.
+macro_rules! step {
+    ($name:ident: $state:ident, $buffer:ident; $($after:expr),*) => {
+        // SAFETY: each pointer and length is that of a live slice, and a place that of a number; those
+        // that are written are borrowed mutably, so nothing else is read or written through them.
+        unsafe {
+            boundary::$name(
+                $state.as_mut_ptr(),
+                $state.len(),
+                $buffer.as_mut_ptr(),
+                $buffer.len(),
+                $($after),*
+            )
+        }
+    };
+}
+
+/// Opens a node: 0 or a refusal's number. The state is zeros at the start.
+///
+/// The header says more of the four steps; [`TreeWriter`](crate::file::TreeWriter) keeps the state.
+pub fn writer_open(state: &mut [u64], buffer: &mut [u8], kind: u8) -> u8 {
+    step!(zaldrume_writer_open: state, buffer; kind)
+}
+
+/// Adds a token with its text.
+pub fn writer_token(state: &mut [u64], buffer: &mut [u8], kind: u8, text: &[u8]) -> u8 {
+    step!(zaldrume_writer_token: state, buffer; kind, text.as_ptr(), text.len())
+}
+
+/// Closes the innermost open node.
+pub fn writer_close(state: &mut [u64], buffer: &mut [u8]) -> u8 {
+    step!(zaldrume_writer_close: state, buffer;)
+}
+
+/// Finishes the file: 0 or a refusal's number, and the file's length, which is 0 in a refusal.
+pub fn writer_finish(state: &mut [u64], buffer: &mut [u8]) -> (u8, usize) {
+    let mut place = 0;
+    let number = step!(zaldrume_writer_finish: state, buffer; &mut place);
+    (number, place)
 }

@@ -1,7 +1,7 @@
 use std::error::Error;
 use std::fmt;
 
-/// Why a call was refused: one of fifteen numbers, and the row that it names.
+/// Why a call was refused: one of sixteen numbers, and the row that it names.
 ///
 /// A refusal changes nothing that was lent.
 ///
@@ -23,7 +23,7 @@ impl Refusal {
         Refusal { number, row }
     }
 
-    /// The number, from 1 to 15.
+    /// The number, from 1 to 16.
     pub fn number(&self) -> u8 {
         self.number
     }
@@ -38,7 +38,7 @@ impl Refusal {
         match self.number {
             1 => "the mode is neither text nor math",
             2 => "the rule file breaks its layout",
-            3 => "the tree file breaks its layout",
+            3 => "the tree file breaks its layout or is over a limit",
             4 => "the tree is deeper than 64",
             5 => "an element of the tree lacks a part that its kind needs",
             6 => "there is no such block, position or list of blocks, or the kept text and ledger do not fit the document",
@@ -50,7 +50,8 @@ impl Refusal {
             12 => "an argument is missing",
             13 => "a column letter is not l, c, r or |",
             14 => "a label is longer than 120 bytes",
-            15 => "the text buffer or the ledger is too short",
+            15 => "the text buffer, the ledger or the writer's buffer is too short",
+            16 => "a step of the writer is out of place",
             _ => "unknown refusal",
         }
     }
@@ -74,9 +75,9 @@ mod tests {
 
     #[test]
     fn each_number_has_its_message() {
-        let messages: HashSet<_> = (0..=15)
+        let messages: HashSet<_> = (0..=16)
             .map(|number| Refusal::new(number, 0).message())
             .collect();
-        assert_eq!(messages.len(), 16);
+        assert_eq!(messages.len(), 17);
     }
 }

@@ -3,71 +3,13 @@
 //! `ZALDRUME_CASES` is how many cases each test makes (1,000 where it is not set) and
 //! `ZALDRUME_SEED` the first one's seed (1). A failure names the seed of its case.
 
-use std::collections::BTreeMap;
+mod shared;
 
 use reference::constructs::{self, curly, environment, formula, label, line_break, space, word};
 use reference::made::{rule_file, token, tree_file, Made, Maker};
 use reference::{Kind, BLOCKS_MOST, FILE_MOST, ROW_SIZE};
+use shared::{each_case, told, Buffers, Tally};
 use zaldrume::raw::{self, Answer};
-
-fn setting(name: &str, usual: u64) -> u64 {
-    match std::env::var(name) {
-        Ok(value) => value
-            .parse()
-            .unwrap_or_else(|_| panic!("{name} is no number")),
-        Err(_) => usual,
-    }
-}
-
-/// Runs the cases of a test, `share` of them in a hundred, and prints how often each call answered each number.
-fn each_case(name: &str, share: u64, case: impl Fn(&mut Maker, &mut Tally)) {
-    let count = (setting("ZALDRUME_CASES", 1000) * share).div_ceil(100);
-    let first = setting("ZALDRUME_SEED", 1);
-    let mut tally = Tally::default();
-    for seed in first..first + count {
-        tally.seed = seed;
-        case(&mut Maker::new(seed), &mut tally);
-    }
-    println!(
-        "{name}: {count} cases, calls by their answers (0 is accepted): {:?}",
-        tally.answers
-    );
-    if tally.singly > 0 {
-        println!("{name}: beside {} edits made singly", tally.singly);
-    }
-}
-
-#[derive(Default)]
-struct Tally {
-    seed: u64,
-    answers: BTreeMap<&'static str, BTreeMap<u8, usize>>,
-    // edits that were made one by one, beside blocks replaced together
-    singly: usize,
-}
-
-/// The two buffers that a call is lent.
-#[derive(Clone)]
-struct Buffers {
-    text: Vec<u8>,
-    ledger: Vec<u8>,
-}
-
-impl Buffers {
-    /// Buffers with anything in them.
-    fn any(maker: &mut Maker, text: usize, ledger: usize) -> Self {
-        let [a, b] = [maker.random.number() as u8, maker.random.number() as u8];
-        let mut text = vec![a; text];
-        text.iter_mut().step_by(7).for_each(|byte| *byte = b);
-        let mut ledger = vec![b; ledger];
-        ledger.iter_mut().step_by(5).for_each(|byte| *byte = a);
-        Buffers { text, ledger }
-    }
-
-    fn assert_same(&self, other: &Buffers, what: &str, seed: u64) {
-        assert!(self.text == other.text, "{what}: text, seed {seed}");
-        assert!(self.ledger == other.ledger, "{what}: ledger, seed {seed}");
-    }
-}
 
 /// A change of a document: of one block, or of several together.
 #[derive(Debug, Clone, Copy, PartialEq, Eq)]
@@ -204,61 +146,16 @@ impl Call<'_> {
             count: done.count,
         }))
     }
-}
 
-fn told(result: Result<Answer, reference::Refused>) -> Answer {
-    result.unwrap_or_else(|refused| Answer {
-        number: refused.number,
-        place: refused.row,
-        ..Answer::default()
-    })
-}
-
-impl Tally {
-    fn compare(
-        &mut self,
-        name: &'static str,
-        library: (Answer, &Buffers),
-        reference: (Answer, &Buffers),
-        before: &Buffers,
-    ) {
-        let seed = self.seed;
-        assert_eq!(library.0, reference.0, "{name}: answer, seed {seed}");
-        library.1.assert_same(reference.1, name, seed);
-        if library.0.number != 0 {
-            library.1.assert_same(before, "refused", seed);
-        }
-        let answers = self.answers.entry(name).or_default();
-        *answers.entry(library.0.number).or_default() += 1;
-    }
-
-    fn convert(&mut self, mode: u8, rules: &[u8], tree: &[u8], buffers: &mut Buffers) -> Answer {
-        let before = buffers.clone();
-        let mut other = buffers.clone();
-        let ours = raw::convert(mode, rules, tree, &mut buffers.text, &mut buffers.ledger);
-        let theirs = reference::convert(mode, rules, tree, &mut other.text, &mut other.ledger);
-        let theirs = told(theirs.map(|done| Answer {
-            number: 0,
-            place: done.length,
-            growth: 0,
-            count: done.blocks,
-        }));
-        self.compare("convert", (ours, buffers), (theirs, &other), &before);
-        ours
-    }
-
-    fn change(&mut self, call: Call, buffers: &mut Buffers) -> Answer {
-        let before = buffers.clone();
-        let mut other = buffers.clone();
-        let ours = call.library(buffers);
-        let theirs = call.reference(&mut other);
-        self.compare(
-            call.change.name(),
-            (ours, buffers),
-            (theirs, &other),
-            &before,
-        );
-        ours
+    /// The answer of both.
+    fn compare(self, tally: &mut Tally, buffers: &mut Buffers) -> Answer {
+        let name = self.change.name();
+        tally.compare(
+            name,
+            buffers,
+            |lent| self.library(lent),
+            |lent| self.reference(lent),
+        )
     }
 }
 
@@ -370,7 +267,7 @@ fn any_bytes() {
                 at: &[d],
                 kept,
             };
-            tally.change(call, &mut buffers);
+            call.compare(tally, &mut buffers);
         }
     });
 }
@@ -445,7 +342,7 @@ impl Run {
             kept: self.kept,
         };
         let before = self.buffers.clone();
-        let answer = tally.change(call, &mut self.buffers);
+        let answer = call.compare(tally, &mut self.buffers);
         if self.sound {
             self.compare_from_start(tally, &tree, answer);
         }
@@ -489,7 +386,7 @@ impl Run {
             buffers.ledger[..rows] == self.buffers.ledger[..rows],
             "singly, ledger, seed {seed}"
         );
-        tally.singly += at.len();
+        tally.count("edit singly", 0, at.len());
     }
 
     /// The third demand: a change answers as a conversion from the start, and leaves what that leaves.
@@ -566,7 +463,7 @@ impl Run {
             at: &at,
             kept,
         };
-        let answer = tally.change(call, &mut self.buffers);
+        let answer = call.compare(tally, &mut self.buffers);
         if answer.number == 0 {
             self.kept = answer.place;
             self.sound = false;

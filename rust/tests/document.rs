@@ -1,5 +1,7 @@
 //! What a [`Document`] keeps, and what the refusals say.
 
+use reference::made;
+use reference::Kind::TokenWord;
 use zaldrume::file::{Class, Kind, RuleFile, TreeFile};
 use zaldrume::{convert, edit, replace_all, Document, Edited, Mode, Refusal};
 use zaldrume::{BLOCKS_MOST, ROW_SIZE};
@@ -103,7 +105,7 @@ fn from_no_block_to_the_most_and_back() {
         document.insert(&tree(&words[..count]), 0).unwrap();
     }
     assert_eq!(document.text(), "a ".repeat(BLOCKS_MOST).as_bytes());
-    let one_more = tree(&vec!["a"; BLOCKS_MOST + 1]);
+    let one_more = made::tree_file(&vec![made::token(TokenWord, "a"); BLOCKS_MOST + 1]);
     assert_eq!(document.insert(&one_more, 0).unwrap_err().number(), 3);
     for count in (0..BLOCKS_MOST).rev() {
         document.remove(&tree(&words[..count]), count).unwrap();

@@ -3,13 +3,14 @@
 //!
 //! A conversion case has `rules.bin`, `tree.bin`, `stdin` and `expected`; a run of changes (edits,
 //! insertions, removals, several blocks replaced together) `rules.bin`, `script.txt` and, for each
-//! call, its tree and both buffers after it.
+//! call, its tree and both buffers after it; a list of the writer's steps `steps.txt` and, where it is
+//! finished, the file or its hash.
 
 use std::fs;
 use std::path::{Path, PathBuf};
 
-use reference::FILE_MOST;
-use zaldrume::raw::{self, Answer};
+use reference::{sha256, Step, Writer, FILE_MOST};
+use zaldrume::raw::{self, Answer, WRITER_STATE};
 
 #[derive(Debug, Clone, Copy)]
 enum Under {
@@ -207,5 +208,112 @@ fn replay(case: &Path, under: Under) {
             ledger == read(case, &format!("ledger-{call}.bin")),
             "{place}: ledger"
         );
+    }
+}
+
+/// A file in the making, by the library or by the reference.
+enum Writing {
+    Library([u64; WRITER_STATE], Vec<u8>),
+    Reference(Writer, usize),
+}
+
+impl Writing {
+    fn new(under: Under, room: usize) -> Self {
+        match under {
+            Under::Library => Writing::Library([0; WRITER_STATE], vec![0xa5; room]),
+            Under::Reference => Writing::Reference(Writer::default(), room),
+        }
+    }
+
+    /// A step's answer, and the file that a finish gives.
+    fn step(&mut self, step: &Step) -> (u8, Vec<u8>) {
+        match self {
+            Writing::Library(state, buffer) => match step {
+                Step::Open(kind) => (raw::writer_open(state, buffer, *kind), Vec::new()),
+                Step::Token(kind, text) => {
+                    let number = raw::writer_token(state, buffer, *kind, text);
+                    (number, Vec::new())
+                }
+                Step::Close => (raw::writer_close(state, buffer), Vec::new()),
+                Step::Finish => {
+                    let (number, length) = raw::writer_finish(state, buffer);
+                    (number, buffer[..length].to_vec())
+                }
+            },
+            Writing::Reference(writer, room) => match writer.step(*room, step) {
+                0 => (0, writer.file().unwrap_or_default()),
+                number => (number, Vec::new()),
+            },
+        }
+    }
+}
+
+/// A text in a list of steps: bytes in hexadecimal, `77*65513` for many, `+` between parts, `-` for none.
+fn text(word: &str) -> Vec<u8> {
+    let byte = |pair: &[u8]| {
+        let pair = std::str::from_utf8(pair).expect("digits");
+        u8::from_str_radix(pair, 16).expect("a byte")
+    };
+    let part = |part: &str| match part.split_once('*') {
+        Some((pair, count)) => vec![byte(pair.as_bytes()); number(count)],
+        None => part.as_bytes().chunks(2).map(byte).collect(),
+    };
+    match word {
+        "-" => Vec::new(),
+        word => word.split('+').flat_map(part).collect(),
+    }
+}
+
+fn step(words: &str) -> Step {
+    let words: Vec<_> = words.split(' ').collect();
+    let kind = |word: &str| word.parse().expect("a kind");
+    match words[..] {
+        ["open", word] => Step::Open(kind(word)),
+        ["token", word, bytes] => Step::Token(kind(word), text(bytes)),
+        ["close"] => Step::Close,
+        ["finish"] => Step::Finish,
+        _ => panic!("no such step: {words:?}"),
+    }
+}
+
+#[test]
+fn steps() {
+    for case in cases(|path| path.join("steps.txt").is_file()) {
+        for under in Under::BOTH {
+            write_file(&case, under);
+        }
+    }
+}
+
+fn write_file(case: &Path, under: Under) {
+    let list = String::from_utf8(read(case, "steps.txt")).expect("a list of steps is text");
+    let (first, list) = list.split_once('\n').expect("a first line");
+    let room = first.strip_prefix("buffer ").expect("a buffer's length");
+    let mut writing = Writing::new(under, number(room));
+    let mut finished = None;
+    for line in list.lines() {
+        let (words, answer) = line.split_once(" = ").expect("an answer");
+        let (answer, times) = answer.split_once(" x").unwrap_or((answer, "1"));
+        let step = step(words);
+        for _ in 0..number(times) {
+            let (number, file) = writing.step(&step);
+            let said = match step {
+                Step::Finish => format!("{number} {}", file.len()),
+                _ => number.to_string(),
+            };
+            assert_eq!(said, answer, "{under:?}, {}: {line}", case.display());
+            if (number, &step) == (0, &Step::Finish) {
+                finished = Some(file);
+            }
+        }
+    }
+    let place = format!("{under:?}, {}: file", case.display());
+    let hash = fs::read_to_string(case.join("file.sha256")).ok();
+    match hash {
+        Some(hash) => {
+            let written = sha256(&finished.expect("a finish"));
+            assert_eq!(written, hash.trim_end(), "{place}");
+        }
+        None => assert!(finished == fs::read(case.join("file.bin")).ok(), "{place}"),
     }
 }

@@ -1,6 +1,6 @@
-// Replays cases through Convert and the changes and compares every answer and every byte of both buffers. Standard input is what
-// tools/pack_cases.py packs: cases, each a length (4 bytes, the lowest first) and so many bytes, which are parts: each a tag (1 byte),
-// a length (4 bytes) and so many bytes.
+// Replays cases through Convert and the changes and compares every answer and every byte of both buffers; and through the steps of a
+// writer, with every answer, the finished file, and what refused steps leave. Standard input is what tools/pack_cases.py packs: cases, each
+// a length (4 bytes, the lowest first) and so many bytes, which are parts: each a tag (1 byte), a length (4 bytes) and so many bytes.
 ghost use mathlib.Core.Path.{_≡_};
 ghost use Prim.Native.Nat.{_+_, _≤_};
 ghost use lib.ListN.{length};
@@ -11,6 +11,7 @@ use calls::Edited;
 use ledger::ROW_SIZE;
 use libc::STDIN_FILENO;
 use libc::STDOUT_FILENO;
+use text::FILE_MOST;
 use tree_file::BLOCKS_MOST;
 
 // ---- the tags
@@ -56,10 +57,32 @@ const BLOCKS: u8 = 10;
 
 const BLOCK_SIZE: usize = 8;
 
+// A step of a writer, whose buffer is the text buffer, and its answer: 0 open, 1 token, 2 close or 3 finish; kind; refusal; a zero; the
+// length that a finish gives (4 bytes); and the token's text, spelt: how often its first byte stands there (4 bytes), and its bytes from
+// the last of these on.
+const STEP: u8 = 11;
+
+const STEP_SIZE: usize = 12;
+
+const STEP_OPEN: u8 = 0;
+
+const STEP_TOKEN: u8 = 1;
+
+const STEP_CLOSE: u8 = 2;
+
+const STEP_FINISH: u8 = 3;
+
+// The file that a finish is due to leave, spelt.
+const FILE: u8 = 12;
+
 // ---- what is held
 
-// How long a buffer can be: a ledger of one row more than a document has blocks at most, which a removal may read.
-const BUFFER: usize = ROW_SIZE * (BLOCKS_MOST + 1);
+// How long a buffer can be: more than a file, and than a ledger of one row more than a document has blocks at most, which a removal may
+// read.
+const BUFFER: usize = FILE_MOST + ROW_SIZE * (BLOCKS_MOST + 1);
+
+// How many numbers a writer's state has here: one more than it needs.
+const STATE: usize = 8;
 
 // How many numbers of a list are read at most: more than a document has blocks, so that a list that is cut is refused as the whole is.
 const LIST_MOST: usize = 2 * BLOCKS_MOST;
@@ -82,6 +105,7 @@ pub struct Case {
     pub rules: InputPart,
     pub tree: InputPart,
     pub list: InputPart,
+    pub file: InputPart,
     pub text_size: usize,
     pub ledger_size: usize,
     pub calls: usize,
@@ -116,11 +140,14 @@ fn sum(m: usize, n: usize) -> usize {
 
 // ---- buffers
 
-// All bytes one that no conversion writes by itself.
-fn fill(out: &mut [u8]) {
+// What buffers are filled with: a byte that no conversion writes by itself.
+const FILLED: u8 = 0xA5;
+
+// All bytes the same.
+fn fill(out: &mut [u8], byte: u8) {
     let mut i = 0;
     while i < out.len() {
-        out[i] = 0xA5;
+        out[i] = byte;
         i += 1;
     }
 }
@@ -330,6 +357,153 @@ fn passes(
     text::same(ledger, ledger_due)
 }
 
+// ---- a step
+
+// Bytes from how they are spelt, and how many there are, as far as there is room.
+fn spell(s: &[u8], out: &mut [u8]) -> usize
+    requires { ⌜ (4 ≤ length (now s)) × (length (now out) ≡ bufferMost) ⌝ }
+    ensures { λ r. ⌜ r ≤ bufferMost ⌝ }
+{
+    let times = text::read_u32(s, 0);
+    if s.len() == 4 {
+        return 0;
+    }
+    if BUFFER < times {
+        return 0;
+    }
+    fill(&mut out[..times], s[4]);
+    let end = text::put(out, times, &s[5..]);
+    if BUFFER < end {
+        return BUFFER;
+    }
+    end
+}
+
+// A step by its number, on a state and a buffer as a caller keeps them.
+fn call_step(
+    what: u8,
+    kind: u8,
+    s: &[u8],
+    state: &mut [usize],
+    buffer: &mut [u8],
+    place: &mut usize,
+) -> u8 {
+    if what == STEP_OPEN {
+        return tree_writer::open_in(state, buffer, kind);
+    }
+    if what == STEP_TOKEN {
+        return tree_writer::token_in(state, buffer, kind, s);
+    }
+    if what == STEP_CLOSE {
+        return tree_writer::close_in(state, buffer);
+    }
+    tree_writer::finish_in(state, buffer, place)
+}
+
+// Takes the step of a part.
+fn reply_to_step(
+    input: &[u8],
+    part: InputPart,
+    c: Case,
+    text: &mut [u8],
+    spelt: &mut [u8],
+    state: &mut [usize],
+) -> Reply
+    requires { ⌜ Within (length (now input)) part × (part .from + 12 ≤ part .to) × CaseHeld (length (now input)) c ⌝ }
+    requires { ⌜ (length (now text) ≡ bufferMost) × (length (now spelt) ≡ bufferMost) ⌝ }
+{
+    let at = part.from;
+    let from = at + 8;
+    let to = part.to;
+    let n = spell(&input[from..to], spelt);
+    let size = c.text_size;
+    let mut first = 0usize;
+    let number = call_step(
+        input[at],
+        input[at + 1],
+        &spelt[..n],
+        state,
+        &mut text[..size],
+        &mut first,
+    );
+    Reply {
+        number: text::wide(number),
+        first,
+        growth: 0,
+        count: 0,
+    }
+}
+
+// The answer that is due to a step.
+fn step_due(input: &[u8], at: usize) -> Reply
+    requires { ⌜ at + 8 ≤ length (now input) ⌝ }
+{
+    Reply {
+        number: text::wide(input[at + 2]),
+        first: text::read_u32(input, at + 4),
+        growth: 0,
+        count: 0,
+    }
+}
+
+// Whether a step that is a finish, and gives the length `n`, leaves the file that is due.
+fn leaves_file(input: &[u8], at: usize, c: Case, n: usize, text: &[u8], spelt: &mut [u8]) -> bool
+    requires { ⌜ (at + 12 ≤ length (now input)) × CaseHeld (length (now input)) c ⌝ }
+    requires { ⌜ (length (now text) ≡ bufferMost) × (length (now spelt) ≡ bufferMost) ⌝ }
+{
+    if input[at] != STEP_FINISH {
+        return true;
+    }
+    let file = bytes_of(input, c.file);
+    if file.len() < 4 {
+        return false;
+    }
+    let size = spell(file, spelt);
+    if size != n {
+        return false;
+    }
+    text::same(&text[..size], &spelt[..size])
+}
+
+// Whether two states are the same numbers.
+fn same_numbers(a: &[usize; STATE], b: &[usize; STATE]) -> bool {
+    let mut i = 0;
+    while i < STATE {
+        if a[i] != b[i] {
+            return false;
+        }
+        i += 1;
+    }
+    true
+}
+
+// Whether a step answers as is due; where it is refused, it leaves state and buffer as they were.
+fn step_passes(
+    input: &[u8],
+    part: InputPart,
+    c: Case,
+    text: &mut [u8; BUFFER],
+    spelt: &mut [u8; BUFFER],
+    text_due: &mut [u8; BUFFER],
+    state: &mut [usize; STATE],
+) -> bool
+    requires { ⌜ Within (length (now input)) part × (part .from + 12 ≤ part .to) × CaseHeld (length (now input)) c ⌝ }
+{
+    let before = *state;
+    let a = reply_to_step(input, part, c, text, spelt, state);
+    if !same_reply(a, step_due(input, part.from)) {
+        return false;
+    }
+    if a.number != 0 {
+        if !same_numbers(state, &before) {
+            return false;
+        }
+        return text::same(text, text_due);
+    }
+    take_over(text, text_due, c.text_size);
+    leaves_file(input, part.from, c, a.first, text, spelt)
+}
+
 // ---- the parts
 
 // Says which case failed, and at which call.
@@ -374,6 +548,14 @@ fn sized(input: &[u8], part: InputPart, c: Case) -> Case
     d
 }
 
+// Whether a part is a call or a step.
+fn is_call(tag: u8) -> bool {
+    if tag == CALL {
+        return true;
+    }
+    tag == STEP
+}
+
 // A part that says something of the case.
 fn told(input: &[u8], tag: u8, part: InputPart, c: Case) -> Case
     requires { ⌜ Within (length (now input)) part × CaseHeld (length (now input)) c ⌝ }
@@ -396,10 +578,14 @@ fn told(input: &[u8], tag: u8, part: InputPart, c: Case) -> Case
         d.list = part;
         return d;
     }
+    if tag == FILE {
+        d.file = part;
+        return d;
+    }
     if tag == SIZES {
         return sized(input, part, c);
     }
-    if tag == CALL {
+    if is_call(tag) {
         d.calls = sum(c.calls, 1);
     }
     d
@@ -415,10 +601,10 @@ fn lay(
     ledger_due: &mut [u8; BUFFER],
 ) {
     if tag == SIZES {
-        fill(text);
-        fill(ledger);
-        fill(text_due);
-        fill(ledger_due);
+        fill(text, FILLED);
+        fill(ledger, FILLED);
+        fill(text_due, FILLED);
+        fill(ledger_due, FILLED);
     }
     if tag == TEXT {
         begin_with(text, bytes);
@@ -436,7 +622,52 @@ fn lay(
     }
 }
 
-// A part in turn: what it says, what it lays down, and the call that it is.
+// A call that is a part.
+fn replay_call(
+    input: &[u8],
+    part: InputPart,
+    c: Case,
+    text: &mut [u8; BUFFER],
+    ledger: &mut [u8; BUFFER],
+    text_due: &[u8; BUFFER],
+    ledger_due: &mut [u8; BUFFER],
+) -> Case
+    requires { ⌜ Within (length (now input)) part × CaseHeld (length (now input)) c ⌝ }
+    ensures { λ r. ⌜ CaseHeld (length (now (input .entry))) r ⌝ }
+{
+    let from = part.from;
+    if part.to - from < CALL_SIZE {
+        return fails(input, c);
+    }
+    if passes(input, from, c, text, ledger, text_due, ledger_due) {
+        return c;
+    }
+    fails(input, c)
+}
+
+// A step that is a part.
+fn replay_step(
+    input: &[u8],
+    part: InputPart,
+    c: Case,
+    text: &mut [u8; BUFFER],
+    spelt: &mut [u8; BUFFER],
+    text_due: &mut [u8; BUFFER],
+    state: &mut [usize; STATE],
+) -> Case
+    requires { ⌜ Within (length (now input)) part × CaseHeld (length (now input)) c ⌝ }
+    ensures { λ r. ⌜ CaseHeld (length (now (input .entry))) r ⌝ }
+{
+    if part.to - part.from < STEP_SIZE {
+        return fails(input, c);
+    }
+    if step_passes(input, part, c, text, spelt, text_due, state) {
+        return c;
+    }
+    fails(input, c)
+}
+
+// A part in turn: what it says, what it lays down, and the call or the step that it is.
 fn take_part(
     input: &[u8],
     tag: u8,
@@ -446,6 +677,7 @@ fn take_part(
     ledger: &mut [u8; BUFFER],
     text_due: &mut [u8; BUFFER],
     ledger_due: &mut [u8; BUFFER],
+    state: &mut [usize; STATE],
 ) -> Case
     requires { ⌜ Within (length (now input)) part × CaseHeld (length (now input)) c ⌝ }
     ensures { λ r. ⌜ CaseHeld (length (now (input .entry))) r ⌝ }
@@ -454,16 +686,13 @@ fn take_part(
     let to = part.to;
     let d = told(input, tag, part, c);
     lay(tag, &input[from..to], text, ledger, text_due, ledger_due);
-    if tag != CALL {
-        return d;
+    if tag == CALL {
+        return replay_call(input, part, d, text, ledger, text_due, ledger_due);
     }
-    if to - from < CALL_SIZE {
-        return fails(input, d);
+    if tag == STEP {
+        return replay_step(input, part, d, text, ledger, text_due, state);
     }
-    if passes(input, from, d, text, ledger, text_due, ledger_due) {
-        return d;
-    }
-    fails(input, d)
+    d
 }
 
 // All parts of a case in turn.
@@ -472,12 +701,14 @@ fn replay(input: &[u8]) -> Case {
     let mut ledger = [0u8; BUFFER];
     let mut text_due = [0u8; BUFFER];
     let mut ledger_due = [0u8; BUFFER];
+    let mut state = [0usize; STATE];
     let nothing = InputPart { from: 0, to: 0 };
     let mut c = Case {
         name: nothing,
         rules: nothing,
         tree: nothing,
         list: nothing,
+        file: nothing,
         text_size: 0,
         ledger_size: 0,
         calls: 0,
@@ -504,6 +735,7 @@ fn replay(input: &[u8]) -> Case {
             &mut ledger,
             &mut text_due,
             &mut ledger_due,
+            &mut state,
         );
         i = to;
     }

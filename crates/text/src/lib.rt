@@ -20,7 +20,7 @@ pub fn wide(b: u8) -> usize
 }
 
 // The lowest byte of a number.
-fn low_byte(n: usize) -> u8
+pub fn low_byte(n: usize) -> u8
     ensures { λ r. ⌜ r ≡ n % 256 ⌝ }
 {
     (n % 256) as u8

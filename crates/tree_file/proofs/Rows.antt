@@ -43,7 +43,7 @@ pub record IsNode (rows : List ℕ) (m : ℕ) : Type 0 where
   pub number : m ≡ fourAt 4 rows
   pub kind : T (isNode (getD rows 0 0))
 
-is-T : (a : Bool) → a ≡ true → T a
+pub is-T : (a : Bool) → a ≡ true → T a
 is-T a e = subst T (sym e) tt
 
 pub T-is : (a : Bool) → T a → a ≡ true

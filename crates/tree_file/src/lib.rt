@@ -37,14 +37,14 @@ use mitex_syntax::TOKEN_COMMAND_SYM;
 use mitex_syntax::TOKEN_WORD;
 
 // The refusals of a tree file, in checking order.
-const BAD_LAYOUT: u8 = 3;
+pub const BAD_LAYOUT: u8 = 3;
 
-const TOO_DEEP: u8 = 4;
+pub const TOO_DEEP: u8 = 4;
 
 const BAD_SHAPE: u8 = 5;
 
 // No row lies deeper.
-const DEPTH_MOST: usize = 64;
+pub const DEPTH_MOST: usize = 64;
 
 // The blocks are at most so many.
 pub const BLOCKS_MOST: usize = 512;
@@ -114,7 +114,7 @@ pub enum Checked {
 // Of the layout, `plain` says that the characters of the text have one byte each: then no part of it is looked at again.
 
 // Whether this is a token's kind and text.
-fn token_fits(k: u8, s: &[u8], plain: bool) -> bool
+pub fn token_fits(k: u8, s: &[u8], plain: bool) -> bool
     requires { ⌜ (plain ≡ true → oneByteEach (now s) ≡ true) ⌝ }
     ensures { λ r. ⌜ r ≡ tokenFits k (now (s .entry)) ⌝ }
 {

@@ -1,12 +1,15 @@
-// Convert, the three changes of one block, and several blocks replaced together, for programs in other languages, on numbers and slices:
-// `include/zaldrume.h` says how each passes. The answer is a refusal's number, 0 where there is none, and numbers written through the lent
-// places.
+// Convert, the three changes of one block, several blocks replaced together, and the steps of writing a tree file, for programs in other
+// languages, on numbers and slices: `include/zaldrume.h` says how each passes. The answer is a refusal's number, 0 where there is none, and
+// numbers written through the lent places.
 use calls::Converted;
 use calls::Edited;
+ghost use mathlib.Core.Path.{_≡_};
 ghost use Rattle.edit_meaning.specs.Edit.{convertDocument, edit as editDocument};
 ghost use Rattle.edit_meaning.specs.Changes.{putIn, takeOut, replaceAll, change};
 ghost use Rattle.manuscript.specs.Manuscript.{manuscript};
 ghost use Rattle.calls.specs.Calls.{answerOfEdit};
+ghost use Rattle.tree_writer.specs.Steps.{opensNode, addsToken, closesNode, finishes};
+ghost use Rattle.tree_writer.specs.States.{stepIn, lengthIn, StepsIn};
 ghost use Rattle.zaldrume.specs.Answers.{AnswerTold, Tells};
 
 // Convert: `place` is the text's length or the refusal's row, `count` the count of blocks.
@@ -147,4 +150,47 @@ pub extern "C" fn zaldrume_replace_all<'a>(
 {
     let r = calls::replace_all(mode, rules, tree, blocks, kept, text, ledger);
     tell(r, place, growth, count)
+}
+
+// Opens a node of a kind. `state` is the writer between two steps, zeros at the start.
+#[no_mangle]
+pub extern "C" fn zaldrume_writer_open(state: &mut [usize], buffer: &mut [u8], kind: u8) -> u8
+    ensures { λ r. ⌜ StepsIn (stepIn (now (state .entry)) (now (buffer .entry)) (opensNode kind)) r (now (state .exit)) (now (buffer .exit)) ⌝ }
+{
+    tree_writer::open_in(state, buffer, kind)
+}
+
+// Adds a token of a kind with its text.
+#[no_mangle]
+pub extern "C" fn zaldrume_writer_token(
+    state: &mut [usize],
+    buffer: &mut [u8],
+    kind: u8,
+    text: &[u8],
+) -> u8
+    ensures { λ r. ⌜ StepsIn (stepIn (now (state .entry)) (now (buffer .entry)) (addsToken kind (now (text .entry)))) r (now (state .exit))
+        (now (buffer .exit)) ⌝ }
+{
+    tree_writer::token_in(state, buffer, kind, text)
+}
+
+// Closes the node that was opened last and is open.
+#[no_mangle]
+pub extern "C" fn zaldrume_writer_close(state: &mut [usize], buffer: &mut [u8]) -> u8
+    ensures { λ r. ⌜ StepsIn (stepIn (now (state .entry)) (now (buffer .entry)) closesNode) r (now (state .exit)) (now (buffer .exit)) ⌝ }
+{
+    tree_writer::close_in(state, buffer)
+}
+
+// Finishes: the file stands at the front of the buffer, and `place` is its length, 0 in a refusal.
+#[no_mangle]
+pub extern "C" fn zaldrume_writer_finish(
+    state: &mut [usize],
+    buffer: &mut [u8],
+    place: &mut usize,
+) -> u8
+    ensures { λ r. ⌜ StepsIn (stepIn (now (state .entry)) (now (buffer .entry)) finishes) r (now (state .exit)) (now (buffer .exit)) ⌝ }
+    ensures { λ _. ⌜ now (place .exit) ≡ lengthIn (stepIn (now (state .entry)) (now (buffer .entry)) finishes) ⌝ }
+{
+    tree_writer::finish_in(state, buffer, place)
 }

@@ -1,4 +1,4 @@
-//! Convert and the changes written a second time, in plain Rust over a parsed tree.
+//! Convert, the changes and the writer of tree files written a second time, in plain Rust over a parsed tree.
 //!
 //! It shares no code with the proved library and is compared with it, answer by answer and byte by
 //! byte. [`made`] makes the inputs, and [`constructs`] and [`hostile`] those on which speed is measured.
@@ -7,15 +7,20 @@ mod calls;
 mod converter;
 mod ledger;
 mod rules;
+mod sha256;
 mod tree;
+mod writer;
 
+pub mod builder;
 pub mod constructs;
 pub mod hostile;
 pub mod made;
 
 pub use calls::{check, convert, edit, insert, remove, replace_all, Converted, Edited};
 pub use ledger::{ledger_fits, LABEL_MOST, ROW_SIZE};
-pub use tree::Kind;
+pub use sha256::sha256;
+pub use tree::{walk, Kind};
+pub use writer::{standing_of, Standing, Step, Writer};
 
 /// A file has at most so many bytes.
 pub const FILE_MOST: usize = 65_536;
@@ -23,7 +28,7 @@ pub const FILE_MOST: usize = 65_536;
 /// A document has at most so many blocks.
 pub const BLOCKS_MOST: usize = 512;
 
-/// One of the fifteen refusals, and the row that it names (0 where it names none).
+/// One of the refusals 1 to 15, and the row that it names (0 where it names none).
 #[derive(Debug, Clone, Copy, PartialEq, Eq)]
 pub struct Refused {
     pub number: u8,

@@ -1,9 +1,10 @@
 //! The tree file: its rows parsed to a tree, and the rules on the tree's shape.
 
+use crate::writer::Step;
 use crate::{parts, Refused, BLOCKS_MOST};
 
 /// A row lies at most so deep, the root being depth 1.
-const DEPTH_MOST: usize = 64;
+pub(crate) const DEPTH_MOST: usize = 64;
 
 macro_rules! kinds {
     ($first:ident $($name:ident)*) => {
@@ -30,7 +31,7 @@ kinds! {
 }
 
 impl Kind {
-    fn of(number: u8) -> Option<Kind> {
+    pub(crate) fn of(number: u8) -> Option<Kind> {
         Kind::ALL.get(usize::from(number).checked_sub(1)?).copied()
     }
 
@@ -248,14 +249,14 @@ impl<'a> Layout<'a> {
         let mut next = at + 1;
         let mut rest = text;
         while next <= at + row.size {
-            let (child, behind) = self.element(next, rest);
+            let (child, after) = self.element(next, rest);
             children.push(child);
             next += 1 + if self.rows[next].token {
                 0
             } else {
                 self.rows[next].size
             };
-            rest = behind;
+            rest = after;
         }
         let own = &text[..text.len() - rest.len()];
         (
@@ -268,6 +269,37 @@ impl<'a> Layout<'a> {
             rest,
         )
     }
+}
+
+/// The steps that write a file which passes 3 and 4: its nodes, tokens and closes in order, and the finish.
+pub fn walk(file: &[u8]) -> Option<Vec<Step>> {
+    let layout = Layout::parse(file).filter(|layout| layout.depth <= DEPTH_MOST)?;
+    let mut steps = Vec::new();
+    // how many rows are left under each open node
+    let mut open: Vec<usize> = Vec::new();
+    let mut rest = layout.area.as_bytes();
+    for row in &layout.rows {
+        if let Some(left) = open.last_mut() {
+            *left -= 1;
+        }
+        if row.token {
+            let (text, after) = rest.split_at(row.size);
+            steps.push(Step::Token(row.kind as u8, text.to_vec()));
+            rest = after;
+        } else {
+            steps.push(Step::Open(row.kind as u8));
+            if let Some(left) = open.last_mut() {
+                *left -= row.size;
+            }
+            open.push(row.size);
+        }
+        while open.last() == Some(&0) {
+            open.pop();
+            steps.push(Step::Close);
+        }
+    }
+    steps.push(Step::Finish);
+    Some(steps)
 }
 
 /// Checks 3, 4 and 5.

@@ -8,10 +8,11 @@ use Rattle.cases.proofs.replay.Statement.{statement}
 use Rattle.cases.proofs.replay.Tie as tie
 
 abbrev Inv-loop : tie.InvT-loop
-Inv-loop input text₀ ledger₀ text-due₀ ledger-due₀ c₀ i₀ text ledger text-due ledger-due c i = (i ≤ length input) × CaseHeld (length input) c
+Inv-loop input text₀ ledger₀ text-due₀ ledger-due₀ state₀ c₀ i₀ text ledger text-due ledger-due state c i =
+    (i ≤ length input) × CaseHeld (length input) c
 
 abbrev μ-loop : tie.MeasureT-loop
-μ-loop input text₀ ledger₀ text-due₀ ledger-due₀ c₀ i₀ text ledger text-due ledger-due c i = length input - i
+μ-loop input text₀ ledger₀ text-due₀ ledger-due₀ state₀ c₀ i₀ text ledger text-due ledger-due state c i = length input - i
 
 fails-requires : tie.Need-fails-requires Inv-loop μ-loop
 fails-requires c κs = c .before .before .loop .inv .1
@@ -21,7 +22,7 @@ fails-requires-2 c κs = c .before .before .before .before .loop .inv .1
 
 take-part-requires : tie.Need-take-part-requires Inv-loop μ-loop
 take-part-requires c κs =
-    let size = c .before .before .before .before .before in
+    let size = c .before .before .before .before .before .before in
     (omega arith, size .before .before .before .before .loop .inv .1)
 
 loop-again : tie.Need-loop-again Inv-loop μ-loop

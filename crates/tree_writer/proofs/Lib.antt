@@ -1,0 +1,17 @@
+pub mod OpenNodes
+pub mod Accepting
+pub mod Tests
+pub mod Rows
+pub mod Filing
+pub mod Possible
+pub mod Answers
+pub mod Numbers
+pub mod Holding
+pub mod Standing
+pub mod Answering
+pub mod Finishing
+pub mod Feeding
+pub mod Reaching
+pub mod StateRuns
+pub mod AnySteps
+pub mod Promises
