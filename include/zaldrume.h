@@ -20,11 +20,11 @@
  *    3 the tree file breaks its layout              11 \item stands outside of a list
  *    4 a row lies deeper than 64                    12 an argument is missing
  *    5 a row breaks a rule on the tree's shape      13 a column letter is not l, c, r or |
- *    6 (changes) no such place, or no fit           14 a label to be held is over 248 bytes
+ *    6 (changes) no such place, or no fit           14 a label to be held is over 120 bytes
  *    7 an element that cannot be converted          15 text, ledger or buffer is too short
  *    8 a formula's ends do not match                16 (writer) a step out of place
  *
- *   A ledger has 256 bytes for each block; there are at most 512.
+ *   A ledger has 128 bytes for each block; there are at most 512.
  *
  *   The changes are edit, insert, remove and replace_all. Each is refused with 6 where there is no such
  *   block or position, where kept is more than text_size, or where the ledger does not fit: it has a

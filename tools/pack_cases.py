@@ -33,8 +33,6 @@ Bytes are spelt as how often the first stands there before another comes (4 byte
 
 A name that a case of an earlier folder has too stands after its folder's.
 
-A case that is longer than the program reads ends the packing.
-
 After a call both buffers must be as is due, whole. The vectors do not name the ledger of a conversion. So each that is accepted is
 followed by edits of its first and last block to the tree that is there: these must accept the ledger, convert one block again, and
 change nothing.
@@ -52,10 +50,9 @@ NAME, RULES, TREE, SIZES, TEXT, LEDGER, TEXT_DUE, LEDGER_DUE, CALL, BLOCKS, STEP
 CONVERT, EDIT, INSERT, REMOVE, REPLACE = range(5)
 KINDS = {"convert": CONVERT, "edit": EDIT, "insert": INSERT, "remove": REMOVE, "replace": REPLACE}
 BUFFER = 65536
-ROW_SIZE = 256
+ROW_SIZE = 128
 BUFFER_MOST = 65536 + 513 * ROW_SIZE
 LIST_MOST = 1024
-CASE_MOST = 524288
 STEPS = {"open": 0, "token": 1, "close": 2, "finish": 3}
 STEP_LINE = re.compile(r"(?:(open) (\d+)|(token) (\d+) (\S+)|(close)|(finish)) = (\d+)(?: (\d+))?(?: x(\d+))?")
 
@@ -214,8 +211,6 @@ def main():
             name = f"{case.parent.name}/{case.name}" if case.name in names else case.name
             names.add(name)
             data = part(NAME, name.encode()) + b"".join(parts_of(case))
-            if len(data) > CASE_MOST:
-                sys.exit(f"{name}: a case of {len(data)} bytes, more than {CASE_MOST}")
             packed.append(numbers(len(data)) + data)
     PACKED.write_bytes(b"".join(packed))
     print(f"{len(packed)} cases, {PACKED.stat().st_size} bytes")

@@ -30,7 +30,6 @@ use mitex_spec::{
 };
 use reference::constructs;
 use reference::made::{tree_file, Maker};
-use reference::{BLOCKS_MOST, ROW_SIZE};
 use syntax::SyntaxKind::{self, *};
 use syntax::SyntaxNode;
 use zaldrume::raw;
@@ -193,7 +192,7 @@ fn original(mode: u8, rules: &[u8], tree: &[u8]) -> Original {
 fn compare(cases: u64, seed: u64) {
     std::panic::set_hook(Box::new(|_| ()));
     let mut counts = BTreeMap::<String, u64>::new();
-    let (mut text, mut ledger) = (vec![0; 1 << 20], vec![0; BLOCKS_MOST * ROW_SIZE]);
+    let (mut text, mut ledger) = (vec![0; 1 << 20], vec![0; 1 << 16]);
     for seed in seed..seed + cases {
         let mut maker = Maker::new(seed);
         let rules = maker.rules();
@@ -237,7 +236,7 @@ fn speed(seed: u64) {
         let written = converter::run(nodes[i].clone(), LaTeXMode::Text, spec.clone());
         written.expect("accepted")
     };
-    let (mut text, mut ledger) = (vec![0; 1 << 20], vec![0; BLOCKS_MOST * ROW_SIZE]);
+    let (mut text, mut ledger) = (vec![0; 1 << 20], vec![0; 1 << 16]);
     let mut library = |i: usize, text: &mut [u8]| {
         let tree = black_box(&documents[i].tree);
         raw::convert(0, black_box(&rules), tree, text, &mut ledger).place

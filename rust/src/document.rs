@@ -127,9 +127,7 @@ impl Document {
     /// # Errors
     ///
     /// 2 where the rule file breaks its layout; 6 where there are more than [`BLOCKS_MOST`] blocks, the
-    /// text or the ledger is shorter than is said, or the rows do not fit the text's length. A ledger
-    /// of shorter rows, as versions with shorter labels stored it, is too short: [`open`](Self::open)
-    /// such a document once more.
+    /// text or the ledger is shorter than is said, or the rows do not fit the text's length.
     pub fn from_parts(
         mode: Mode,
         rules: &[u8],
@@ -382,7 +380,7 @@ pub struct Block<'a> {
     pub range: Range<usize>,
     /// Whether a space at the start of the next block is left out.
     pub flag: bool,
-    /// The label that is held for a later block, of at most [`LABEL_MOST`](crate::LABEL_MOST) bytes.
+    /// The label that is held for a later block.
     pub label: Option<&'a [u8]>,
 }
 

@@ -57,11 +57,8 @@ pub const FILE_MOST: usize = 65_536;
 /// A document has at most so many blocks.
 pub const BLOCKS_MOST: usize = 512;
 
-/// A held label has at most so many bytes.
-pub const LABEL_MOST: usize = 248;
-
-/// A ledger row has so many bytes: eight, and those of the longest label.
-pub const ROW_SIZE: usize = 8 + LABEL_MOST;
+/// A ledger row has so many bytes.
+pub const ROW_SIZE: usize = 128;
 
 /// What a document is read as at its start.
 #[derive(Debug, Clone, Copy, PartialEq, Eq, Hash)]

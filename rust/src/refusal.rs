@@ -49,7 +49,7 @@ impl Refusal {
             11 => "\\item stands outside of a list",
             12 => "an argument is missing",
             13 => "a column letter is not l, c, r or |",
-            14 => "a label that has to wait is longer than 248 bytes",
+            14 => "a label is longer than 120 bytes",
             15 => "the text buffer, the ledger or the writer's buffer is too short",
             16 => "a step of the writer is out of place",
             _ => "unknown refusal",

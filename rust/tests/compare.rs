@@ -5,11 +5,9 @@
 
 mod shared;
 
-use reference::constructs::{
-    self, command, curly, environment, formula, label, line_break, space, word,
-};
+use reference::constructs::{self, curly, environment, formula, label, line_break, space, word};
 use reference::made::{rule_file, token, tree_file, Made, Maker};
-use reference::{Kind, BLOCKS_MOST, FILE_MOST, LABEL_MOST, ROW_SIZE};
+use reference::{Kind, BLOCKS_MOST, FILE_MOST, ROW_SIZE};
 use shared::{each_case, told, Buffers, Tally};
 use zaldrume::raw::{self, Answer};
 
@@ -324,7 +322,6 @@ impl Run {
         let new = if at.len() > 10 { 300 } else { 750 };
         change.make(&mut blocks, &at, || match maker.random.chance(new) {
             false if count > 0 => maker.random.pick(&self.blocks).clone(),
-            _ if maker.random.chance(50) => maker.waiting_label(),
             _ => {
                 let depth = maker.random.below(4);
                 maker.block(depth)
@@ -353,8 +350,6 @@ impl Run {
             self.compare_singly(tally, before, &at, &blocks);
         }
         if answer.number == 0 {
-            let rows = blocks.len() * ROW_SIZE;
-            tally.count_labels(change.name(), &self.buffers.ledger[..rows]);
             self.kept = answer.place;
             self.blocks = blocks;
         }
@@ -476,16 +471,13 @@ impl Run {
         }
     }
 
-    /// Another byte in a row, at times its last.
+    /// Another byte in a row.
     fn damage_ledger(&mut self, maker: &mut Maker) {
         let row = maker.random.below(self.blocks.len().max(1));
-        let (from, count) = *maker
-            .random
-            .pick(&[(0, 8), (0, ROW_SIZE), (ROW_SIZE - 1, 1)]);
-        let at = row * ROW_SIZE + from + maker.random.below(count);
+        let most = *maker.random.pick(&[8, ROW_SIZE]);
+        let at = row * ROW_SIZE + maker.random.below(most);
         if let Some(byte) = self.buffers.ledger.get_mut(at) {
-            let label = LABEL_MOST as u8;
-            *byte = *maker.random.pick(&[0, 1, 2, label, label + 1, 255]);
+            *byte = *maker.random.pick(&[0, 1, 2, 120, 121, 255]);
             self.sound = false;
         }
     }
@@ -581,22 +573,9 @@ fn small_block(maker: &mut Maker) -> Made {
         }
         6 => line_break(),
         7 => space(),
-        8 => {
-            let label = match maker.random.chance(250) {
-                true => longest_label(maker),
-                false => label("eq", &mut maker.random),
-            };
-            formula(vec![curly(vec![label])])
-        }
+        8 => formula(vec![curly(vec![label("eq", &mut maker.random)])]),
         _ => environment("quote", None, vec![word(&mut maker.random)]),
     }
-}
-
-/// A label with as many bytes as can wait. There are two, which differ in their last byte alone.
-fn longest_label(maker: &mut Maker) -> Made {
-    let last = *maker.random.pick(&["l", "m"]);
-    let text = "l".repeat(LABEL_MOST - 1) + last;
-    command("label", vec![curly(vec![token(Kind::TokenWord, text)])])
 }
 
 /// The buffers have room for the texts before and after, and then for a byte less.

@@ -3,8 +3,8 @@
 use reference::made;
 use reference::Kind::TokenWord;
 use zaldrume::file::{Class, Kind, RuleFile, TreeFile};
-use zaldrume::{convert, edit, insert, remove, replace_all, Document, Edited, Mode, Refusal};
-use zaldrume::{BLOCKS_MOST, LABEL_MOST, ROW_SIZE};
+use zaldrume::{convert, edit, replace_all, Document, Edited, Mode, Refusal};
+use zaldrume::{BLOCKS_MOST, ROW_SIZE};
 
 /// [`Document::edit`], [`Document::insert`] or [`Document::remove`].
 type Change = fn(&mut Document, &[u8], usize) -> Result<Edited, Refusal>;
@@ -255,52 +255,20 @@ fn refused_changes_leave_it_alone() {
     assert!(document.blocks().eq(before.blocks()));
 }
 
-/// `${\label{...}}$`: the label is held.
-fn add_held(tree: &mut TreeFile, label: &str) {
+/// `${\label{e}}$`: the label is held.
+fn add_label(tree: &mut TreeFile) {
     tree.start(Kind::ItemFormula);
     tree.token(Kind::TokenDollar, "$");
     tree.start(Kind::ItemCurly);
     tree.start(Kind::ItemCmd);
     tree.token(Kind::ClauseCommandName, "\\label");
     tree.start(Kind::ClauseArgument);
-    tree.token(Kind::TokenWord, &format!("{{{label}}}"));
+    tree.token(Kind::TokenWord, "{e}");
     tree.finish();
     tree.finish();
     tree.finish();
     tree.token(Kind::TokenDollar, "$");
     tree.finish();
-}
-
-fn add_label(tree: &mut TreeFile) {
-    add_held(tree, "e");
-}
-
-/// A label of so many bytes.
-fn add_long<const SIZE: usize>(tree: &mut TreeFile) {
-    add_held(tree, &"l".repeat(SIZE));
-}
-
-/// A label that differs from the longest in its last byte alone.
-fn add_other_long(tree: &mut TreeFile) {
-    add_held(tree, &other_longest());
-}
-
-/// A label of the most bytes, half as many characters.
-fn add_accents(tree: &mut TreeFile) {
-    add_held(tree, &"é".repeat(LABEL_MOST / 2));
-}
-
-/// One byte more, and far fewer characters than the most bytes.
-fn add_more_accents(tree: &mut TreeFile) {
-    add_held(tree, &("é".repeat(LABEL_MOST / 2) + "l"));
-}
-
-fn longest() -> String {
-    "l".repeat(LABEL_MOST)
-}
-
-fn other_longest() -> String {
-    "l".repeat(LABEL_MOST - 1) + "m"
 }
 
 /// An empty `quote`, which takes a label that is held.
@@ -352,132 +320,6 @@ fn a_label_goes_where_blocks_let_it() {
 /// A word.
 fn add_word(tree: &mut TreeFile) {
     tree.token(Kind::TokenWord, "word");
-}
-
-/// Another word.
-fn add_other_word(tree: &mut TreeFile) {
-    tree.token(Kind::TokenWord, "other");
-}
-
-#[test]
-fn the_longest_label_waits() {
-    assert_eq!((LABEL_MOST, ROW_SIZE), (248, 256));
-    let tree = built(&[add_long::<LABEL_MOST>, add_word, add_quote]);
-    let document = Document::open(Mode::Text, &rules(), &tree).unwrap();
-    let label = longest();
-    assert!(document
-        .text()
-        .ends_with(format!("word#quote[];<{label}>").as_bytes()));
-
-    // the formula's row and the word's hold it, that of the quote no more
-    let rows: Vec<_> = document.ledger().chunks_exact(ROW_SIZE).collect();
-    for row in &rows[..2] {
-        assert_eq!(row[4..8], [0, 1, 248, 0]);
-        assert_eq!(row[8..256], *label.as_bytes());
-    }
-    assert_eq!(rows[2][4..], [0; 252]);
-    let labels: Vec<_> = document.blocks().map(|block| block.label).collect();
-    let label = Some(label.as_bytes());
-    assert_eq!(labels, [label, label, None]);
-}
-
-#[test]
-fn a_label_that_is_one_byte_longer() {
-    const LONGER: Add = add_long::<{ LABEL_MOST + 1 }>;
-    let number_and_row = |refusal: Refusal| (refusal.number(), refusal.row());
-    // after the root, the word, and the formula with its `$` and its braces
-    let tree = built(&[add_word, LONGER, add_quote]);
-    let refusal = Document::open(Mode::Text, &rules(), &tree).unwrap_err();
-    assert_eq!(number_and_row(refusal), (14, 5));
-    assert_eq!(
-        refusal.to_string(),
-        "a label that has to wait is longer than 248 bytes (row 5)"
-    );
-
-    let before = [add_word, add_long::<LABEL_MOST>, add_quote];
-    let mut document = Document::open(Mode::Text, &rules(), &built(&before)).unwrap();
-    let kept = document.clone();
-    let refusals = [
-        document.edit(&tree, 1).unwrap_err(),
-        document.replace_all(&tree, &[0, 1]).unwrap_err(),
-        document
-            .insert(&built(&[add_word, LONGER, before[1], add_quote]), 1)
-            .unwrap_err(),
-    ];
-    assert_eq!(refusals.map(number_and_row), [(14, 5); 3]);
-    assert_eq!(parts(&document), parts(&kept));
-
-    // the limit is one of bytes, not of characters
-    let open = |label: Add| Document::open(Mode::Text, &rules(), &built(&[label, add_quote]));
-    let document = open(add_accents).unwrap();
-    assert_eq!(document.ledger()[6], 248);
-    let refusal = open(add_more_accents).unwrap_err();
-    assert_eq!(number_and_row(refusal), (14, 4));
-}
-
-#[test]
-fn changes_carry_the_longest_label() {
-    const LONG: Add = add_long::<LABEL_MOST>;
-    let start = built(&[LONG, add_word, add_quote]);
-    let mut document = Document::open(Mode::Text, &rules(), &start).unwrap();
-    let mut change = |blocks: &[Add], change: &dyn Fn(&mut Document, &[u8]) -> Edited| {
-        let tree = built(blocks);
-        let edited = change(&mut document, &tree);
-        let from_start = Document::open(Mode::Text, &rules(), &tree).unwrap();
-        assert_eq!(parts(&document), parts(&from_start));
-        (edited.growth, edited.count, document.text().to_vec())
-    };
-    let ends = |text: &[u8], end: String| text.ends_with(end.as_bytes());
-    let (one, two) = (longest(), other_longest());
-
-    // the label goes past the other word
-    let (growth, count, text) = change(&[LONG, add_other_word, add_quote], &|document, tree| {
-        document.edit(tree, 1).unwrap()
-    });
-    assert_eq!((growth, count), (1, 1));
-    assert!(ends(&text, format!("other#quote[];<{one}>")));
-
-    // a quote before the word takes it from the one after the word
-    let (growth, count, text) = change(
-        &[LONG, add_quote, add_other_word, add_quote],
-        &|document, tree| document.insert(tree, 1).unwrap(),
-    );
-    assert_eq!((growth, count), (9, 3));
-    assert!(ends(&text, format!("#quote[];<{one}>other#quote[];")));
-
-    // and gives it back
-    let (growth, count, text) = change(&[LONG, add_other_word, add_quote], &|document, tree| {
-        document.remove(tree, 1).unwrap()
-    });
-    assert_eq!((growth, count), (-9, 2));
-    assert!(ends(&text, format!("other#quote[];<{one}>")));
-
-    // a label with another last byte is another label
-    let (growth, count, text) =
-        change(&[add_other_long, add_word, add_quote], &|document, tree| {
-            document.replace_all(tree, &[0, 1]).unwrap()
-        });
-    assert_eq!((growth, count), (-1, 3));
-    assert!(ends(&text, format!("word#quote[];<{two}>")));
-}
-
-#[test]
-fn a_row_for_each_block() {
-    let number = |blocks: usize, ledger: usize| {
-        let (mut text, mut ledger) = (vec![0; blocks], vec![0; ledger]);
-        let words = vec!["a"; blocks];
-        match convert(Mode::Text, &rules(), &tree(&words), &mut text, &mut ledger) {
-            Ok(converted) => {
-                assert_eq!((converted.length, converted.blocks), (blocks, blocks));
-                0
-            }
-            Err(refusal) => refusal.number(),
-        }
-    };
-    assert_eq!(number(BLOCKS_MOST, 131_072), 0);
-    assert_eq!(number(BLOCKS_MOST, 131_071), 15);
-    assert_eq!(number(256, 65_536), 0);
-    assert_eq!(number(257, 65_536), 15);
 }
 
 #[test]
@@ -611,94 +453,15 @@ fn parts_that_do_not_fit() {
         (4, 2),
         (5, 0),
         (5, 2),
-        (6, 249),
+        (6, 121),
         (6, 0),
         (7, 1),
-        (9, 1),
-        (128, 1),
-        (255, 1),
+        (127, 1),
     ] {
         let mut damaged = ledger.to_vec();
         damaged[at] = byte;
         assert_eq!(number(&rules(), text, &damaged), 6, "byte {at}: {byte}");
-        assert_eq!(
-            number_of_edit(&tree, text, &damaged),
-            6,
-            "byte {at}: {byte}"
-        );
     }
-    // a label may have zeros in it
-    let mut longest = ledger.to_vec();
-    longest[6] = 248;
-    assert_eq!(number(&rules(), text, &longest), 0);
-    assert_eq!(number_of_edit(&tree, text, &longest), 0);
-}
-
-/// What an edit of the last of two blocks says of the ledger.
-fn number_of_edit(tree: &[u8], text: &[u8], ledger: &[u8]) -> u8 {
-    let (length, mut ledger) = (text.len(), ledger.to_vec());
-    let mut text = [text, &[0; 300]].concat();
-    let edited = edit(
-        Mode::Text,
-        &rules(),
-        tree,
-        1,
-        length,
-        &mut text,
-        &mut ledger,
-    );
-    edited.map_or_else(|refusal| refusal.number(), |_| 0)
-}
-
-/// The rows of a ledger as a version with labels of at most 120 bytes kept them.
-fn shorter_rows(ledger: &[u8]) -> Vec<u8> {
-    let rows = ledger.chunks_exact(ROW_SIZE);
-    rows.flat_map(|row| &row[..128]).copied().collect()
-}
-
-/// A change of what is lent, a text and a ledger.
-type OfLent<'a> = &'a dyn Fn(&mut [u8], &mut [u8]) -> Result<Edited, Refusal>;
-
-/// What each change of a document of three words answers, given its kept text and a ledger.
-fn changes_of_three(kept: &[u8], ledger: &[u8]) -> [Result<Edited, Refusal>; 4] {
-    let (mode, rules, length) = (Mode::Text, rules(), kept.len());
-    let [three, four, two] = [&["a", "x", "c"][..], &["a", "b", "c", "d"], &["a", "b"]].map(tree);
-    let calls: [OfLent; 4] = [
-        &|text, rows| edit(mode, &rules, &three, 1, length, text, rows),
-        &|text, rows| insert(mode, &rules, &four, 3, length, text, rows),
-        &|text, rows| remove(mode, &rules, &two, 2, length, text, rows),
-        &|text, rows| replace_all(mode, &rules, &three, &[0, 1], length, text, rows),
-    ];
-    calls.map(|call| call(&mut [kept, &[0; 100]].concat(), &mut ledger.to_vec()))
-}
-
-#[test]
-fn ledgers_with_shorter_rows() {
-    let document = Document::open(Mode::Text, &rules(), &tree(&["a", "b", "c"])).unwrap();
-    let (text, ledger) = parts(&document);
-    let answers = changes_of_three(text, &[ledger, &[0; ROW_SIZE]].concat());
-    assert!(answers.iter().all(Result::is_ok));
-    let load = |ledger: &[u8], blocks: usize| {
-        let parts = (text.to_vec(), ledger.to_vec());
-        Document::from_parts(Mode::Text, &rules(), parts.0, text.len(), parts.1, blocks)
-    };
-    assert!(load(ledger, 3).is_ok());
-
-    // too short; or the second row stands where the first has zeros, whatever follows the third
-    let shorter = shorter_rows(ledger);
-    for more in [vec![], vec![0; 1000], vec![0xa5; 1000], shorter.repeat(3)] {
-        let ledger = [&shorter[..], &more].concat();
-        let answers = changes_of_three(text, &ledger);
-        assert_eq!(answers.map(|answer| answer.unwrap_err().number()), [6; 4]);
-        for blocks in [3, ledger.len() / ROW_SIZE] {
-            assert_eq!(load(&ledger, blocks).unwrap_err().number(), 6);
-        }
-    }
-
-    // of one block the row is as it is now, once zeros follow it
-    let document = Document::open(Mode::Text, &rules(), &tree(&["a"])).unwrap();
-    let shorter = shorter_rows(document.ledger());
-    assert_eq!([&shorter[..], &[0; 128]].concat(), document.ledger());
 }
 
 #[test]

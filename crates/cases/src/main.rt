@@ -85,7 +85,7 @@ const STATE: usize = 8;
 const LIST_MOST: usize = 2 * BLOCKS_MOST;
 
 // How many bytes a case has at most.
-const CASE_MOST: usize = 524288;
+const CASE_MOST: usize = 262144;
 
 // More cases than there are.
 const CASES_MOST: usize = 100000;

@@ -14,8 +14,7 @@ use Rattle.mitex_meaning.specs.Outcome.{label_most}
 use Rattle.mitex_meaning.specs.State.{label_of, carry_of}
 use Rattle.mitex_meaning.specs.Keeping.{label_bytes, Short}
 use Rattle.mitex_meaning.specs.declared.Converter.{Converter}
-use Rattle.mitex_meaning.specs.declared.Progress.{Progress}
-use Rattle.ledger.specs.Ledger.{row_size, mark, is_held, encode_carry, encode_row, row_in, HasRow, row_at, decode_row, move_row}
+use Rattle.ledger.specs.Ledger.{Row, row_size, mark, is_held, encode_carry, encode_row, HasRow, row_at, decode_row, move_row}
 use Rattle.ledger.proofs.Rows.{encode_row-length}
 
 -- ---- bytes stored from a place on
@@ -109,34 +108,33 @@ label-counts : (h : Bool) (n : ℕ) (l : List ℕ) → n ≤ length l
 label-counts true n l h = (length-take-le n l h, refl, refl)
 label-counts false n l h = (refl, refl, refl)
 
-label_of-short : (h : Bool) (n : ℕ) (l : List ℕ) → n ≤ label_most → length (label_bytes (label_of h n l)) ≤ label_most
-label_of-short true n l h = omega (arith, length-take n l)
-label_of-short false n l h = omega arith
-
 pub carry_of-short : (c : Converter) → c.label_len ≤ label_most → Short (carry_of c)
-carry_of-short c h = label_of-short c.label_held c.label_len c.label h
+carry_of-short c h = go c.label_held
+  where
+    go : (x : Bool) → length (label_bytes (label_of x c.label_len c.label)) ≤ label_most
+    go true = omega (arith, length-take c.label_len c.label)
+    go false = omega arith
 
-pub row-filled : (row : List ℕ) {row₁ row₂ y : List ℕ} {len : ℕ} (r : Progress) (label : List ℕ) → length row ≡ row_size → length label ≡ label_most
-    → r.len ≤ label_most → len ≡ cond r.held r.len 0 → row₁ ≡ sets row 0 (four r.at [])
-    → row₂ ≡ sets row₁ 4 (mark r.flag ∷ mark r.held ∷ len ∷ 0 ∷ [])
-    → y ≡ take len label ++ replicate (label_most - len) 0
-    → take 8 row₂ ++ (y ++ drop (length row₂ - 8) (drop 8 row₂)) ≡ encode_row (row_in r label)
+pub row-filled : (row : List ℕ) {row₁ row₂ y : List ℕ} (end : ℕ) {len : ℕ} (c : Converter) → length row ≡ row_size → length c.label ≡ label_most
+    → c.label_len ≤ label_most → len ≡ cond c.label_held c.label_len 0 → row₁ ≡ sets row 0 (four end [])
+    → row₂ ≡ sets row₁ 4 (mark c.skip_next_space ∷ mark c.label_held ∷ len ∷ 0 ∷ [])
+    → y ≡ take len c.label ++ replicate (label_most - len) 0
+    → take 8 row₂ ++ (y ++ drop (length row₂ - 8) (drop 8 row₂)) ≡ encode_row (record { end = end; carry = carry_of c })
 unfolding encode_row encode_carry
-row-filled row {row₁} {row₂} {y} {len} r label l la ls le w₁ w₂ wy =
-    let end : ℕ = r.at in
-    let marks : List ℕ = mark r.flag ∷ mark r.held ∷ len ∷ 0 ∷ [] in
+row-filled row {row₁} {row₂} {y} end {len} c l la ls le w₁ w₂ wy =
+    let marks : List ℕ = mark c.skip_next_space ∷ mark c.label_held ∷ len ∷ 0 ∷ [] in
     let w : row₂ ≡ sets row 0 (four end marks) = w₂ ∙ ap (λ m. sets m 4 marks) w₁ in
     let f : row₂ ≡ four end marks ++ drop 8 row = w ∙ sets-front row (four end marks) (omega arith) in
     let t : take 8 row₂ ≡ four end marks = ap (take 8) f in
-    let p = label-counts r.held r.len label (omega arith) in
-    let b : List ℕ = label_bytes (label_of r.held r.len label) in
+    let p = label-counts c.label_held c.label_len c.label (omega arith) in
+    let b : List ℕ = label_bytes (label_of c.label_held c.label_len c.label) in
     let n : length b ≡ len = p.0 ∙ sym le in
-    let e : take len label ≡ b = ap (λ k. take k label) le ∙ sym p.1 in
+    let e : take len c.label ≡ b = ap (λ k. take k c.label) le ∙ sym p.1 in
     rest-written row₂ y 8
-    ∙ ap (λ q. q ++ y) t
-    ∙ ap (λ q. four end (mark r.flag ∷ mark r.held ∷ len ∷ 0 ∷ q)) (wy ∙ ap (λ q. q ++ replicate (label_most - len) 0) e)
-    ∙ ap (λ k. four end (mark r.flag ∷ mark r.held ∷ k ∷ 0 ∷ b ++ replicate (label_most - k) 0)) (sym n)
-    ∙ ap (λ h. four end (mark r.flag ∷ mark h ∷ length b ∷ 0 ∷ b ++ replicate (label_most - length b) 0)) (sym p.2)
+    ∙ ap (λ r. r ++ y) t
+    ∙ ap (λ r. four end (mark c.skip_next_space ∷ mark c.label_held ∷ len ∷ 0 ∷ r)) (wy ∙ ap (λ r. r ++ replicate (label_most - len) 0) e)
+    ∙ ap (λ k. four end (mark c.skip_next_space ∷ mark c.label_held ∷ k ∷ 0 ∷ b ++ replicate (label_most - k) 0)) (sym n)
+    ∙ ap (λ h. four end (mark c.skip_next_space ∷ mark h ∷ length b ∷ 0 ∷ b ++ replicate (label_most - length b) 0)) (sym p.2)
 
 -- ---- a row moved
 
@@ -155,12 +153,12 @@ row_moved i old new {x} l h e =
     ∙ ap (λ q. sets m (at + 4) (take (row_size - 4) q)) d
     ∙ sets_same (row_size - 4) m (at + 4) (omega arith))
 
-pub row_written : (i : ℕ) (l : List ℕ) (r : Progress) (label : List ℕ) {y : List ℕ} → HasRow i l → r.at < 4294967296 → r.len ≤ label_most
-    → y ≡ encode_row (row_in r label)
+pub row_written : (i : ℕ) (l : List ℕ) (end : ℕ) (c : Converter) {y : List ℕ} → HasRow i l → end < 4294967296 → c.label_len ≤ label_most
+    → y ≡ encode_row (record { end = end; carry = carry_of c })
     → take (row_size * i) l ++ (y ++ drop (row_size * i + row_size - row_size * i) (drop (row_size * i) l))
-    ≡ sets l (row_size * i) (encode_row (row_in r label))
-row_written i l r label {y} h small short w =
-    let n : length (encode_row (row_in r label)) ≡ row_size
-    = encode_row-length (row_in r label) (record { small = small; short = label_of-short r.held r.len label short }) in
+    ≡ sets l (row_size * i) (encode_row (record { end = end; carry = carry_of c }))
+row_written i l end c {y} h small short w =
+    let r : Row = record { end = end; carry = carry_of c } in
+    let n : length (encode_row r) ≡ row_size = encode_row-length r (record { small = small; short = carry_of-short c short }) in
     let k : length y ≡ row_size * i + row_size - row_size * i = ap length w ∙ n ∙ omega arith in
     part-written l y (row_size * i) (row_size * i + row_size - row_size * i) k (omega arith) ∙ ap (sets l (row_size * i)) w

@@ -2,7 +2,7 @@
 use Rattle.std.specs.Prelude.{◌≡◌, refl, true, false, List, [], ◌∷◌, ◌++◌, ℕ, ◌-◌, replicate}
 use Rattle.mitex_meaning.specs.Outcome.{label_most}
 use Rattle.mitex_meaning.specs.Outcome.Label.{unheld, held}
-use Rattle.ledger.specs.Ledger.{Row, row_size, encode_carry, encode_row, decode_row, all_zero, marks_fit, row_fits, fits, move_row, same_carry, rows_from, encode_rows}
+use Rattle.ledger.specs.Ledger.{Row, encode_carry, encode_row, decode_row, all_zero, marks_fit, row_fits, fits, move_row, same_carry, rows_from, encode_rows}
 
 abbrev labelled_row : Row
 labelled_row = record { end = 258; carry = record { flag = true; label = held (101 ∷ []) } }
@@ -13,10 +13,6 @@ plain_row n = record { end = n; carry = record { flag = false; label = unheld } 
 -- eight bytes and the first of the label, padded
 abbrev row_bytes : List ℕ → List ℕ
 row_bytes l = l ++ replicate (label_most - 1) 0
-
--- the longest label, and a row: eight bytes and that label
-label-and-row : (label_most ≡ 248) × (row_size ≡ 256)
-label-and-row = (refl, refl)
 
 labelled-bytes : encode_row labelled_row ≡ row_bytes (2 ∷ 1 ∷ 0 ∷ 0 ∷ 1 ∷ 1 ∷ 1 ∷ 0 ∷ 101 ∷ [])
 unfolding encode_row encode_carry
@@ -48,18 +44,6 @@ rows-unfit : (fits 1 6 (row_bytes (5 ∷ 0 ∷ 0 ∷ 0 ∷ 0 ∷ 0 ∷ 0 ∷ 0 �
     × (fits 1 5 (5 ∷ 0 ∷ 0 ∷ 0 ∷ 0 ∷ 0 ∷ 0 ∷ 0 ∷ replicate (label_most - 1) 0) ≡ false)
 unfolding fits row_fits marks_fit all_zero
 rows-unfit = (refl, refl, refl, refl, refl, refl)
-
--- a row of 128 bytes, as a label of 120 bytes would leave it
-abbrev shorter_row : ℕ → List ℕ
-shorter_row n = n ∷ replicate 127 0
-
--- the longest label fills its row; a byte more is too long; shorter rows are too few bytes, or what follows them is no row
-longest-fits : (fits 1 5 (encode_row (record { end = 5; carry = record { flag = false; label = held (replicate 248 108) } })) ≡ true)
-    × (fits 1 5 (5 ∷ 0 ∷ 0 ∷ 0 ∷ 0 ∷ 1 ∷ 249 ∷ 0 ∷ replicate 248 108) ≡ false)
-    × (fits 2 5 (shorter_row 5 ++ shorter_row 5) ≡ false)
-    × (fits 2 5 (shorter_row 5 ++ (shorter_row 5 ++ replicate row_size 0)) ≡ false)
-unfolding fits row_fits marks_fit all_zero encode_row encode_carry
-longest-fits = (refl, refl, refl, refl)
 
 -- lengths that fall
 falling : fits 2 4 (encode_rows (plain_row 5 ∷ plain_row 4 ∷ [])) ≡ false

@@ -14,7 +14,6 @@ use Rattle.mitex_meaning.specs.Outcome.{Label, Carry, label_most}
 use Rattle.mitex_meaning.specs.Outcome.Label.{unheld, held}
 use Rattle.mitex_meaning.specs.State.{label_of}
 use Rattle.mitex_meaning.specs.Keeping.{label_bytes}
-use Rattle.mitex_meaning.specs.declared.Progress.{Progress}
 
 abbrev pub row_size : ℕ
 row_size = 8 + label_most
@@ -44,10 +43,6 @@ encode_carry c =
 
 unfoldable pub encode_row : Row → List ℕ
 encode_row r = four r.end (encode_carry r.carry)
-
--- the row of a walk that has come so far, with the label's bytes beside it
-abbrev pub row_in : Progress → List ℕ → Row
-row_in r l = record { end = r.at; carry = record { flag = r.flag; label = label_of r.held r.len l } }
 
 abbrev pub encode_rows : List Row → List ℕ
 encode_rows [] = []

@@ -6,9 +6,9 @@ ghost use Rattle.mitex_meaning.specs.Outcome.{label_most};
 ghost use Rattle.mitex_meaning.specs.Conversion.{start_carry};
 ghost use Rattle.mitex_meaning.specs.State.{carry_of, with_carry};
 ghost use Rattle.mitex_meaning.specs.Keeping.{label_bytes};
-ghost use Rattle.ledger.specs.Ledger.{row_size, mark, is_held, encode_row, row_in, HasRow, RowFits, row_at, all_zero, marks_fit, row_fits, fits, Movable, move_row, move_rows, same_label, same_carry};
+ghost use Rattle.ledger.specs.Ledger.{row_size, mark, is_held, encode_row, HasRow, RowFits, row_at, all_zero, marks_fit, row_fits, fits, Movable, move_row, move_rows, same_label, same_carry};
 
-use mitex_meaning::{Converter, LABEL_MOST, Progress};
+use mitex_meaning::{Converter, LABEL_MOST};
 
 // The bytes of a row.
 pub const ROW_SIZE: usize = 8 + LABEL_MOST;
@@ -204,10 +204,11 @@ fn held_len(held: bool, len: usize) -> usize
 }
 
 // The label's bytes that count, padded with zeros.
-fn fill_label(out: &mut [u8], label: &[u8], len: usize)
-    requires { (length out.old ≡ label_most) × (length label.now ≡ label_most) × (len ≤ label_most) }
-    ensures { out.new ≡ take len label.now ++ replicate (label_most - len) 0 }
+fn fill_label(out: &mut [u8], converter: Converter, len: usize)
+    requires { (length out.old ≡ label_most) × (len ≤ label_most) }
+    ensures { out.new ≡ take len converter.label ++ replicate (label_most - len) 0 }
 {
+    let label = converter.label;
     text::put(out, 0, &label[..len]);
     text::clear(&mut out[len..]);
 }
@@ -223,25 +224,25 @@ fn write_marks(row: &mut [u8], flag: bool, held: bool, len: usize)
     row[7] = 0;
 }
 
-// A whole row: where the text ends and what is carried, by how far a walk has come.
-fn fill_row(row: &mut [u8], r: Progress, label: &[u8; LABEL_MOST])
-    requires { (length row.old ≡ row_size) × (r.at < 4294967296) × (r.len ≤ label_most) }
-    ensures { row.new ≡ encode_row (row_in r label.now) }
+// A whole row: the text's length and the converter's carry.
+fn fill_row(row: &mut [u8], end: usize, converter: Converter)
+    requires { (length row.old ≡ row_size) × (end < 4294967296) × (converter.label_len ≤ label_most) }
+    ensures { row.new ≡ encode_row (record { end = end; carry = carry_of converter }) }
 {
-    let len = held_len(r.held, r.len);
-    text::write_u32(row, 0, r.at);
-    write_marks(row, r.flag, r.held, len);
-    fill_label(&mut row[8..], label, len);
+    let len = held_len(converter.label_held, converter.label_len);
+    text::write_u32(row, 0, end);
+    write_marks(row, converter.skip_next_space, converter.label_held, len);
+    fill_label(&mut row[8..], converter, len);
 }
 
-// Row `i`, by how far the walk over its block has come. The label's bytes are lent.
-pub fn write_row(ledger: &mut [u8], i: usize, r: Progress, label: &[u8; LABEL_MOST])
-    requires { HasRow i ledger.old × (r.at < 4294967296) × (r.len ≤ label_most) }
-    ensures { ledger.new ≡ sets ledger.old (row_size * i) (encode_row (row_in r label.now)) }
+// Row `i`: the text's length after the block, and the converter's carry.
+pub fn write_row(ledger: &mut [u8], i: usize, end: usize, converter: Converter)
+    requires { HasRow i ledger.old × (end < 4294967296) × (converter.label_len ≤ label_most) }
+    ensures { ledger.new ≡ sets ledger.old (row_size * i) (encode_row (record { end = end; carry = carry_of converter })) }
 {
     let at = ROW_SIZE * i;
     let to = at + ROW_SIZE;
-    fill_row(&mut ledger[at..to], r, label);
+    fill_row(&mut ledger[at..to], end, converter);
 }
 
 // The length of row `i`, its text moved from the place `old` to `new`.

@@ -14,11 +14,34 @@ ghost use Rattle.mitex_loops.specs.Given.{number_of};
 ghost use Rattle.mitex.specs.Walks.{Room, Siblings, ColorGiven, looping, ConvertsElement, Walks, Turns, Colors};
 
 use mitex_meaning::{
-    Act, Arguments, Command, Element, GreedyPart, LABEL_MOST, LaTeXEnv, LaTeXMode, Loop, ModelPart,
-    Place, Progress,
+    Act, Arguments, Command, Converter, Element, GreedyPart, LABEL_MOST, LaTeXEnv, LaTeXMode, Loop,
+    ModelPart, Place, Progress, Walked,
 };
 
-// A block, one element. It stands one row after `row`.
+// The answer of a walk over a block: the converter with what comes back, in the place where it was.
+fn walked(r: Progress, x: Place, label: [u8; LABEL_MOST]) -> Walked
+    ensures { result ≡ walked_in x label r }
+{
+    let mode = x.mode;
+    let env = x.env;
+    let converter = Converter {
+        mode,
+        env,
+        indent: x.indent,
+        label,
+        label_len: r.len,
+        label_held: r.held,
+        skip_next_space: r.flag,
+    };
+    Walked {
+        converter,
+        at: r.at,
+        refusal: r.refusal,
+        row: r.row,
+    }
+}
+
+// A block, one element, from the converter that the block before left. It stands one row after `row`.
 pub fn convert_block<'a>(
     out: &mut [u8],
     at: usize,
@@ -27,19 +50,26 @@ pub fn convert_block<'a>(
     row: usize,
     rules: &'a [u8],
     index: &[u32],
-    label: &mut [u8; LABEL_MOST],
-    x: Place,
-    f: bool,
-    h: bool,
-    n: usize,
-) -> Progress
-    requires room { Room 0 rows.now text.now out.old at row (state_in x f h n label.old) }
+    c: Converter,
+) -> Walked
+    requires room { Room 0 rows.now text.now out.old at row c }
     requires some_rules { SomeRules rules.now index.now }
     requires some_tree { SomeTree rows.now text.now }
-    ensures { ConvertsElement rules.now index.now rows.now text.now (1 + row)
-        (state_in x f h n label.old) at out.old (walked_in x label.new result) out.new }
+    ensures { ConvertsElement rules.now index.now rows.now text.now (1 + row) c at out.old result
+        out.new }
 {
-    convert(out, at, rows, text, row, rules, index, label, x, f, h, n)
+    let mut label = c.label;
+    let mode = c.mode;
+    let env = c.env;
+    let indent = c.indent;
+    let x = Place { mode, env, indent };
+    let f = c.skip_next_space;
+    let h = c.label_held;
+    let n = c.label_len;
+    let r = convert(
+        out, at, rows, text, row, rules, index, &mut label, x, f, h, n,
+    );
+    walked(r, x, label)
 }
 
 // Elements side by side. Tokens go in runs; a node that only clears the flag is entered here: its children come next.

@@ -1,12 +1,12 @@
 -- Worked conversions: the cases tried by hand that concern conversion.
-use Rattle.std.specs.Prelude.{◌≡◌, refl, true, List, [], ◌∷◌, ◌++◌, ◌+◌}
+use Rattle.std.specs.Prelude.{◌≡◌, refl, true, List, [], ◌∷◌, ◌+◌}
 use Rattle.text.specs.Ascii.{ascii}
 use Rattle.mitex_syntax.specs.Syntax.{ItemFormula, ItemAttachComponent, TokenWord, TokenCaret}
 use Rattle.mitex_syntax.specs.Tree.Tree.{token}
 use Rattle.mitex_meaning.specs.Outcome.{label_most}
-use Rattle.mitex_meaning.specs.Examples.{Example, example, hold, few_rules, rule_for, writes, over, tok, tok_word, tok_space, tok_break, tok_new_line, tok_dollar, times, curly}
-use Rattle.mitex_meaning.specs.Examples.{braced, bracketed, cmd_node, env_node}
-use Rattle.mitex_meaning.specs.Examples.Expected.{text, refusal}
+use Rattle.mitex_meaning.specs.Examples.{Example, example, hold, few_rules, writes, over, tok, tok_word, tok_space, tok_break, tok_new_line, tok_dollar, times, curly, braced}
+use Rattle.mitex_meaning.specs.Examples.{bracketed, cmd_node, env_node}
+use Rattle.mitex_meaning.specs.Examples.Expected.{refusal}
 use Rattle.mitex_meaning.specs.declared.LaTeXMode.TheVariants.{Text, Math}
 
 abbrev pub hand_examples : List Example
@@ -47,21 +47,13 @@ hand_examples =
     ∷ []
     )
     (writes "#math.equation(block: false, $$);#table(stroke: none,\ncolumns: 1,\nalign: (left, ),\ntable.vline(stroke: .5pt, x: 0), table.vline(stroke: .5pt, x: 1), \n[a],\n);<e>")
-    -- a held label of the most bytes
-    ∷ example (rule_for "quote" 3 ∷ []) Text
-    (
-    over ItemFormula (tok_dollar ∷ curly (cmd_node "\\label" (braced (token TokenWord (times label_most (ascii "l")) ∷ []) ∷ []) ∷ []) ∷ tok_dollar ∷ [])
-    ∷ env_node "quote" [] []
-    ∷ []
-    )
-    (text (ascii "#math.equation(block: false, $$);#quote[];<" ++ (times label_most (ascii "l") ++ (ascii ">"))))
-    -- a held label of one byte more
-    ∷ example (rule_for "quote" 3 ∷ []) Text
-    (
-    over ItemFormula (tok_dollar ∷ curly (cmd_node "\\label" (braced (token TokenWord (times (1 + label_most) (ascii "l")) ∷ []) ∷ []) ∷ []) ∷ tok_dollar ∷ [])
-    ∷ env_node "quote" [] []
-    ∷ []
-    )
+    -- held label of the most bytes
+    ∷ example few_rules Text
+    (over ItemFormula (tok_dollar ∷ curly (cmd_node "\\label" (braced (token TokenWord (times label_most (ascii "l")) ∷ []) ∷ []) ∷ []) ∷ tok_dollar ∷ []) ∷ [])
+    (writes "#math.equation(block: false, $$);")
+    -- held label of one byte more
+    ∷ example few_rules Text
+    (over ItemFormula (tok_dollar ∷ curly (cmd_node "\\label" (braced (token TokenWord (times (1 + label_most) (ascii "l")) ∷ []) ∷ []) ∷ []) ∷ tok_dollar ∷ []) ∷ [])
     (refusal 14 5)
     -- image width
     ∷ example few_rules Text

@@ -1,18 +1,22 @@
 -- Worked conversions: labels written at once, held, replaced, written and dropped.
-use Rattle.std.specs.Prelude.{◌≡◌, refl, true, List, [], ◌∷◌, ◌++◌, ◌+◌}
+use Rattle.std.specs.Prelude.{◌≡◌, refl, true, List, [], ◌∷◌, ◌++◌, ◌+◌, ◌/◌}
 use Rattle.text.specs.Ascii.{ascii}
 use Rattle.mitex_syntax.specs.Syntax.{TokenError, ItemFormula, TokenWord, ItemCmd}
 use Rattle.mitex_syntax.specs.Tree.Tree.{token}
 use Rattle.mitex_meaning.specs.Outcome.{label_most}
 use Rattle.mitex_meaning.specs.Examples.{Example, example, hold, usual, writes, over, tok, tok_word, tok_name, tok_space, tok_comment, tok_dollar, times, curly, arg, braced}
 use Rattle.mitex_meaning.specs.Examples.{cmd_node, env_node}
-use Rattle.mitex_meaning.specs.Examples.Expected.{text}
+use Rattle.mitex_meaning.specs.Examples.Expected.{text, refusal}
 use Rattle.mitex_meaning.specs.declared.LaTeXMode.TheVariants.{Text, Math}
 
 abbrev pub label_examples : List Example
 label_examples =
     -- label under None in Math: nothing, and not held
     example usual Math (cmd_node "\\label" (braced (tok_word "k" ∷ []) ∷ []) ∷ []) (writes "")
+    -- label under None of any length is written, no 14
+    ∷ example usual Text
+    (cmd_node "\\label" (braced (token TokenWord (times (10 + label_most) (ascii "k")) ∷ []) ∷ []) ∷ [])
+    (text (ascii "<" ++ (times (10 + label_most) (ascii "k") ++ (ascii ">"))))
     -- label directly in a formula: env is None, so it is not held
     ∷ example usual Text
     (
@@ -85,16 +89,12 @@ label_examples =
     (writes "#math.equation(block: false, $mat()$);#quote[];<k>")
     -- long label in a figure
     ∷ example usual Text
-    (env_node "figure" [] (cmd_node "\\label" (braced (token TokenWord (times 61 (195 ∷ 169 ∷ [])) ∷ []) ∷ []) ∷ []) ∷ [])
-    (text (ascii "#figure()[];<" ++ (times 61 (195 ∷ 169 ∷ []) ++ (ascii ">"))))
+    (env_node "figure" [] (cmd_node "\\label" (braced (token TokenWord (times (1 + label_most / 2) (195 ∷ 169 ∷ [])) ∷ []) ∷ []) ∷ []) ∷ [])
+    (refusal 14 4)
     -- \label writes its argument's raw text, unwalked
     ∷ example usual Text
     (cmd_node "\\label" (braced (tok_word "a" ∷ cmd_node "\\b" [] ∷ tok TokenError "?" ∷ tok_comment ∷ []) ∷ []) ∷ [])
     (writes "<a\\b?%>")
-    -- a label longer than any that waits, written at once
-    ∷ example [] Text
-    (cmd_node "\\label" (braced (token TokenWord (times (52 + label_most) (ascii "l")) ∷ []) ∷ []) ∷ [])
-    (text (ascii "<" ++ (times (52 + label_most) (ascii "l") ++ (ascii ">"))))
     ∷ []
 
 pub label-examples-hold : hold label_examples ≡ true

@@ -26,7 +26,7 @@ pub record Carry : Type 0 where
 
 -- the longest label that can be held
 abbrev pub label_most : ℕ
-label_most = 248
+label_most = 120
 
 -- refused with a number, at a row counted from the element's own; or done, with the carry and the text
 pub data Outcome : Type 0 where

@@ -30,7 +30,7 @@ pub enum LaTeXEnv {
 }
 
 // The longest label that can be held.
-pub const LABEL_MOST: usize = 248;
+pub const LABEL_MOST: usize = 120;
 
 // The state: the held label is bytes, of which label_len count while label_held.
 #[derive(Drop)]
@@ -213,7 +213,7 @@ pub struct Progress {
     pub held: bool,
 }
 
-// How far a walk over blocks has come, with the converter whole: the converter and the next place, with refusal 0; or a refusal and its row.
+// What a walk over a block answers: the converter and the next place, with refusal 0; or a refusal and its row.
 #[derive(Drop)]
 pub struct Walked {
     pub converter: Converter,

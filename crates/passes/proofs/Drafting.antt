@@ -12,7 +12,6 @@ use Rattle.mitex_meaning.specs.State.{carry_of}
 use Rattle.ledger.specs.Ledger.{row_size, encode_row}
 use Rattle.passes.specs.Passes.{BlocksUpTo, Pieced, Steps, Measures, Writes}
 use Rattle.passes.specs.declared.Standing.{Standing}
-use Rattle.passes.proofs.Lending.{same-standings}
 use Rattle.passes.proofs.Measuring.{BlocksPassed, blocks-passed-start, blocks-passed-end, blocks-passed-refused, blocks-passed-next}
 use Rattle.passes.proofs.Rewriting.{BlocksLeft, blocks-left-start, blocks-left-next, blocks-left-end, row-left, went-well}
 
@@ -27,33 +26,19 @@ module _ (rules index rows text : List ℕ) (from : Standing) (n : ℕ) (out₀ 
   pub drafted-start : Drafted from out₀ ledger₀
   drafted-start = record { passed = λ w. blocks-passed-start w (omega arith); left = λ w. blocks-left-start w out₀; long = refl; ledger_long = refl }
 
-  -- what the pass promises of a standing at which it ends
-  abbrev DraftEnds : Standing → List ℕ → List ℕ → Type 0
-  DraftEnds r out ledger =
-      Measures rules index rows text from n n false [] r × Writes rules index rows text from n out₀ ledger₀ out ledger
-
--- the same from a standing and at one that are the same
-ends_as :
-    (rules index rows text : List ℕ) {from from' r r' : Standing} (n : ℕ) (out₀ ledger₀ out ledger : List ℕ) → from ≡ from' → r' ≡ r
-    → DraftEnds rules index rows text from n out₀ ledger₀ r out ledger → DraftEnds rules index rows text from' n out₀ ledger₀ r' out ledger
-ends_as rules index rows text n out₀ ledger₀ out ledger e e' =
-    same-standings (λ (f q : Standing). DraftEnds rules index rows text f n out₀ ledger₀ q out ledger) e e'
-
 module _ {rules index rows text : List ℕ} {from : Standing} {n : ℕ} {out₀ ledger₀ : List ℕ} {s : Standing} {out ledger : List ℕ}
     (d : Drafted rules index rows text from n out₀ ledger₀ s out ledger) where
-  pub drafted-end :
-      {from' r : Standing} → n ≤ s.block → from ≡ from' → r ≡ s → DraftEnds rules index rows text from' n out₀ ledger₀ r out ledger
-  drafted-end h e e' =
-      ends_as rules index rows text n out₀ ledger₀ out ledger e e'
-      (λ w. blocks-passed-end (d.passed w) h, λ w. blocks-left-end w out₀ (d.left w) h)
+  -- what the pass promises of a standing at which it ends
+  abbrev DraftEnds : Standing → List ℕ → Type 0
+  DraftEnds r out' =
+      Measures rules index rows text from n n false [] r × Writes rules index rows text from n out₀ ledger₀ out' ledger
+
+  pub drafted-end : n ≤ s.block → DraftEnds s out
+  drafted-end h = (λ w. blocks-passed-end (d.passed w) h, λ w. blocks-left-end w out₀ (d.left w) h)
 
   module _ (h : s.block < n) {out' : List ℕ} {r : Standing} (p : Steps rules index rows text s out r out') where
-    pub drafted-refused :
-        {from' r' : Standing} → (r.walked.refusal ≡ 0 → ⊥) → from ≡ from' → r' ≡ r
-        → DraftEnds rules index rows text from' n out₀ ledger₀ r' out' ledger
-    drafted-refused z e e' =
-        ends_as rules index rows text n out₀ ledger₀ out' ledger e e'
-        (λ w. blocks-passed-refused (d.passed w) h p z, λ w. absurd (z (went-well (d.left w).here h p)))
+    pub drafted-refused : (r.walked.refusal ≡ 0 → ⊥) → DraftEnds r out'
+    drafted-refused z = (λ w. blocks-passed-refused (d.passed w) h p z, λ w. absurd (z (went-well (d.left w).here h p)))
 
     -- where pieces were given, the row can say where the text ends
     pub drafted-next :

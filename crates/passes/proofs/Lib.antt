@@ -1,6 +1,5 @@
 pub mod Ends
 pub mod Starting
-pub mod Lending
 pub mod Stepping
 pub mod Reaching
 pub mod Pieces

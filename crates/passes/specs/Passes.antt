@@ -14,11 +14,10 @@ use Rattle.mitex_meaning.specs.Outcome.{Carry, label_most}
 use Rattle.mitex_meaning.specs.Outcome.Outcome.{done}
 use Rattle.mitex_meaning.specs.Conversion.{start_carry}
 use Rattle.mitex_meaning.specs.State.{new_of, carry_of, Carried}
-use Rattle.mitex_meaning.specs.Contract.{place_of, Agrees, Went, walked_in}
+use Rattle.mitex_meaning.specs.Contract.{place_of, Agrees, Went}
 use Rattle.mitex_meaning.specs.declared.LaTeXEnv.TheVariants.{None}
 use Rattle.mitex_meaning.specs.declared.LaTeXMode.{LaTeXMode}
 use Rattle.mitex_meaning.specs.declared.Converter.{Converter}
-use Rattle.mitex_meaning.specs.declared.Place.{Place}
 use Rattle.ledger.specs.Ledger.{Row, row_size, same_carry, decode_rows, encode_rows, Piece, written, rows_from}
 use Rattle.edit_meaning.specs.Walk.{Walk, rows_all, walk, walk_until}
 use Rattle.edit_meaning.specs.Walk.Walk.{stopped, pieces}
@@ -26,23 +25,6 @@ use Rattle.edit_meaning.specs.Walk.{BlockConverter}
 use Rattle.edit_meaning.specs.Edit.{end_before, carry_before, row_carries}
 use Rattle.manuscript.specs.Manuscript.{listed, block, blocks_in}
 use Rattle.passes.specs.declared.Standing.{Standing}
-use Rattle.passes.specs.declared.Passing.{Passing}
-
--- ---- a standing in its parts: the place, which is that of all blocks, the label's array, which is lent, and what goes on
-
-abbrev pub passing_of : Standing → Passing
-passing_of s =
-    let a = s.walked in
-    let c = a.converter in
-    record {
-      block = s.block;
-      i = s.i;
-      j = s.j;
-      progress = record { at = a.at; row = a.row; len = c.label_len; refusal = a.refusal; flag = c.skip_next_space; held = c.label_held };
-    }
-
-abbrev pub standing_in : Place → List ℕ → Passing → Standing
-standing_in x l s = record { block = s.block; i = s.i; j = s.j; walked = walked_in x l s.progress }
 
 -- ---- what is given
 

@@ -5,11 +5,11 @@ ghost use Rattle.std.specs.Prelude.{◌≡◌, true, false, [], ℕ, ◌+◌, �
 ghost use Rattle.std.proofs.lemmas.List.Edits.{sets};
 ghost use Rattle.text.specs.Writing.{cap};
 ghost use Rattle.mitex_meaning.specs.Outcome.{label_most};
-ghost use Rattle.mitex_meaning.specs.Contract.{place_of, walked_in};
-ghost use Rattle.ledger.specs.Ledger.{row_size, encode_row, row_in, HasRow, RowFits};
-ghost use Rattle.passes.specs.Passes.{passing_of, standing_in, BlocksGiven, BlocksUpTo, Pieced, SomeBlocks, Reaches, EndsBefore, CarriesBefore, Steps, StandsBefore, MeetsBefore, Measures, Writes};
+ghost use Rattle.mitex_meaning.specs.State.{carry_of};
+ghost use Rattle.ledger.specs.Ledger.{row_size, encode_row, HasRow, RowFits};
+ghost use Rattle.passes.specs.Passes.{BlocksGiven, BlocksUpTo, Pieced, SomeBlocks, Reaches, EndsBefore, CarriesBefore, Steps, StandsBefore, MeetsBefore, Measures, Writes};
 
-use mitex_meaning::{Converter, LABEL_MOST, LaTeXMode, Place, Progress, Walked};
+use mitex_meaning::{Converter, LaTeXMode, Walked};
 
 // The end of a text that a row cannot say any more.
 const CAP: usize = 4294967296;
@@ -21,15 +21,6 @@ pub struct Standing {
     pub i: usize,
     pub j: usize,
     pub walked: Walked,
-}
-
-// The same while a pass goes on: the label's bytes are lent from block to block, and the place of all blocks is one.
-#[derive(Drop)]
-pub struct Passing {
-    pub block: usize,
-    pub i: usize,
-    pub j: usize,
-    pub progress: Progress,
 }
 
 // Where block `k` begins, by the row before it.
@@ -95,100 +86,27 @@ pub fn stand_at(rows: &[u8], block: usize, at: usize, converter: Converter) -> S
     stand_on(rows, 0, 0, 0, block, at, converter)
 }
 
-// ---- a standing in its parts
-
-// Where a converter stands.
-fn place_of(c: Converter) -> Place
-    ensures { result ≡ place_of c }
-{
-    let mode = c.mode;
-    let env = c.env;
-    let indent = c.indent;
-    Place { mode, env, indent }
-}
-
-// A standing without its place and the label's bytes.
-fn passing_of(s: Standing) -> Passing
-    ensures { result ≡ passing_of s }
-{
-    let walked = s.walked;
-    let c = walked.converter;
-    let progress = Progress {
-        at: walked.at,
-        row: walked.row,
-        len: c.label_len,
-        refusal: walked.refusal,
-        flag: c.skip_next_space,
-        held: c.label_held,
-    };
-    Passing {
-        block: s.block,
-        i: s.i,
-        j: s.j,
-        progress,
-    }
-}
-
-// The answer of a walk over a block: the converter with what comes back, in the place where it was.
-fn walked_in(r: Progress, x: Place, label: [u8; LABEL_MOST]) -> Walked
-    ensures { result ≡ walked_in x label r }
-{
-    let mode = x.mode;
-    let env = x.env;
-    let converter = Converter {
-        mode,
-        env,
-        indent: x.indent,
-        label,
-        label_len: r.len,
-        label_held: r.held,
-        skip_next_space: r.flag,
-    };
-    Walked {
-        converter,
-        at: r.at,
-        refusal: r.refusal,
-        row: r.row,
-    }
-}
-
-// The standing of these parts.
-fn standing_in(s: Passing, x: Place, label: [u8; LABEL_MOST]) -> Standing
-    ensures { result ≡ standing_in x label s }
-{
-    Standing {
-        block: s.block,
-        i: s.i,
-        j: s.j,
-        walked: walked_in(s.progress, x, label),
-    }
-}
-
-// ---- passes
-
 // The next block, converted. It stands one row after those before it, since the root is row 0.
-fn next_block<'a>(
+pub fn next_block<'a>(
     out: &mut [u8],
     rows: &[u8],
     text: &'a [u8],
     rules: &'a [u8],
     index: &[u32],
-    label: &mut [u8; LABEL_MOST],
-    x: Place,
-    s: Passing,
-) -> Passing
-    requires blocks_given { BlocksGiven rules.now index.now rows.now text.now (standing_in x label.old s) }
+    s: Standing,
+) -> Standing
+    requires blocks_given { BlocksGiven rules.now index.now rows.now text.now s }
     requires i_in_bounds { (s.i < length rows.now) × (s.block < cap) × (length out.old ≤ cap) }
-    ensures { Steps rules.now index.now rows.now text.now
-        (standing_in x label.old s) out.old (standing_in x label.new result) out.new }
+    ensures { Steps rules.now index.now rows.now text.now s out.old result
+        out.new }
 {
     let i = s.i;
     let j = s.j;
     let n = mitex_syntax::span_at(rows, i);
     let e = i + n.rows;
     let u = j + n.text;
-    let before = s.progress;
-    let progress = mitex::convert_block(
+    let before = s.walked;
+    let walked = mitex::convert_block(
         out,
         before.at,
         &rows[i..e],
@@ -196,17 +114,13 @@ fn next_block<'a>(
         i / 8,
         rules,
         index,
-        label,
-        x,
-        before.flag,
-        before.held,
-        before.len,
+        before.converter,
     );
-    Passing {
+    Standing {
         block: s.block + 1,
         i: e,
         j: u,
-        progress,
+        walked,
     }
 }
 
@@ -240,37 +154,33 @@ pub fn measure<'a>(
     ensures { Measures rules.now index.now rows.now text.now from blocks was true
         kept.now result }
 {
-    let before = from.walked;
-    let converter = before.converter;
-    let x = place_of(converter);
-    let mut label = converter.label;
-    let mut s = passing_of(from);
+    let mut s = from;
     while s.block < blocks {
         let mut none = [0u8; 0];
-        let next = next_block(&mut none, rows, text, rules, index, &mut label, x, s);
-        let reached = standing_in(next, x, label);
-        let progress = next.progress;
-        if progress.refusal != 0 {
-            return reached;
+        let next = next_block(&mut none, rows, text, rules, index, s);
+        let walked = next.walked;
+        if walked.refusal != 0 {
+            return next;
         }
         let j = next.block + was - blocks;
-        if met(kept, j, reached) {
-            return reached;
+        if met(kept, j, next) {
+            return next;
         }
         s = next;
     }
-    standing_in(s, x, label)
+    s
 }
 
 // The row of block `k`, where a row can say the text's end.
-fn draft_row(ledger: &mut [u8], k: usize, r: Progress, label: &[u8; LABEL_MOST])
-    requires { HasRow k ledger.old × (r.len ≤ label_most) }
-    ensures { r.at < cap → ledger.new ≡ sets ledger.old (row_size * k) (encode_row (row_in r label.now)) }
+fn draft_row(ledger: &mut [u8], k: usize, walked: Walked)
+    requires { HasRow k ledger.old × (walked.converter.label_len ≤ label_most) }
+    ensures { walked.at < cap → ledger.new ≡ sets
+        ledger.old (row_size * k) (encode_row (record { end = walked.at; carry = carry_of walked.converter })) }
 {
-    if CAP <= r.at {
+    if CAP <= walked.at {
         return;
     }
-    ledger::write_row(ledger, k, r, label);
+    ledger::write_row(ledger, k, walked.at, walked.converter);
 }
 
 // All blocks from a standing on, measured and written with their rows in one pass: what falls outside the buffer is not written but counted.
@@ -290,22 +200,18 @@ pub fn draft_blocks<'a>(
     ensures written { Writes rules.now index.now rows.now text.now from blocks
         out.old ledger.old out.new ledger.new }
 {
-    let before = from.walked;
-    let converter = before.converter;
-    let x = place_of(converter);
-    let mut label = converter.label;
-    let mut s = passing_of(from);
+    let mut s = from;
     while s.block < blocks {
         let k = s.block;
-        let next = next_block(out, rows, text, rules, index, &mut label, x, s);
-        let progress = next.progress;
-        if progress.refusal != 0 {
-            return standing_in(next, x, label);
+        let next = next_block(out, rows, text, rules, index, s);
+        let walked = next.walked;
+        if walked.refusal != 0 {
+            return next;
         }
-        draft_row(ledger, k, progress, &label);
+        draft_row(ledger, k, walked);
         s = next;
     }
-    standing_in(s, x, label)
+    s
 }
 
 // Blocks written from a standing up to one that was measured, with their rows.
@@ -324,15 +230,12 @@ pub fn write_blocks<'a>(
     ensures { Writes rules.now index.now rows.now text.now from to
         out.old ledger.old out.new ledger.new }
 {
-    let before = from.walked;
-    let converter = before.converter;
-    let x = place_of(converter);
-    let mut label = converter.label;
-    let mut s = passing_of(from);
+    let mut s = from;
     while s.block < to {
         let k = s.block;
-        let next = next_block(out, rows, text, rules, index, &mut label, x, s);
-        ledger::write_row(ledger, k, next.progress, &label);
+        let next = next_block(out, rows, text, rules, index, s);
+        let walked = next.walked;
+        ledger::write_row(ledger, k, walked.at, walked.converter);
         s = next;
     }
 }

@@ -5,7 +5,7 @@ use Rattle.std.proofs.lemmas.List.Edits.{sets}
 use Rattle.text.specs.Writing.{cap}
 use Rattle.tree_file.specs.Layout.{blocks_most}
 use Rattle.mitex_meaning.specs.declared.LaTeXMode.{LaTeXMode}
-use Rattle.ledger.specs.Ledger.{Row, row_size, decode_rows, encode_rows, fits, Movable, move_rows, Piece, written, rows_from}
+use Rattle.ledger.specs.Ledger.{Row, row_size, decode_rows, encode_rows, fits, Piece, written, rows_from}
 use Rattle.edit_meaning.specs.Walk.Walk.{stopped, pieces}
 use Rattle.edit_meaning.specs.Edit.{end_before, carry_before, again}
 use Rattle.edit_meaning.specs.Changes.{Stretch, block_after, come_count, Remade, each_from, text_from, ledger_from}
@@ -167,19 +167,6 @@ abbrev pub WritesStretch :
     (rules index rows text : List ℕ) (m : LaTeXMode) (n : ℕ) (plan : List ℕ) (at now : ℕ) (out ledger out' ledger' : List ℕ) → Type 0
 WritesStretch rules index rows text m n plan at now out ledger out' ledger' =
     (w : Writable rules index rows text m n plan at now out ledger) → WroteStretch w.s at out ledger out' ledger'
-
--- the rows that are kept after the first stretch of a plan, up to the next, with their text moved from `old` to `to`
-abbrev pub kept_moved : (plan : List ℕ) (old to : ℕ) (ledger : List ℕ) → List ℕ
-kept_moved plan old to ledger =
-    let after : ℕ = get_or plan 1 0 in
-    sets ledger (row_size * after) (move_rows (get_or plan 5 0 - after) old to (drop (row_size * after) ledger))
-
--- they can be
-pub record KeptAfter (plan : List ℕ) (old to : ℕ) (ledger : List ℕ) : Type 0 where
-  pub noted : 5 < length plan
-  pub rising : get_or plan 1 0 ≤ get_or plan 5 0
-  pub room : row_size * get_or plan 5 0 ≤ length ledger
-  pub movable : (j : ℕ) → get_or plan 1 0 ≤ j → j < get_or plan 5 0 → Movable j old to ledger
 
 -- The stretches of a plan may take the place of the kept blocks, the first of them from `at` on: the buffers are as they were kept from
 -- there on, and the text has room for all.

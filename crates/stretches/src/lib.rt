@@ -7,7 +7,7 @@ ghost use Rattle.std.proofs.lemmas.List.Edits.{sets};
 ghost use Rattle.edit_meaning.specs.Changes.{named_there};
 ghost use Rattle.edit_meaning.specs.Changes.Kind.{replace_all};
 ghost use Rattle.passes.specs.Passes.{Document};
-ghost use Rattle.stretches.specs.Plans.{plan_size, LedgerFits, PlanStands, PlansStretch, PlansStretches, Writable, WritesStretch, kept_moved, KeptAfter, Exchangeable, Exchanges};
+ghost use Rattle.stretches.specs.Plans.{plan_size, LedgerFits, PlanStands, PlansStretch, PlansStretches, Writable, WritesStretch, Exchangeable, Exchanges};
 
 use mitex_meaning::LaTeXMode;
 use passes::Standing;
@@ -215,36 +215,9 @@ fn write_stretch<'a>(
     );
 }
 
-// The first stretch of a plan put in its place: the rows that are kept after it get their lengths, their text moved from `old` to `to`, and it
-// is written before them.
-fn settle_stretch<'a>(
-    rows: &[u8],
-    text: &'a [u8],
-    rules: &'a [u8],
-    index: &[u32],
-    mode: LaTeXMode,
-    blocks: usize,
-    plan: &[usize],
-    at: usize,
-    to: usize,
-    old: usize,
-    out: &mut [u8],
-    ledger: &mut [u8],
-)
-    requires kept_after { KeptAfter plan.now old to ledger.old }
-    requires writable { Writable rules.now index.now rows.now text.now mode blocks plan.now at to out.old (kept_moved plan.now old to ledger.old) }
-    ensures { WritesStretch rules.now index.now rows.now text.now mode blocks
-        plan.now at to out.old (kept_moved plan.now old to ledger.old) out.new ledger.new }
-{
-    ledger::move_rows(ledger, plan[1], plan[5], old, to);
-    write_stretch(
-        rows, text, rules, index, mode, blocks, plan, at, to, out, ledger,
-    );
-}
-
 // The stretches of a plan in the place of the kept blocks, the first of them from `at` on, in a document of `n` blocks. What is kept after a
 // stretch moves down before what follows is handled, or up after that: so nothing is overwritten that has still to be moved. The stretch is
-// settled by one of two calls: were there one only, the compiler would put `settle_stretch` into this function, and a level of the recursion
+// written by one of two calls: were there one only, the compiler would put `write_stretch` into this function, and a level of the recursion
 // would take 928 bytes of stack and not 256.
 pub fn exchange_from<'a>(
     rows: &[u8],
@@ -274,14 +247,11 @@ pub fn exchange_from<'a>(
     let rest = &plan[NOTE..];
     let place = to + tail;
     exchange_from(rows, text, rules, index, mode, n, rest, place, out, ledger);
+    ledger::move_rows(ledger, after, next, old, to);
     if to <= old {
-        settle_stretch(
-            rows, text, rules, index, mode, n, plan, at, to, old, out, ledger,
-        );
+        write_stretch(rows, text, rules, index, mode, n, plan, at, to, out, ledger);
         return;
     }
     text::move_bytes(out, old, to, tail);
-    settle_stretch(
-        rows, text, rules, index, mode, n, plan, at, to, old, out, ledger,
-    );
+    write_stretch(rows, text, rules, index, mode, n, plan, at, to, out, ledger);
 }

@@ -1,13 +1,13 @@
 //! Ledger rows: after each block the text's length and the carry.
 
+/// A ledger row has so many bytes.
+pub const ROW_SIZE: usize = 128;
+
 /// A held label has at most so many bytes.
-pub const LABEL_MOST: usize = 248;
+pub const LABEL_MOST: usize = 120;
 
 /// Where a row's label begins.
-const LABEL_AT: usize = 8;
-
-/// A ledger row has so many bytes.
-pub const ROW_SIZE: usize = LABEL_AT + LABEL_MOST;
+const LABEL_AT: usize = ROW_SIZE - LABEL_MOST;
 
 /// What goes along from block to block: the space flag and the held label.
 #[derive(Debug, Clone, Default, PartialEq, Eq)]

@@ -254,18 +254,6 @@ const FIXED: [(Kind, &str); 23] = [
     (TokenComment, "% c"),
 ];
 
-/// A label of so many bytes fills the first half of its row.
-const MIDDLE: usize = LABEL_MOST - ROW_SIZE / 2;
-
-/// `${...}$`, where a label is held.
-fn waiting(label: Made) -> Made {
-    let dollar = || token(TokenDollar, "$");
-    node(
-        ItemFormula,
-        vec![dollar(), node(ItemCurly, vec![label]), dollar()],
-    )
-}
-
 /// Makes documents that are like LaTeX, with faults and odd elements among them.
 #[derive(Debug, Clone)]
 pub struct Maker {
@@ -510,12 +498,14 @@ impl Maker {
 
     fn label(&mut self) -> Made {
         let text = match self.random.below(12) {
-            0 => self.long_label(LABEL_MOST + usize::from(!self.clean)),
-            1 => {
-                // the limit is one of bytes, not of characters
-                let longer = usize::from(!self.clean && self.random.chance(500));
-                format!("{{ {} }}", "é".repeat(LABEL_MOST / 2 + longer))
+            0 => {
+                let most = if self.clean { 2 } else { 3 };
+                format!(
+                    "{{{}}}",
+                    "l".repeat(LABEL_MOST - 1 + self.random.below(most))
+                )
             }
+            1 => format!("{{ {} }}", "é".repeat(LABEL_MOST / 2)),
             2 if !self.clean && self.odd > 0 => (*self.random.pick(&LABELS)).to_owned(),
             _ => (*self.random.pick(&LABELS[..7])).to_owned(),
         };
@@ -524,27 +514,15 @@ impl Maker {
         let command = self.named("label", vec![argument]);
         match self.random.below(3) {
             0 => command,
-            _ => waiting(command),
+            _ => node(
+                ItemFormula,
+                vec![
+                    token(TokenDollar, "$"),
+                    node(ItemCurly, vec![command]),
+                    token(TokenDollar, "$"),
+                ],
+            ),
         }
-    }
-
-    /// A label in braces that reaches about the middle of a row, or about its end, with `most` bytes at most. Two of one length
-    /// may differ in their last byte alone.
-    fn long_label(&mut self, most: usize) -> String {
-        let (least, most) = match self.random.chance(300) {
-            true => (MIDDLE - 1, MIDDLE + 1),
-            false => (LABEL_MOST - 1, most),
-        };
-        let size = least + self.random.below(most + 1 - least);
-        let last = *self.random.pick(&["l", "m"]);
-        format!("{{{}{last}}}", "l".repeat(size - 1))
-    }
-
-    /// A long label that waits, or is one byte too long for that.
-    pub fn waiting_label(&mut self) -> Made {
-        let text = self.long_label(LABEL_MOST + 1);
-        let argument = self.plain_argument(&text, Some(ItemCurly));
-        waiting(self.named("label", vec![argument]))
     }
 
     fn picture(&mut self, depth: usize) -> Made {
@@ -750,8 +728,7 @@ impl Maker {
             let label = match self.random.below(4) {
                 0 => Some(b"a".to_vec()),
                 1 => {
-                    let sizes = [0, 1, 7, MIDDLE, MIDDLE + 1, LABEL_MOST - 1, LABEL_MOST];
-                    let size = *self.random.pick(&sizes);
+                    let size = *self.random.pick(&[0, 1, 7, LABEL_MOST]);
                     Some(self.random.bytes(size))
                 }
                 _ => None,

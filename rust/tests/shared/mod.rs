@@ -4,7 +4,6 @@ use std::collections::BTreeMap;
 use std::ops::Range;
 
 use reference::made::Maker;
-use reference::ROW_SIZE;
 use zaldrume::raw::{self, Answer};
 
 fn setting(name: &str, usual: u64) -> u64 {
@@ -23,8 +22,7 @@ fn seeds(share: u64) -> Range<u64> {
     first..first + count
 }
 
-/// Runs the cases of a test, `share` of them in a hundred, and prints how often each call answered each number, and how many rows of
-/// accepted calls hold a long label of each length.
+/// Runs the cases of a test, `share` of them in a hundred, and prints how often each call answered each number.
 pub fn each_case(name: &str, share: u64, case: impl Fn(&mut Maker, &mut Tally)) {
     let seeds = seeds(share);
     let count = seeds.end - seeds.start;
@@ -37,16 +35,7 @@ pub fn each_case(name: &str, share: u64, case: impl Fn(&mut Maker, &mut Tally)) 
         "{name}: {count} cases, calls by their answers (0 is accepted): {:?}",
         tally.answers
     );
-    if !tally.labels.is_empty() {
-        println!(
-            "{name}: rows by the bytes of a long label: {:?}",
-            tally.labels
-        );
-    }
 }
-
-/// A label from so many bytes on is a long one.
-const LONG: u8 = 100;
 
 /// The two buffers that a call is lent.
 #[derive(Clone)]
@@ -80,12 +69,11 @@ pub fn told(result: Result<Answer, reference::Refused>) -> Answer {
     })
 }
 
-/// A case's seed, how often each call answered each number, and in how many rows each left a label of so many bytes.
+/// A case's seed, and how often each call answered each number.
 #[derive(Default)]
 pub struct Tally {
     pub seed: u64,
     answers: BTreeMap<&'static str, BTreeMap<u8, usize>>,
-    labels: BTreeMap<&'static str, BTreeMap<u8, usize>>,
 }
 
 impl Tally {
@@ -93,15 +81,6 @@ impl Tally {
     pub fn count(&mut self, name: &'static str, number: u8, more: usize) {
         let answers = self.answers.entry(name).or_default();
         *answers.entry(number).or_default() += more;
-    }
-
-    /// The long labels that wait in the rows that a call left.
-    pub fn count_labels(&mut self, name: &'static str, rows: &[u8]) {
-        let sizes = rows.chunks_exact(ROW_SIZE).map(|row| row[6]);
-        for size in sizes.filter(|&size| size >= LONG) {
-            let labels = self.labels.entry(name).or_default();
-            *labels.entry(size).or_default() += 1;
-        }
     }
 
     /// A call by library and reference in the same buffers: the answer is the same, and so is every byte.
@@ -143,8 +122,6 @@ impl Tally {
                 count: done.blocks,
             }))
         };
-        let answer = self.compare("convert", buffers, library, reference);
-        self.count_labels("convert", &buffers.ledger[..answer.count * ROW_SIZE]);
-        answer
+        self.compare("convert", buffers, library, reference)
     }
 }

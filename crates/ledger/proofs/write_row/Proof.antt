@@ -8,8 +8,7 @@ returns : tie.Need-returns
 returns c =
     let start = c.before.before.before.before.before in
     let a = start.args in
-    row_written a.i a.ledger.now a.r a.label.now start.requires.0 start.requires.1 start.requires.2
-    c.before.before.fill-row.ensures
+    row_written a.i a.ledger.now a.end a.converter start.requires.0 start.requires.1 start.requires.2 c.before.before.fill-row.ensures
 
 pub write-row-spec : {M : Type 1} → statement M
 write-row-spec =

@@ -38,21 +38,21 @@ part-convert-block-end-2 c = omega (arith, (here (ends c.before)).stop)
 
 convert-block-requires : tie.Need-convert-block-requires
 convert-block-requires c κs =
-    let d = ends c.before.before.before in
+    let d = ends c.before.before in
     let w = (start d).pre.0 in (
       next-room w (start d).pre.1.0 _ _ d.span-at.ensures.0 d.span-at.ensures.1 (start d).args.out.now (start d).pre.1.2,
       (record { rules = w.rs; ready = w.ready }, (here d).given),
     )
 
-add-t19 : tie.Need-overflow-add-t19
-add-t19 c =
-    let m = c.before.before.before in
-    let d = ends m.before.before.before.before in omega (arith, (start d).pre.1.1)
+add-t17 : tie.Need-overflow-add-t17
+add-t17 c =
+    let walked = c.before.before.before in
+    let d = ends walked.before.before.before in omega (arith, (start d).pre.1.1)
 
 returns : tie.Need-returns
 returns c =
     let m = c.before.before.before in
-    let d = ends m.before.before.before.before in
+    let d = ends m.before.before.before in
     λ w t g is. stepped w t g is _ _ d.span-at.ensures.0 d.span-at.ensures.1 m.convert-block.ensures
 
 pub next-block-spec : {M : Type 1} → statement M
@@ -69,6 +69,6 @@ next-block-spec =
     (λ c. search rules)
     part-convert-block-end-2
     convert-block-requires
-    add-t19
+    add-t17
     (λ c. search rules)
     returns)
