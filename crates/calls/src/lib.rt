@@ -1,5 +1,7 @@
 // Convert, the three changes of one block, and several blocks replaced together, for any caller with any bytes: the files are checked, the
 // blocks measured, and only then any lent byte is written.
+#![tactic(auto)]
+
 ghost use Rattle.std.specs.Prelude.{◌≡◌, true, ◌&&◌, ℕ, suc, ◌+◌, ◌*◌, ◌-◌, ◌≤◌, ◌<◌, min, length, take, drop, replicate, leb, ltb};
 ghost use Rattle.std.proofs.lemmas.List.Edits.{sets};
 ghost use Rattle.text.specs.Writing.{cap};
@@ -56,14 +58,14 @@ const MIDDLE_BLOCKS: usize = 128;
 const MIDDLE_TEXT: usize = 16384;
 
 // Convert's answer: a refusal's number and row, or the text's length and the count of blocks.
-#[derive(Drop)]
+#[derive(Clone, Copy)]
 pub enum Converted {
     Refused { number: u8, row: usize },
     Done { length: usize, blocks: usize },
 }
 
 // What a call does to one block.
-#[derive(Drop)]
+#[derive(Clone, Copy)]
 pub enum Way {
     Replace,
     PutIn,
@@ -71,7 +73,7 @@ pub enum Way {
 }
 
 // The answer of a change: a refusal's number and row, or the new length, the growth, and the count of blocks converted again.
-#[derive(Drop)]
+#[derive(Clone, Copy)]
 pub enum Edited {
     Refused {
         number: u8,
@@ -85,7 +87,7 @@ pub enum Edited {
 }
 
 // What three changes in a row answered, and the text's length after them.
-#[derive(Drop)]
+#[derive(Clone, Copy)]
 pub struct Three {
     pub first: Edited,
     pub second: Edited,
@@ -94,7 +96,7 @@ pub struct Three {
 }
 
 // What refusals 1 to 5 leave: a mode, where the tree file's rows begin, and how many blocks there are.
-#[derive(Drop)]
+#[derive(Clone, Copy)]
 pub enum Opened {
     Shut {
         number: u8,

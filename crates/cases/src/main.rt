@@ -1,6 +1,8 @@
 // Replays cases through Convert and the changes and compares every answer and every byte of both buffers; and through the steps of a
 // writer, with every answer, the finished file, and what refused steps leave. Standard input is what tools/pack_cases.py packs: cases, each
 // a length (4 bytes, the lowest first) and so many bytes, which are parts: each a tag (1 byte), a length (4 bytes) and so many bytes.
+#![tactic(auto)]
+
 ghost use Rattle.std.specs.Prelude.{◌≡◌, ◌+◌, ◌≤◌, length};
 ghost use Rattle.io.specs.Counts.{IsPrefixLen};
 ghost use Rattle.cases.specs.Held.{buffer_most, Within, CaseHeld};
@@ -91,14 +93,14 @@ const CASE_MOST: usize = 262144;
 const CASES_MOST: usize = 100000;
 
 // A part of the input.
-#[derive(Drop)]
+#[derive(Clone, Copy)]
 pub struct InputPart {
     pub from: usize,
     pub to: usize,
 }
 
 // Where the name, the files and the last list of a case lie, how long its buffers are, its calls so far and how often it failed.
-#[derive(Drop)]
+#[derive(Clone, Copy)]
 pub struct Case {
     pub name: InputPart,
     pub rules: InputPart,
@@ -112,7 +114,7 @@ pub struct Case {
 }
 
 // What was counted so far, and whether the input has ended.
-#[derive(Drop)]
+#[derive(Clone, Copy)]
 pub struct Tally {
     pub cases: usize,
     pub calls: usize,
@@ -121,7 +123,7 @@ pub struct Tally {
 }
 
 // A refusal's number and row; or 0, the text's length, its growth and a count of blocks.
-#[derive(Drop)]
+#[derive(Clone, Copy)]
 pub struct Reply {
     pub number: usize,
     pub first: usize,

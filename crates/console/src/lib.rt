@@ -1,5 +1,7 @@
 // What the programs share: a file read by its name, the letter of a mode, the line that asks for an edit, and the line of an answer.
 // Standard input and output are the programs' own: what is read or printed there is worked out here, over lent bytes.
+#![tactic(auto)]
+
 ghost use Rattle.std.specs.Prelude.{◌≡◌, true, ◌≤◌, length};
 ghost use Rattle.io.specs.Counts.{IsPrefixLen};
 ghost use Rattle.text.specs.Writing.{cap, Wrote};
@@ -11,14 +13,14 @@ ghost use Rattle.console.specs.Answers.{difference, refusal_line, edited_line};
 const NO_MODE: u8 = 2;
 
 // A number that digits spell, if they do.
-#[derive(Drop)]
+#[derive(Clone, Copy)]
 pub enum Spelt {
     Nothing,
     Number { value: usize },
 }
 
 // What a line asks for, if it has the form `t 3 120`.
-#[derive(Drop)]
+#[derive(Clone, Copy)]
 pub enum Request {
     Nothing,
     Edit { mode: u8, block: usize, kept: usize },

@@ -1,6 +1,8 @@
 // Edits a document that was kept: rules.bin, tree.bin (the new tree), text.bin and ledger.bin (both buffers, whole) in the current
 // folder, and a line `t 3 120` on standard input: the mode's letter, the block and the kept length. Writes `ok LENGTH GROWTH COUNT`
 // or `refused N at R`, a line feed, and every byte of both buffers.
+#![tactic(auto)]
+
 use calls::Edited;
 use console::{ANSWER_MOST, LINE_MOST, Request};
 use libc::{STDIN_FILENO, STDOUT_FILENO};

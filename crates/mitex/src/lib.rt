@@ -2,6 +2,8 @@
 // the tree file, with the row right before them: the node's own, where they are all its children. What goes along is in four parameters: the label's bytes, which are lent, and
 // the flag (f), whether a label is held (h) and how many bytes it has (n). Where the elements stand (x) goes down and does not come back,
 // so that nothing is left to restore. The text is written to a lent buffer as far as it falls inside.
+#![tactic(auto)]
+
 ghost use Rattle.std.specs.Prelude.{◌≡◌, ◌+◌};
 ghost use Rattle.mitex_spec.specs.Index.{SomeRules};
 ghost use Rattle.mitex_syntax.specs.Spells.{SomeTree};

@@ -1,5 +1,7 @@
 // The parts of a command that its arm walks over: the argument of a Greedy command, and the model, the colour and the body of a colour
 // command; and what is written around a model, a colour and a body.
+#![tactic(auto)]
+
 ghost use Rattle.std.specs.Prelude.{◌≡◌, List, [], ◌++◌, ℕ, ◌+◌, ◌*◌, ◌≤◌, length};
 ghost use Rattle.text.specs.Writing.{cap, Wrote};
 ghost use Rattle.mitex_spec.specs.Rules.{alias_or};
@@ -54,7 +56,7 @@ pub fn greedy_node(rows: &[u8], text: &[u8]) -> GreedyPart
 // ---- scanning
 
 // What a scan stops at: an element that is no trivia, or one of a kind.
-#[derive(Drop)]
+#[derive(Clone, Copy)]
 enum Stop {
     Solid,
     Kind(u8),

@@ -1,5 +1,7 @@
 // Commands, by their name without the backslash: which arm an element and a command have, `\item` and `\label`, and the name that a
 // command is written by. Nothing here recurses.
+#![tactic(auto)]
+
 ghost use Rattle.std.specs.Prelude.{◌≡◌, Bool, List, ◌∷◌, ◌++◌, ℕ, ◌-◌, ◌≤◌, length, drop};
 ghost use Rattle.text.specs.Compare.{same};
 ghost use Rattle.text.specs.Writing.{cap, Wrote};

@@ -1,5 +1,7 @@
 // `\includegraphics[width=0.5\textwidth]{example-image}`, written as `#image(width: 0.5 * 100%, "example-image")`. Every part is a
 // part of the caller's bytes.
+#![tactic(auto)]
+
 ghost use Rattle.std.specs.Prelude.{◌≡◌, ◌||◌, ◌++◌, ◌+◌, ◌≤◌, ◌<◌, min, length};
 ghost use Rattle.text.specs.Compare.{same};
 ghost use Rattle.text.specs.Writing.{cap, Wrote};

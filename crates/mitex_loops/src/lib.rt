@@ -1,4 +1,6 @@
 // What the loops of the converter over children do, child by child, and the small leaves that its arms need: nothing here recurses.
+#![tactic(auto)]
+
 ghost use Rattle.std.specs.Prelude.{◌≡◌, true, false, ◌&&◌, ◌||◌, cond, List, [], ◌++◌, ℕ, ◌+◌, ◌≤◌, ◌<◌, length, drop, eqb};
 ghost use Rattle.text.specs.Writing.{cap, Wrote, decimal};
 ghost use Rattle.mitex_syntax.specs.Syntax.{ClauseArgument, ClauseCommandName, ItemCurly, ItemAttachComponent};

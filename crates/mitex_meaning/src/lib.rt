@@ -1,4 +1,6 @@
 // The converter's state, and what its loops over children do with a child. The meaning of a conversion is in specs/.
+#![tactic(auto)]
+
 ghost use Rattle.std.specs.Prelude.{◌≡◌, ◌+◌, ◌<◌, ◌≤◌, ◌^◌, length};
 ghost use Rattle.mitex_meaning.specs.Outcome.{label_most, step_of};
 ghost use Rattle.mitex_meaning.specs.State.{new_of, opening_of, with_mode, entered_env, exited_env, with_flag, with_label, without_label};
@@ -6,14 +8,14 @@ ghost use Rattle.text.specs.Writing.{cap};
 ghost use Rattle.mitex_meaning.specs.Contract.{reached_at, halted_with, Closes, went_with};
 
 // The mode of the text that is written.
-#[derive(Drop)]
+#[derive(Clone, Copy)]
 pub enum LaTeXMode {
     Text,
     Math,
 }
 
 // The environment around an element.
-#[derive(Drop)]
+#[derive(Clone, Copy)]
 pub enum LaTeXEnv {
     // Text mode
     None,
@@ -33,7 +35,7 @@ pub enum LaTeXEnv {
 pub const LABEL_MOST: usize = 120;
 
 // The state: the held label is bytes, of which label_len count while label_held.
-#[derive(Drop)]
+#[derive(Clone, Copy)]
 pub struct Converter {
     pub mode: LaTeXMode,
     pub env: LaTeXEnv,
@@ -47,7 +49,7 @@ pub struct Converter {
 }
 
 // How far an attachment like `x_1^2` has come: nothing before the split, a base before it, or past the split.
-#[derive(Drop)]
+#[derive(Clone, Copy)]
 pub enum Attach {
     Bare,
     Based,
@@ -55,7 +57,7 @@ pub enum Attach {
 }
 
 // The loops of the converter over the children of an element, each with its own state.
-#[derive(Drop)]
+#[derive(Clone, Copy)]
 pub enum Loop {
     // each child is converted
     Plain,
@@ -86,7 +88,7 @@ pub enum Loop {
 }
 
 // What a loop does with a child.
-#[derive(Drop)]
+#[derive(Clone, Copy)]
 pub enum Act {
     // passed over
     Skip,
@@ -121,7 +123,7 @@ pub enum Act {
 }
 
 // The arms of the converter's match on the kind of an element.
-#[derive(Drop)]
+#[derive(Clone, Copy)]
 pub enum Element {
     // refused: TokenError, and ItemBegin or ItemEnd outside of an environment
     Unexpected,
@@ -139,7 +141,7 @@ pub enum Element {
 }
 
 // The commands that have an arm of their own, and all others.
-#[derive(Drop)]
+#[derive(Clone, Copy)]
 pub enum Command {
     Item,
     Label,
@@ -152,7 +154,7 @@ pub enum Command {
 }
 
 // How a command takes its arguments.
-#[derive(Drop)]
+#[derive(Clone, Copy)]
 pub enum Arguments {
     NoArguments,
     GreedyArgument,
@@ -161,7 +163,7 @@ pub enum Arguments {
 }
 
 // A part of a node's children: bytes i to e of their rows, j to u of their text.
-#[derive(Drop)]
+#[derive(Clone, Copy)]
 pub struct Part {
     pub i: usize,
     pub e: usize,
@@ -170,14 +172,14 @@ pub struct Part {
 }
 
 // The children of the node that a Greedy command takes.
-#[derive(Drop)]
+#[derive(Clone, Copy)]
 pub enum GreedyPart {
     NoGreedy,
     GreedyAt(Part),
 }
 
 // A colour's model, bytes from `from` to `to` of the text while it is held, and the elements after it.
-#[derive(Drop)]
+#[derive(Clone, Copy)]
 pub struct ModelPart {
     pub held: bool,
     pub from: usize,
@@ -186,7 +188,7 @@ pub struct ModelPart {
 }
 
 // A figure's last caption: its argument, or how many rows below the first child a caption without one stands.
-#[derive(Drop)]
+#[derive(Clone, Copy)]
 pub enum CaptionPart {
     NoCaption,
     BareCaption(usize),
@@ -194,7 +196,7 @@ pub enum CaptionPart {
 }
 
 // Where an element stands: what goes down and does not come back.
-#[derive(Drop)]
+#[derive(Clone, Copy)]
 pub struct Place {
     pub mode: LaTeXMode,
     pub env: LaTeXEnv,
@@ -203,7 +205,7 @@ pub struct Place {
 
 // How far a walk over elements has come: the next place, the flag, and whether a label is held and of how many bytes, with refusal 0; or
 // a refusal and its row. The label's bytes are lent beside it.
-#[derive(Drop)]
+#[derive(Clone, Copy)]
 pub struct Progress {
     pub at: usize,
     pub row: usize,
@@ -214,7 +216,7 @@ pub struct Progress {
 }
 
 // What a walk over a block answers: the converter and the next place, with refusal 0; or a refusal and its row.
-#[derive(Drop)]
+#[derive(Clone, Copy)]
 pub struct Walked {
     pub converter: Converter,
     pub at: usize,

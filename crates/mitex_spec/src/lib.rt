@@ -1,4 +1,6 @@
 // The rules of a conversion, in a sorted file: its check, and what `get_cmd` and `get_env` answer.
+#![tactic(auto)]
+
 ghost use Rattle.std.specs.Prelude.{◌≡◌, true, ◌||◌, cond, List, ℕ, ◌+◌, ◌*◌, ◌≤◌, ◌<◌, length, set};
 ghost use Rattle.std.proofs.Math.Option.Option.{some};
 ghost use Rattle.std.proofs.lemmas.List.Edits.{sets};
@@ -13,7 +15,7 @@ ghost use Rattle.mitex_spec.specs.LookUp.{alias_of, end_of, is_cmd, Finds, Answe
 ghost use Rattle.mitex_spec.specs.declared.Found.TheVariants.{Absent};
 
 // What a look-up finds: the class of a rule, and where its alias stands in the rule file, if it has one.
-#[derive(Drop)]
+#[derive(Clone, Copy)]
 pub enum Found {
     Absent,
     Plain { class: u8 },

@@ -1,5 +1,7 @@
 // Trees as rows: the kinds of elements, what the rows of an element say, and the typed views of syntax.rs. A node's rows and its
 // text are parts of the caller's tree file.
+#![tactic(auto)]
+
 ghost use Rattle.std.specs.Prelude.{◌≡◌, ◌+◌, ◌-◌, ◌%◌, ◌≤◌, ◌<◌, length, take, drop};
 ghost use Rattle.std.proofs.Math.Option.{Option};
 ghost use Rattle.text.specs.Writing.{cap};
@@ -155,7 +157,7 @@ pub fn is_node(k: u8) -> bool
 // ---- rows
 
 // The bytes of the rows and of the text of an element.
-#[derive(Drop)]
+#[derive(Clone, Copy)]
 pub struct Span {
     pub rows: usize,
     pub text: usize,
@@ -220,7 +222,7 @@ pub fn span_at(rows: &[u8], i: usize) -> Span
 // ---- the children of a node: `rows` are those after the node's own row, `text` begins with theirs
 
 // Where a child stands: its rows from `row` to `end`, its text from `from` to `to`, in bytes.
-#[derive(Drop)]
+#[derive(Clone, Copy)]
 pub enum Spot {
     Nowhere,
     At {
@@ -232,14 +234,14 @@ pub enum Spot {
 }
 
 // A place among the children, between two of them.
-#[derive(Drop)]
+#[derive(Clone, Copy)]
 pub struct Cursor {
     pub row: usize,
     pub text: usize,
 }
 
 // What is looked for: a child of a kind, an argument whose first node is of a kind, or a child of any other kind.
-#[derive(Drop)]
+#[derive(Clone, Copy)]
 pub enum Wanted {
     Kind(u8),
     ArgumentWith(u8),
@@ -247,7 +249,7 @@ pub enum Wanted {
 }
 
 // A token: its kind, and its text from `from` to `to`; kind 0 and no text where there is none.
-#[derive(Drop)]
+#[derive(Clone, Copy)]
 pub struct Token {
     pub kind: u8,
     pub from: usize,

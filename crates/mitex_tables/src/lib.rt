@@ -1,4 +1,6 @@
 // The head of a table such as `\begin{tabular}{|l|c|}`: its column letters l, c, r and |, and what is written for them.
+#![tactic(auto)]
+
 ghost use Rattle.std.specs.Prelude.{◌≡◌, ◌||◌, ◌+◌, ◌≤◌, ◌<◌, length};
 ghost use Rattle.text.specs.Writing.{cap, Wrote};
 ghost use Rattle.mitex_syntax.specs.Views.{good_ends};

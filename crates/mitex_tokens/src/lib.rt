@@ -1,4 +1,6 @@
 // What a token writes: a leaf of the converter, since a token has no children. And what tokens that stand one behind the other write.
+#![tactic(auto)]
+
 ghost use Rattle.std.specs.Prelude.{◌≡◌, true, false, List, ◌++◌, ◌+◌, ◌≤◌, ◌<◌, length, get_or};
 ghost use Rattle.std.proofs.Math.Option.Option.{some};
 ghost use Rattle.text.specs.Writing.{cap, Wrote, spaces};
@@ -27,7 +29,7 @@ use mitex_syntax::{
 };
 
 // What a token comes to, while the label stays as it is: the next place and the flag, with refusal 0; or a refusal.
-#[derive(Drop)]
+#[derive(Clone, Copy)]
 pub struct TokenPut {
     pub at: usize,
     pub flag: bool,
@@ -320,7 +322,7 @@ fn put_next(
 
 // Tokens one behind the other, as children in a plain loop: how many bytes of rows and of text they have, the next place and the flag
 // behind them, with refusal 0; or a refusal, and how many bytes of rows stand before the token that is refused.
-#[derive(Drop)]
+#[derive(Clone, Copy)]
 pub struct TokenRun {
     pub rows: usize,
     pub text: usize,

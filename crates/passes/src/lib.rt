@@ -1,6 +1,8 @@
 // Passes over the blocks of a document, one block a turn. Convert's goes over all blocks, measures and writes. A change has two for each
 // stretch of blocks that it converts again: one that measures up to the first block after which the carry is the kept one, and one that
 // writes what was measured.
+#![tactic(auto)]
+
 ghost use Rattle.std.specs.Prelude.{◌≡◌, true, false, [], ℕ, ◌+◌, ◌*◌, ◌-◌, ◌≤◌, ◌<◌, length};
 ghost use Rattle.std.proofs.lemmas.List.Edits.{sets};
 ghost use Rattle.text.specs.Writing.{cap};
@@ -15,7 +17,7 @@ use mitex_meaning::{Converter, LaTeXMode, Walked};
 const CAP: usize = 4294967296;
 
 // Where a pass stands: the next block, the bytes of rows and of text before it, and what the walk over the block before answered.
-#[derive(Drop)]
+#[derive(Clone, Copy)]
 pub struct Standing {
     pub block: usize,
     pub i: usize,

@@ -1,5 +1,7 @@
 // Converts the tree of tree.bin by the rules of rules.bin, both in the current folder, in the mode that standard input names (`t` or
 // `m`), and writes the text alone; or the number and the row of a refusal.
+#![tactic(auto)]
+
 use calls::Converted;
 use console::ANSWER_MOST;
 use libc::{STDIN_FILENO, STDOUT_FILENO};

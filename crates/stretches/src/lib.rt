@@ -2,6 +2,8 @@
 // kept one. All are measured before a byte is written, and noted in a plan; then the text between them is moved, each part once, and they
 // are written. The plan has five numbers for a stretch, and after the last stretch the count of blocks: the stretch's first block, the
 // first block after it, the bytes of its text, and where the first block's rows and its text begin in the tree.
+#![tactic(auto)]
+
 ghost use Rattle.std.specs.Prelude.{◌≡◌, cond, [], ◌∷◌, ℕ, ◌+◌, ◌≤◌, ◌<◌, length, take, drop, get_or, ltb};
 ghost use Rattle.std.proofs.lemmas.List.Edits.{sets};
 ghost use Rattle.edit_meaning.specs.Changes.{named_there};
@@ -21,7 +23,7 @@ pub const PLAN_SIZE: usize = NOTE * BLOCKS_MOST + 1;
 
 // How far a plan goes: how many stretches it has and of how many blocks, the first block after them and where its text begins now; a block
 // at or before that one, and where its rows and its text begin in the tree. A refusal has its number and row; 0 is none.
-#[derive(Drop)]
+#[derive(Clone, Copy)]
 pub struct Planned {
     pub refusal: u8,
     pub row: usize,

@@ -1,4 +1,6 @@
 // Bytes: numbers, files of rows, comparing, finding, and writing at a place of a lent buffer.
+#![tactic(auto)]
+
 ghost use Rattle.std.specs.Prelude.{◌≡◌, ◌⊎◌, [], ◌∷◌, ◌+◌, ◌-◌, ◌≤◌, ◌<◌, min, ◌%◌, length, take, drop, replicate};
 ghost use Rattle.std.proofs.lemmas.List.Edits.{sets};
 ghost use Rattle.text.specs.Numbers.{four, two_at, four_at};

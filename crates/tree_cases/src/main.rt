@@ -1,11 +1,13 @@
 // Replays tree files and compares what the check answers. Standard input holds the cases, one after the other: the number of the
 // refusal (0: accepted), its row and the file's length, each in four bytes, and the file.
+#![tactic(auto)]
+
 ghost use Rattle.std.specs.Prelude.{◌+◌, ◌≤◌, ◌<◌};
 
 use tree_file::Checked;
 
 // How many cases there were, and how many of them failed.
-#[derive(Drop)]
+#[derive(Clone, Copy)]
 pub struct Tally {
     pub cases: usize,
     pub failed: usize,

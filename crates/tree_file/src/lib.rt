@@ -1,4 +1,6 @@
 // The check of a tree file: its layout, its depth, and the tree-shape rules; first a survey in one pass, which accepts or says nothing.
+#![tactic(auto)]
+
 ghost use Rattle.std.specs.Prelude.{◌≡◌, true, List, ℕ, ◌*◌, ◌≤◌, ◌<◌, length};
 ghost use Rattle.std.proofs.Math.Option.Option.{some};
 ghost use Rattle.text.specs.Writing.{cap};
@@ -47,7 +49,7 @@ const NO_KIND: u8 = 0;
 const TOKEN_HEAD: usize = 256;
 
 // A row that was read: a token with its text length, or a node with how many rows lie under it.
-#[derive(Drop)]
+#[derive(Clone, Copy)]
 pub enum TreeRow {
     Bad,
     Token(usize),
@@ -55,7 +57,7 @@ pub enum TreeRow {
 }
 
 // What is known of rows that are to nest.
-#[derive(Drop)]
+#[derive(Clone, Copy)]
 pub enum Nest {
     Broken,
     Deep,
@@ -63,35 +65,35 @@ pub enum Nest {
 }
 
 // How many blocks a root has.
-#[derive(Drop)]
+#[derive(Clone, Copy)]
 pub enum Blocks {
     Amiss,
     Are(usize),
 }
 
 // Whether rows break a shape rule, and which is the lowest that does.
-#[derive(Drop)]
+#[derive(Clone, Copy)]
 pub enum Shape {
     Right,
     Breaks(usize),
 }
 
 // What stands first, passed: the lowest row of it that breaks a rule, or how many bytes of rows and text come before the next.
-#[derive(Drop)]
+#[derive(Clone, Copy)]
 pub enum Pass {
     Broke(usize),
     Past { rows: usize, text: usize },
 }
 
 // How many bytes of text elements side by side take, where each of them is right; nothing is said of others.
-#[derive(Drop)]
+#[derive(Clone, Copy)]
 pub enum Survey {
     Unsure,
     Covers(usize),
 }
 
 // The answer: where the rows start, how many they are, and how many the blocks are; or a refusal and its row.
-#[derive(Drop)]
+#[derive(Clone, Copy)]
 pub enum Checked {
     Whole {
         start: usize,

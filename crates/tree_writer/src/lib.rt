@@ -1,6 +1,8 @@
 // A writer of tree files, fed with steps: open a node of a kind, add a token with text, close the node, finish. A writer goes in by value
 // and comes back; the buffer is lent. Texts stand from its front on, rows from its back on, and the finish makes the file of them. While
 // a node is open, the number of its row is the row of the node around it.
+#![tactic(auto)]
+
 ghost use Rattle.std.specs.Prelude.{◌≡◌, true, cond, ◌++◌, ◌+◌, ◌-◌, ◌≤◌, length, drop, eqb};
 ghost use Rattle.std.proofs.lemmas.List.Edits.{sets};
 ghost use Rattle.text.specs.Trailer.{file_most};
@@ -25,7 +27,7 @@ const TOKEN: u8 = 1;
 
 // What a writer knows between two steps: whether it has finished, how many rows, bytes of text and blocks there are, how many nodes are
 // open, the row of the innermost (0 where none is), and the buffer's length from the first accepted step on.
-#[derive(Drop)]
+#[derive(Clone, Copy)]
 pub struct Writer {
     pub finished: bool,
     pub rows: usize,
@@ -37,7 +39,7 @@ pub struct Writer {
 }
 
 // A step's answer, 0 or a refusal's number, and the writer after it.
-#[derive(Drop)]
+#[derive(Clone, Copy)]
 pub struct StepTaken {
     pub number: u8,
     pub writer: Writer,
@@ -400,7 +402,7 @@ fn put_file(out: &mut [u8], text: usize, rows: usize)
     let size = 8 * rows;
     let end = out.len();
     let from = end - size;
-    bytes::reverse(out, from, end);
+    out[from..end].reverse();
     text::move_bytes(out, from, text, size);
     text::write_u32(out, text + size, text);
     text::write_u32(out, text + size + 4, rows);

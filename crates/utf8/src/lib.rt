@@ -1,5 +1,6 @@
 // UTF-8 by RFC 3629: the length of a character by its first byte, whether bytes are valid text, the characters of a text,
 // Unicode's White_Space, and trimming.
+#![tactic(auto)]
 
 ghost use Rattle.std.specs.Prelude.{◌≡◌, cond, [], ◌∷◌, ◌<◌, eqb, ltb, length};
 ghost use Rattle.utf8.specs.Utf8.{length_by, second_low, second_high, plain, dead, begun, char_step, one_byte_each, valid};
@@ -7,7 +8,7 @@ ghost use Rattle.utf8.specs.Chars.{continues, char_len, LastAt, is_white};
 ghost use Rattle.utf8.specs.Trim.{trim_start, trim_end, trim};
 
 // A place in a text: how many bytes of the character are to come, and what the next lies between.
-#[derive(Drop)]
+#[derive(Clone, Copy)]
 pub struct State {
     pub more: u8,
     pub low: u8,

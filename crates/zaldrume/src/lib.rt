@@ -1,6 +1,8 @@
 // Convert, the three changes of one block, several blocks replaced together, and the steps of writing a tree file, for programs in other
 // languages, on numbers and slices: `include/zaldrume.h` says how each passes. The answer is a refusal's number, 0 where there is none, and
 // numbers written through the lent places.
+#![tactic(auto)]
+
 ghost use Rattle.std.specs.Prelude.{◌≡◌};
 ghost use Rattle.edit_meaning.specs.Edit.{convert_document, edit as editDocument};
 ghost use Rattle.edit_meaning.specs.Changes.{put_in, take_out, replace_all, change};

@@ -1,0 +1,23 @@
+-- `change_fits`: the three questions of refusal 6, in their order.
+use borrow.Author.Tests.{le-leb, lt-leb}
+use Rattle.edit_meaning.specs.Changes.{change_fits}
+use Rattle.calls.proofs.change_fits.Goals as goal
+
+pub returns-then-not-named_there : goal.returns-then-not-named_there
+unfolding change_fits
+returns-then-not-named_there c = rw (← c.named_there.ensures, c.if-not-named_there.true)
+
+pub returns-then-text-kept : goal.returns-then-text-kept
+unfolding change_fits
+returns-then-text-kept c =
+    rw (← c.named_there.ensures, c.if-not-named_there.false, lt-leb _ _ c.if-text-kept.true)
+
+pub returns : goal.returns
+unfolding change_fits
+returns c =
+    rw (
+      ← c.named_there.ensures,
+      c.if-not-named_there.false,
+      le-leb _ _ c.if-text-kept.false,
+      ← c.old_count.ensures _,
+    ) c.ledger_fits.ensures

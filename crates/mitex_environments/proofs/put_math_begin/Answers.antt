@@ -1,0 +1,7 @@
+-- Three texts, one after the other.
+use Rattle.mitex_commands.proofs.Putting.{wrote-three}
+use Rattle.mitex_environments.proofs.put_math_begin.Goals as goal
+
+pub returns : goal.returns
+returns c =
+    wrote-three c.requires.1 c.put_dollar_begin-a.ensures c.put-b.ensures c.put.ensures

@@ -1,0 +1,18 @@
+-- `put_key`: nothing for another key; else four parts, one after the other.
+use mathlib.Core.Path.{sym, ◌∙◌}
+use Rattle.text.proofs.Writing.{wrote-nil, wrote_as, wrote_then}
+use Rattle.mitex_images.proofs.Splitting.{key-size, key-other}
+use Rattle.mitex_images.proofs.put_key.Goals as goal
+
+pub returns-then-not-is_size : goal.returns-then-not-is_size
+returns-then-not-is_size c =
+    wrote_as
+    (key-other c.args.key.now c.args.value.now (sym c.is_size.ensures ∙ c.if-not-is_size.true))
+    (wrote-nil _ _ c.requires.0)
+
+pub returns : goal.returns
+returns c =
+    let h = c.requires.1 in
+    wrote_as
+    (key-size c.args.key.now c.args.value.now (sym c.is_size.ensures ∙ c.if-not-is_size.false))
+    (wrote_then h (wrote_then h (wrote_then h c.put-a.ensures c.put-b.ensures) c.put_length-c.ensures) c.put.ensures)

@@ -1,0 +1,11 @@
+-- `mitex_tokens::put_tilde` meets its contract: each mode is computed.
+use mathlib.Core.Path.{ap, sym}
+use Rattle.text.proofs.Writing.{wrote_as}
+use Rattle.mitex_meaning.specs.Texts.{tilde}
+use Rattle.mitex_tokens.proofs.put_tilde.Goals as goal
+
+pub returns-in-Text : goal.returns-in-Text
+returns-in-Text c = wrote_as (sym (ap tilde c.in-Text.is)) c.put.ensures
+
+pub returns-in-Math : goal.returns-in-Math
+returns-in-Math c = wrote_as (sym (ap tilde c.in-Math.is)) c.put-in-Math.ensures
