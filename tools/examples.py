@@ -333,26 +333,25 @@ def case(folder, usual, few):
 
 # what a table may name: the module, and its names
 NAMES = [
-    ("mathlib.Core.Option.Option", ["none as nothing", "some"]),
-    ("Prim.Native.Nat", ["_+_", "_/_"]),
-    ("Rattle·text.specs.Ascii", ["ascii"]),
-    ("Rattle·mitex_syntax.specs.Syntax", KINDS),
-    ("Rattle·mitex_syntax.specs.Tree.Tree", ["token"]),
-    ("Rattle·mitex_meaning·specs.specs.Outcome", ["label_most"]),
-    ("Rattle·mitex_meaning·specs.specs.Examples", """Example example hold few_rules usual rule_for rule_as rule_by writes over tok
+    ("Rattle.std.proofs.Math.Option.Option", ["none as nothing", "some"]),
+    ("Rattle.text.specs.Ascii", ["ascii"]),
+    ("Rattle.mitex_syntax.specs.Syntax", KINDS),
+    ("Rattle.mitex_syntax.specs.Tree.Tree", ["token"]),
+    ("Rattle.mitex_meaning.specs.Outcome", ["label_most"]),
+    ("Rattle.mitex_meaning.specs.Examples", """Example example hold few_rules usual rule_for rule_as rule_by writes over tok
         tok_word tok_name tok_sym tok_space tok_break tok_new_line tok_comment tok_ampersand tok_dollar times curly bracket arg braced
         bracketed cmd_node env_node""".split()),
-    ("Rattle·mitex_meaning·specs.specs.Examples.Expected", ["text", "refusal"]),
-    ("Rattle·mitex_meaning·specs.specs.declared.LaTeXMode.the-variants", ["Text", "Math"]),
+    ("Rattle.mitex_meaning.specs.Examples.Expected", ["text", "refusal"]),
+    ("Rattle.mitex_meaning.specs.declared.LaTeXMode.TheVariants", ["Text", "Math"]),
 ]
 
 
 def uses(body):
     code = re.sub(r'"(\\.|[^"\\])*"', "", re.sub(r"^ *--.*$", "", body, flags=re.M))
-    words = set(re.findall(r"[A-Za-z]+", code))
+    words = set(re.findall(r"[A-Za-z_]+", code))
     lines = []
     for module, names in NAMES:
-        used = [n for n in names if n.split()[-1] in words or f" {n.strip('_')} " in code and n.startswith("_")]
+        used = [n for n in names if n.split()[-1] in words]
         while used:
             n = len(used)
             while len(line := f"use {module}.{{{', '.join(used[:n])}}}") > MOST:
@@ -364,15 +363,15 @@ def uses(body):
 
 def table(name, about, cases):
     one = name.lower().removesuffix("s")
-    examples, law = f"{one}Examples", f"{one}-examples-hold"
+    examples, law = f"{one}_examples", f"{one}-examples-hold"
     lines = [f"abbrev pub {examples} : List Example", f"{examples} ="]
     for i, (shows, case_lines) in enumerate(cases):
         lines += [f"    -- {shows}", "    " + ("∷ " if i else "") + case_lines[0]] + ["    " + more for more in case_lines[1:]]
     body = "\n".join(lines + ["    ∷ []", ""])
     body += "\n".join(["", f"pub {law} : hold {examples} ≡ true", "unfolding hold", f"{law} = refl", ""])
-    lists = "List, [], _∷_, _++_" if " ++ " in body else "List, [], _∷_"
-    head = ["-- Worked conversions: " + about, "use mathlib.Core.Path.{_≡_, refl}", "use mathlib.Core.Bool.{true}"]
-    head.append("use mathlib.Core.List.{" + lists + "}")
+    code = re.sub(r'"(\\.|[^"\\])*"', "", re.sub(r"^ *--.*$", "", body, flags=re.M))
+    prelude = ["◌≡◌", "refl", "true", "List", "[]", "◌∷◌"] + [f"◌{sign}◌" for sign in ("++", "+", "/") if f" {sign} " in code]
+    head = ["-- Worked conversions: " + about, "use Rattle.std.specs.Prelude.{" + ", ".join(prelude) + "}"]
     return "\n".join(head + uses(body) + ["", body])
 
 
