@@ -136,7 +136,7 @@ def short(s):
 
 
 def paren(s):
-    return s if re.fullmatch(r'[A-Za-z]+|\[\]|"[^"\\]*"', s) else f"({s})"
+    return s if re.fullmatch(r'[A-Za-z_]+|\[\]|"[^"\\]*"', s) else f"({s})"
 
 
 SHORT = {

@@ -49,7 +49,7 @@ hand_examples =
     (writes "#math.equation(block: false, $$);#table(stroke: none,\ncolumns: 1,\nalign: (left, ),\ntable.vline(stroke: .5pt, x: 0), table.vline(stroke: .5pt, x: 1), \n[a],\n);<e>")
     -- held label of the most bytes
     ∷ example few_rules Text
-    (over ItemFormula (tok_dollar ∷ curly (cmd_node "\\label" (braced (token TokenWord (times (label_most) (ascii "l")) ∷ []) ∷ []) ∷ []) ∷ tok_dollar ∷ []) ∷ [])
+    (over ItemFormula (tok_dollar ∷ curly (cmd_node "\\label" (braced (token TokenWord (times label_most (ascii "l")) ∷ []) ∷ []) ∷ []) ∷ tok_dollar ∷ []) ∷ [])
     (writes "#math.equation(block: false, $$);")
     -- held label of one byte more
     ∷ example few_rules Text

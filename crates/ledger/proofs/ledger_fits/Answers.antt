@@ -18,13 +18,12 @@ returns-then-not-row_fits c =
     c.if-next-end.false c.row_fits.ensures c.if-not-row_fits.true
 
 pub loop-i-preserved : goal.loop-i-preserved
-loop-i-preserved c =
-    (
-      omega arith,
-      omega arith,
-      fits_next _ _ _ _ _ c.loop-i.invariant.2 c.loop-i-test.true c.row_end-next.ensures.0
-          c.if-next-end.false c.row_fits.ensures c.if-not-row_fits.false,
-    )
+loop-i-preserved c = (
+  omega arith,
+  omega arith,
+  fits_next _ _ _ _ _ c.loop-i.invariant.2 c.loop-i-test.true c.row_end-next.ensures.0
+      c.if-next-end.false c.row_fits.ensures c.if-not-row_fits.false,
+)
 
 pub returns : goal.returns
 returns c = fits_last _ _ _ _ _ c.loop-i.invariant.2 c.loop-i-test.false

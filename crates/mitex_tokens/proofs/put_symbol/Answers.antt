@@ -37,22 +37,19 @@ slice_bounds-put_plain-end c =
     omega (arith, inside-here c.before.before)
 
 pub returns-in-Absent : goal.returns-in-Absent
-returns-in-Absent c =
-    (
-      λ x l e. puts-as (ap (λ n. symbol_by n (get_cmd x.rules n) (carrying false l)) (sym c.past_first-name.ensures) ∙ symbol-absent (carrying false l) (c.get_cmd-found.ensures x.rules e) c.in-Absent.is) (declines (omega arith) c.put_none.ensures),
-      λ z. refl,
-    )
+returns-in-Absent c = (
+  λ x l e. puts-as (ap (λ n. symbol_by n (get_cmd x.rules n) (carrying false l)) (sym c.past_first-name.ensures) ∙ symbol-absent (carrying false l) (c.get_cmd-found.ensures x.rules e) c.in-Absent.is) (declines (omega arith) c.put_none.ensures),
+  λ z. refl,
+)
 
 pub returns-in-Plain : goal.returns-in-Plain
-returns-in-Plain c =
-    (
-      λ x l e. puts-as (ap (λ n. symbol_by n (get_cmd x.rules n) (carrying false l)) (sym c.past_first-name.ensures) ∙ symbol-plain (carrying false l) (c.get_cmd-found.ensures x.rules e) c.in-Plain.is) (c.put_plain.ensures l),
-      λ z. absurd (z (puts-well refl (c.put_plain.ensures unheld))),
-    )
+returns-in-Plain c = (
+  λ x l e. puts-as (ap (λ n. symbol_by n (get_cmd x.rules n) (carrying false l)) (sym c.past_first-name.ensures) ∙ symbol-plain (carrying false l) (c.get_cmd-found.ensures x.rules e) c.in-Plain.is) (c.put_plain.ensures l),
+  λ z. absurd (z (puts-well refl (c.put_plain.ensures unheld))),
+)
 
 pub returns-in-Aliased : goal.returns-in-Aliased
-returns-in-Aliased c =
-    (
-      λ x l e. puts-as (ap (λ n. symbol_by n (get_cmd x.rules n) (carrying false l)) (sym c.past_first-name.ensures) ∙ symbol-aliased (carrying false l) (c.get_cmd-found.ensures x.rules e) c.in-Aliased.is) (c.put_plain-in-Aliased.ensures l),
-      λ z. absurd (z (puts-well refl (c.put_plain-in-Aliased.ensures unheld))),
-    )
+returns-in-Aliased c = (
+  λ x l e. puts-as (ap (λ n. symbol_by n (get_cmd x.rules n) (carrying false l)) (sym c.past_first-name.ensures) ∙ symbol-aliased (carrying false l) (c.get_cmd-found.ensures x.rules e) c.in-Aliased.is) (c.put_plain-in-Aliased.ensures l),
+  λ z. absurd (z (puts-well refl (c.put_plain-in-Aliased.ensures unheld))),
+)

@@ -16,12 +16,11 @@ returns-then-not-continues c =
     (sym c.continues.ensures ∙ c.if-not-continues.true)
 
 pub loop-n-preserved : goal.loop-n-preserved
-loop-n-preserved c =
-    (
-      omega arith,
-      char-passed-on _ _ c.loop-n.invariant.1 c.loop-n-test.true
-          (sym c.continues.ensures ∙ c.if-not-continues.false),
-    )
+loop-n-preserved c = (
+  omega arith,
+  char-passed-on _ _ c.loop-n.invariant.1 c.loop-n-test.true
+      (sym c.continues.ensures ∙ c.if-not-continues.false),
+)
 
 pub returns : goal.returns
 returns c = char-passed-all _ _ c.loop-n.invariant.1 c.loop-n-test.false
