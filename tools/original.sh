@@ -15,7 +15,7 @@ converter=$(realpath "$1") syntax=$(realpath "$2") spec=$(realpath "$3") crates=
 shift 4
 if [ -n "${ZALDRUME_LIB:-}" ]; then ZALDRUME_LIB=$(realpath "$ZALDRUME_LIB"); fi
 cd "$(dirname "$0")/.."
-[ -n "${ZALDRUME_LIB:-}" ] || [ -f target/staticlib/libzaldrume.a ] || rt staticlib zaldrume
+[ -n "${ZALDRUME_LIB:-}" ] || [ -f target/staticlib/libzaldrume.a ] || tools/build.sh zaldrume
 to=target/original
 rm -rf "$to/src" "$to/crates"
 mkdir -p "$to/src" "$to/crates"

@@ -5,6 +5,6 @@
 #   ZALDRUME_VECTORS  folders of vectors, with colons between (skipped where it is not set)
 set -eu
 cd "$(dirname "$0")/.."
-rt staticlib zaldrume
+tools/build.sh zaldrume
 cd rust
 exec cargo test --offline --workspace "$@"
