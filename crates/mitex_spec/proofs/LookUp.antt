@@ -259,6 +259,10 @@ module _ {file index : List ℕ} {k : ℕ} (s : SomeRule file index k) (by : Byt
             ∙ take-append_seam (rule_text r) (text_of_rules (drop (suc k) rs) ++ (rows_of_rules (all (take k rs) r (drop (suc k) rs) tail) ++ tail));
       }
 
+-- the same of the rules that a caller gave
+pub located-given : {file index : List ℕ} {k : ℕ} (s : SomeRule file index k) → Bytes file → Located file index k (rule_no s.numbered.rules k)
+located-given s by = located s by s.numbered.rules s.numbered.decodes
+
 -- ---- what the code reads there
 
 module _ {file index : List ℕ} {k : ℕ} {r : Rule} (l : Located file index k r)

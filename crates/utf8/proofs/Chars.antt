@@ -46,7 +46,8 @@ unfolding chars
 chars-unroll b [] = refl
 chars-unroll b (c ∷ s) =
     let by : (g : Bool) → goes_on (c ∷ s) ≡ g → chars (b ∷ c ∷ s) ≡ take (char_len (b ∷ c ∷ s)) (b ∷ c ∷ s) ∷ chars
-    (drop (char_len (b ∷ c ∷ s)) (b ∷ c ∷ s)) = λ g. elim g [
+    (drop (char_len (b ∷ c ∷ s)) (b ∷ c ∷ s)) = λ g. elim g
+    as (λ x. goes_on (c ∷ s) ≡ x → chars (b ∷ c ∷ s) ≡ take (char_len (b ∷ c ∷ s)) (b ∷ c ∷ s) ∷ chars (drop (char_len (b ∷ c ∷ s)) (b ∷ c ∷ s))) [
       | true ↦ λ e. rw (char_len-on b (c ∷ s) e, e) (ap (joined true b) (chars-unroll c s))
       | false ↦ λ e. rw (char_len-alone b (c ∷ s) e, e)
     ] in
@@ -69,7 +70,8 @@ pub char_len-tails : (b : ℕ) (s : List ℕ) → char_len (b ∷ s) ≡ suc (ta
 unfolding chars tails
 char_len-tails b [] = refl
 char_len-tails b (c ∷ s) =
-    let by : (g : Bool) → continues c ≡ g → char_len (b ∷ c ∷ s) ≡ suc (cond (continues c) (suc (tails s)) 0) = λ g. elim g [
+    let by : (g : Bool) → continues c ≡ g → char_len (b ∷ c ∷ s) ≡ suc (cond (continues c) (suc (tails s)) 0) = λ g. elim g
+    as (λ x. continues c ≡ x → char_len (b ∷ c ∷ s) ≡ suc (cond (continues c) (suc (tails s)) 0)) [
       | true ↦ λ e. rw (char_len-on b (c ∷ s) e, e) (ap suc (char_len-tails c s))
       | false ↦ λ e. rw (char_len-alone b (c ∷ s) e, e)
     ] in
@@ -125,7 +127,10 @@ unfolding chars
 joined-append false b c s cs = refl
 joined-append true b c s cs =
     let by : (h : Bool) (ds : List (List ℕ)) → joined true b (joined h c ds ++ cs) ≡ joined true b (joined h c ds) ++ cs = λ h. elim h
-    [ true ↦ λ ds. elim ds [ [] ↦ refl | ◌∷◌ d es ↦ refl ] | false ↦ λ ds. refl ] in
+    as (λ x. (ds : List (List ℕ)) → joined true b (joined x c ds ++ cs) ≡ joined true b (joined x c ds) ++ cs) [
+      | true ↦ λ ds. elim ds as (λ es. joined true b (joined true c es ++ cs) ≡ joined true b (joined true c es) ++ cs) [ [] ↦ refl | ◌∷◌ d es ↦ refl ]
+      | false ↦ λ ds. refl
+    ] in
     by (goes_on s) (chars s)
 
 -- where the second begins with no byte that continues a character

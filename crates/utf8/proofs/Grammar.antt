@@ -209,7 +209,7 @@ unfolding char_steps
 complete [] zero lo hi e = end
 complete [] (suc m) lo hi e = absurd (omega arith)
 complete (b ∷ s) zero lo hi e =
-    let by : (t : Bool) → eqb (length_by b) 0 ≡ t → Text (b ∷ s) = λ t. elim t [
+    let by : (t : Bool) → eqb (length_by b) 0 ≡ t → Text (b ∷ s) = λ t. elim t as (λ x. eqb (length_by b) 0 ≡ x → Text (b ∷ s)) [
       | true ↦ λ q. dead-no s (begun b) (rw q) e
       | false ↦ λ q.
           completes-text s (line_of b) (eqb-false (length_by b) 0 q)
@@ -219,9 +219,9 @@ complete (b ∷ s) zero lo hi e =
 complete (b ∷ s) (suc m) lo hi e =
     let n = ne_eqb (suc m) 0 (omega arith) in
     let here = char_step (state (suc m) lo hi) b in
-    let by : (t v : Bool) → leb lo b ≡ t → leb b hi ≡ v → Completes (suc m) lo hi (b ∷ s) = λ t v. elim t [
+    let by : (t v : Bool) → leb lo b ≡ t → leb b hi ≡ v → Completes (suc m) lo hi (b ∷ s) = λ t v. elim t as (λ x. leb lo b ≡ x → leb b hi ≡ v → Completes (suc m) lo hi (b ∷ s)) [
       | false ↦ λ p q. dead-no s here (rw (n, p)) e
-      | true ↦ elim v [
+      | true ↦ elim v as (λ x. leb lo b ≡ true → leb b hi ≡ x → Completes (suc m) lo hi (b ∷ s)) [
         | false ↦ λ p q. dead-no s here (rw (n, p, q)) e
         | true ↦ λ p q.
             let w = from-to (leb-true lo b p) (leb-true b hi q) in

@@ -53,7 +53,8 @@ skip-split : (cs : List (List ℕ)) → (ds : List (List ℕ)) × (ds ++ skip_wh
 unfolding skip_white
 skip-split [] = ([], refl)
 skip-split (c ∷ cs) =
-    let by : (t : Bool) → is_white c ≡ t → (ds : List (List ℕ)) × (ds ++ cond (is_white c) (skip_white cs) (c ∷ cs) ≡ c ∷ cs) = λ t. elim t [
+    let by : (t : Bool) → is_white c ≡ t → (ds : List (List ℕ)) × (ds ++ cond (is_white c) (skip_white cs) (c ∷ cs) ≡ c ∷ cs) = λ t. elim t
+    as (λ x. is_white c ≡ x → (ds : List (List ℕ)) × (ds ++ cond (is_white c) (skip_white cs) (c ∷ cs) ≡ c ∷ cs)) [
       | true ↦ λ e. let r = skip-split cs in (c ∷ r.0, rw e (ap (λ (l : List (List ℕ)). c ∷ l) r.1))
       | false ↦ λ e. ([], rw e)
     ] in

@@ -28,7 +28,7 @@ both-second false b e = absurd (let z : ◌≡◌ {A = ℕ} 0 1 = cc in omega ar
 every-at : (p : ℕ → Bool) (n : ℕ) → every_below p n ≡ true → (k : ℕ) → k < n → p k ≡ true
 every-at p zero e k h = absurd (omega arith)
 every-at p (suc n) e k h =
-    let at : (t : Bool) → eqb k n ≡ t → p k ≡ true = λ t. elim t [
+    let at : (t : Bool) → eqb k n ≡ t → p k ≡ true = λ t. elim t as (λ x. eqb k n ≡ x → p k ≡ true) [
       | true ↦ λ q. ap p (eqb-true k n q) ∙ both_first (p n) (every_below p n) e
       | false ↦ λ q. every-at p n (both-second (p n) (every_below p n) e) k (let x = eqb-false k n q in omega arith)
     ] in

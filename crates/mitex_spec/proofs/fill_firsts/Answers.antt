@@ -1,22 +1,11 @@
 use native.Mathlib.Omega.{arith}
-use mathlib.Core.Path.{◌≡◌, refl, subst, ap, ◌∙◌}
-use mathlib.Core.Option.Option.{some}
-use mathlib.Core.List.{List}
-use Prim.Native.Nat.{◌+◌, ◌-◌, ◌≤◌}
+use mathlib.Core.Path.{refl, subst, ap, ◌∙◌}
+use Prim.Native.Nat.{◌+◌}
 use lib.ListN.{length, length-set}
-use Rattle.mitex_spec.specs.Rules.{Rule}
-use Rattle.mitex_spec.specs.RuleFile.{rules_of}
 use Rattle.mitex_spec.specs.Index.{firsts_start}
 use Rattle.mitex_spec.proofs.Firsts.{Tabled, tabled_start, tabled-next, tabled-end, firsts-most}
 use Rattle.mitex_spec.proofs.Index.{rules-few, rules-one}
 use Rattle.mitex_spec.proofs.fill_firsts.Goals as goal
-
-abbrev entry : goal.At-loop-b → goal.Start
-entry c = c.before.before.before
-
--- the rules of the file are few
-few : (c : goal.At-loop-b) (rs : List Rule) → rules_of (entry c).args.file.now ≡ some rs → length rs ≤ 8191
-few c rs e = rules-few (entry c).args.file.now rs (λ i. omega (arith, c.shared_slice_known-1.given i)) e
 
 pub loop-b-init : goal.loop-b-init
 loop-b-init c =
@@ -26,30 +15,31 @@ loop-b-init c =
 
 pub firsts_below-k-requires : goal.firsts_below-k-requires
 firsts_below-k-requires c =
-    let at = c.before.before in
-    let s = (entry at).requires in
-    let inv = at.loop-b.invariant.2 in
-    (record { rules = s.rules; decodes = s.decodes; holds = (inv s.rules s.decodes).holds }, λ rs e. (inv rs e).low)
+    let s = c.requires in
+    let inv = c.loop-b.invariant.2 in
+    record {
+      numbered = record { rules = s.rules; decodes = s.decodes; holds = (inv s.rules s.decodes).holds };
+      from_bound = λ rs e. (inv rs e).low;
+    }
 
 pub store-requires : goal.store-requires
 store-requires c =
-    let at = c.before.before.before.before in
-    let s = (entry at).requires in
-    let most = firsts-most at.loop-b.b s.rules in
-    let n = few at s.rules s.decodes in
+    let s = c.requires in
+    let most = firsts-most c.loop-b.b s.rules in
+    let n = rules-few c.args.file.now s.rules (λ i. omega (arith, c.type_inv.file i)) s.decodes in
     let q = c.firsts_below-k.ensures s.rules s.decodes in
     omega arith
 
 pub loop-b-preserved : goal.loop-b-preserved
 loop-b-preserved c =
-    let store = c.store in
     let found = c.firsts_below-k in
-    let at = c.before.before.before.before.before.before.before in
-    let loop = at.loop-b in
+    let loop = c.loop-b in
     let t = c.loop-b-test.true in (
       omega arith,
-      ap length store.ensures ∙ length-set loop.index (firsts_start + loop.b) found.result ∙ loop.invariant.1,
-      λ rs e. let n = few at rs e in tabled-next (loop.invariant.2 rs e) _ found.result (omega arith) (omega arith) (found.ensures rs e) store.ensures,
+      ap length c.store.ensures ∙ length-set loop.index (firsts_start + loop.b) found.result ∙ loop.invariant.1,
+      λ rs e.
+          let n = rules-few c.args.file.now rs (λ i. omega (arith, c.type_inv.file i)) e in
+          tabled-next (loop.invariant.2 rs e) _ found.result (omega arith) (omega arith) (found.ensures rs e) c.store.ensures,
     )
 
 pub shape_of-index : goal.shape_of-index

@@ -8,8 +8,8 @@ use Rattle.mitex_spec.proofs.fill_index.Given as goal
 
 abbrev pub invariant-loop-l : goal.invariant-loop-l
 invariant-loop-l l =
-    (l.at ≤ 131072 * l.k) × (8 * l.k + length l.l ≤ length l.l.rows) × (length l.l.index ≡ length l.l.initial.index)
-    × ((n : ℕ) → length l.l.rows ≡ 8 * n → Filled n l.l.rows l.l.initial.index l.l.index l.l l.at l.k)
+    (l.at ≤ 131072 * l.k) × (8 * l.k + length l.l ≤ length l.rows) × (length l.index ≡ length l.initial.index)
+    × ((n : ℕ) → length l.rows ≡ 8 * n → Filled n l.rows l.initial.index l.index l.l l.at l.k)
 
 abbrev pub decreases-loop-l : goal.decreases-loop-l
 decreases-loop-l l = length l.l

@@ -1,6 +1,5 @@
 -- `find`: what is looked for among all children is what is looked for among those that are left (`Seeks`); the measure is the
 -- rows left.
--- in a turn of the loop there is an element
 use Prim.Native.Nat.{◌≤◌, ◌-◌}
 use lib.ListN.{length, drop}
 use Rattle.mitex_syntax.specs.Tree.{Forest}

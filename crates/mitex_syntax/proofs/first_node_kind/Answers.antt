@@ -1,33 +1,31 @@
-use Prim.Native.Nat.{◌≤◌, ◌-◌, ◌+◌}
-use lib.ListN.{length}
+-- In a turn of the loop a whole row is left (`nodes-inside`).
 use native.Mathlib.Omega.{arith}
 use Rattle.mitex_syntax.proofs.Seeking.{nodes-start, nodes-inside, nodes-end, nodes-found, nodes-next}
 use Rattle.mitex_syntax.proofs.first_node_kind.Goals as goal
-
--- in a turn of the loop a whole row is left
-eight : (c : goal.In-loop-i) → c.before.loop.i + 8 ≤ length c.before.before.args.rows.now
-eight c = nodes-inside (c.loop-i.invariant.1 c.requires.forest c.requires.rows_are) c.loop-i-test.true
 
 pub loop-i-init : goal.loop-i-init
 loop-i-init c = (omega arith, λ f e. nodes-start f _ e)
 
 pub overflow_add-i : goal.overflow_add-i
-overflow_add-i c = omega (arith, eight c)
+overflow_add-i c = omega (arith, nodes-inside (c.loop-i.invariant.1 c.requires.forest c.requires.rows_are) c.loop-i-test.true)
 
 pub bounds-rows-i : goal.bounds-rows-i
-bounds-rows-i c = omega (arith, eight c.before)
+bounds-rows-i c = omega (arith, nodes-inside (c.loop-i.invariant.1 c.requires.forest c.requires.rows_are) c.loop-i-test.true)
 
 pub returns-then-rows-i-ne1 : goal.returns-then-rows-i-ne1
 returns-then-rows-i-ne1 c = λ f e. nodes-found (c.loop-i.invariant.1 f e) c.loop-i-test.true c.if-rows-i-ne1.true
 
 pub overflow_add-i-in-loop-i : goal.overflow_add-i-in-loop-i
-overflow_add-i-in-loop-i c = omega (arith, eight c.before.before)
+overflow_add-i-in-loop-i c = omega (arith, nodes-inside (c.loop-i.invariant.1 c.requires.forest c.requires.rows_are) c.loop-i-test.true)
 
 pub loop-i-smaller : goal.loop-i-smaller
-loop-i-smaller c = omega (arith, eight c.before.before)
+loop-i-smaller c = omega (arith, nodes-inside (c.loop-i.invariant.1 c.requires.forest c.requires.rows_are) c.loop-i-test.true)
 
 pub loop-i-preserved : goal.loop-i-preserved
-loop-i-preserved c = (eight c.before.before, λ f e. nodes-next (c.loop-i.invariant.1 f e) c.loop-i-test.true c.if-rows-i-ne1.false)
+loop-i-preserved c = (
+  nodes-inside (c.loop-i.invariant.1 c.requires.forest c.requires.rows_are) c.loop-i-test.true,
+  λ f e. nodes-next (c.loop-i.invariant.1 f e) c.loop-i-test.true c.if-rows-i-ne1.false,
+)
 
 pub returns : goal.returns
 returns c = λ f e. nodes-end (c.loop-i.invariant.1 f e) c.loop-i-test.false

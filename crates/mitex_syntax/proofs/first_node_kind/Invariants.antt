@@ -1,5 +1,4 @@
 -- `first_node_kind`: among the elements that are left the first node is the first of all (`NodesLeft`); the measure is the rows left.
--- in a turn of the loop a whole row is left
 use Prim.Native.Nat.{◌≤◌, ◌-◌}
 use lib.ListN.{length}
 use mathlib.Core.Path.{◌≡◌}

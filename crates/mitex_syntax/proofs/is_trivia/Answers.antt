@@ -1,7 +1,6 @@
 -- `is_trivia`: each kind is one of four, or none of them (`no-trivia`).
 use mathlib.Core.Path.{sym, ap}
 use Rattle.mitex_syntax.specs.Syntax.{is_trivia}
-use Rattle.mitex_syntax.proofs.Kinding.{no-trivia}
 use Rattle.mitex_syntax.proofs.is_trivia.Goals as goal
 
 pub returns-in-24 : goal.returns-in-24
@@ -15,8 +14,3 @@ returns-in-21 c = ap is_trivia (sym c.in-21.is)
 
 pub returns-in-41 : goal.returns-in-41
 returns-in-41 c = ap is_trivia (sym c.in-41.is)
-
-pub returns-in_default : goal.returns-in_default
-returns-in_default c =
-    let m = c.in_default.rest in
-    no-trivia c.args.k m.0.0.0.1 m.0.0.1 m.0.1 m.1

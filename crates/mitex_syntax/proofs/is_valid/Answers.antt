@@ -1,23 +1,13 @@
 -- `is_valid`: the ends of one sort, then those of the other.
 use Rattle.mitex_syntax.specs.Views.{math_ends}
-use Rattle.mitex_syntax.specs.Places.{TokenInText}
 use Rattle.mitex_syntax.proofs.Deciding.{or-then, or-not}
 use Rattle.mitex_syntax.proofs.is_valid.Goals as goal
 
-abbrev start : goal.After-last_token-b → goal.Start
-start c = c.before.before.before.before
-
-inside :
-    (c : goal.After-last_token-b)
-    → TokenInText (start c).args.text.now c.before.first-token.result × TokenInText (start c).args.text.now c.last-token.result
-inside c =
-    let pre = (start c).requires in
-    let first = c.first_token-a.ensures pre.forest pre.begins in
-    let last = c.last_token-b.ensures pre.forest pre.begins in
-    ((first.some, first.stop), (last.some, last.stop))
-
 pub dollar_ends-requires : goal.dollar_ends-requires
-dollar_ends-requires c = inside c
+dollar_ends-requires c =
+    let first = c.first_token-a.ensures c.requires.forest c.requires.begins in
+    let last = c.last_token-b.ensures c.requires.forest c.requires.begins in
+    ((first.some, first.stop), (last.some, last.stop))
 
 pub returns-then-dollar_ends : goal.returns-then-dollar_ends
 returns-then-dollar_ends c =
@@ -25,7 +15,10 @@ returns-then-dollar_ends c =
     c.if-dollar_ends.true
 
 pub math_ends-requires : goal.math_ends-requires
-math_ends-requires c = inside c.before.before
+math_ends-requires c =
+    let first = c.first_token-a.ensures c.requires.forest c.requires.begins in
+    let last = c.last_token-b.ensures c.requires.forest c.requires.begins in
+    ((first.some, first.stop), (last.some, last.stop))
 
 pub returns : goal.returns
 returns c =

@@ -1,6 +1,4 @@
 -- `last_token`: the elements that are left have the same last token as all (`Lasts`); the measure is the rows left.
--- in a turn of the loop a whole row is left
--- a step, for each forest that is spelt
 use Prim.Native.Nat.{◌≤◌, ◌-◌}
 use lib.ListN.{length}
 use Rattle.mitex_syntax.specs.Tree.{Forest}

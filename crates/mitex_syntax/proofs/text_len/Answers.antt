@@ -1,6 +1,5 @@
 use native.Mathlib.Omega.{arith}
 use mathlib.Core.Path.{ap}
-use Prim.Native.Nat.{◌-◌}
 use lib.ListN.{drop_of_length-le}
 use Rattle.mitex_syntax.specs.Rows.{token_sum}
 use Rattle.mitex_syntax.proofs.Reading.{token_sum-at, token_sum-nil}

@@ -1,5 +1,4 @@
 use mathlib.Core.Path.{sym, ◌∙◌}
-use Prim.Native.Nat.{◌-◌}
 use native.Mathlib.Omega.{arith}
 use Rattle.utf8.proofs.Chars.{char-passed-none, char-passed-one, char-passed-on, char-passed-stop, char-passed-all}
 use Rattle.utf8.proofs.char_len.Goals as goal

@@ -1,6 +1,9 @@
-use mathlib.Core.Path.{◌≡◌, refl, sym, ap, ◌∙◌}
+use mathlib.Core.Path.{◌≡◌, sym, ap, ◌∙◌}
+use mathlib.Core.Bool.{Bool}
+use mathlib.Core.List.{List}
+use Prim.Native.Nat.{ℕ, ◌-◌}
 use native.Mathlib.Omega.{arith}
-use lib.ListN.{drop}
+use lib.ListN.{length, take, drop}
 use lib.Seq.{length-take-le}
 use Rattle.text.proofs.Writing.{part-rest}
 use Rattle.utf8.specs.Chars.{is_white}
@@ -8,18 +11,12 @@ use Rattle.utf8.proofs.Trimming.{trim_end-white, trim_end-done, trim_end-none}
 use Rattle.utf8.proofs.trim_end.Goals as goal
 
 -- the part that is tested is the last character
-tested :
-    (c : goal.After-is_white)
-    → is_white (drop c.before.before.last-at.result c.before.before.before.before.loop.t.now) ≡ c.is_white.result
-tested c =
-    ap is_white (sym (part-rest c.loop-t.t.now c.last_at-k.result)) ∙ sym c.is_white.ensures
-
-pub loop-t-init : goal.loop-t-init
-loop-t-init c = refl
+tested : (t : List ℕ) (k : ℕ) (r : Bool) → r ≡ is_white (take (length t - k) (drop k t)) → is_white (drop k t) ≡ r
+tested t k r e = ap is_white (sym (part-rest t k)) ∙ sym e
 
 pub returns-then-not-is_white : goal.returns-then-not-is_white
 returns-then-not-is_white c =
-    trim_end-done _ _ c.last_at-k.ensures (tested c.before ∙ c.if-not-is_white.true)
+    trim_end-done _ _ c.last_at-k.ensures (tested c.loop-t.t.now c.last_at-k.result _ c.is_white.ensures ∙ c.if-not-is_white.true)
     ∙ c.loop-t.invariant
 
 pub slice_bounds-t-end : goal.slice_bounds-t-end
@@ -33,9 +30,8 @@ loop-t-smaller c =
 
 pub loop-t-preserved : goal.loop-t-preserved
 loop-t-preserved c =
-    let white = c.before.before in
-    trim_end-white _ _ white.last_at-k.ensures (tested white ∙ c.if-not-is_white.false)
-    ∙ white.loop-t.invariant
+    trim_end-white _ _ c.last_at-k.ensures (tested c.loop-t.t.now c.last_at-k.result _ c.is_white.ensures ∙ c.if-not-is_white.false)
+    ∙ c.loop-t.invariant
 
 pub returns : goal.returns
 returns c = trim_end-none _ c.loop-t-test.false ∙ c.loop-t.invariant
