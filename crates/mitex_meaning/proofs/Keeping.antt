@@ -4,7 +4,7 @@ use mathlib.Core.Path.{◌≡◌, refl, subst}
 use mathlib.Core.Bool.{Bool, true, false, ◌||◌, cond}
 use mathlib.Core.Option.{Option}
 use mathlib.Core.Option.Option.{none as nothing, some}
-use mathlib.Core.List.{List}
+use mathlib.Core.List.{List, ◌++◌}
 use Prim.Native.Nat.{ℕ, zero, suc, ◌+◌}
 use native.Mathlib.Omega.{arith}
 use borrow.Author.Tests.{leb-true}
@@ -25,7 +25,8 @@ use Rattle.mitex_meaning.specs.Children.{act_of, next_loop, before, behind, conv
 use Rattle.mitex_meaning.specs.Groups.{children, formula, curly_in, curly_group, clause_lr, attach_component}
 use Rattle.mitex_meaning.specs.Colors.{Model, greedy_model, argument_model, colored, with_model, color_alias, body_loop, arguments_loop}
 use Rattle.mitex_meaning.specs.Commands.{item_in, label_now, label_held, label_in, typst_name, is_argument, greedy_in, arguments_of, arguments_by, stack_env, written_as, normal_by, command_of, command_by}
-use Rattle.mitex_meaning.specs.Tables.{letters_fit}
+use Rattle.mitex_meaning.specs.Tables.{letters_fit, table_head}
+use Rattle.mitex_meaning.specs.Texts.{left_paren, color_end, body_begin, caption_begin, hash}
 use Rattle.mitex_meaning.specs.Environments.{Caption, absent, bare, caption, last_caption, math_env, captioned, table_by, take_label, env_of, plain_env, env_body, is_list, env_by}
 use Rattle.mitex_meaning.specs.Conversion.{element_of, arm_by, step, convert}
 use Rattle.mitex_meaning.specs.Keeping.{Short, is_walk_number, KeptOutcome, Keeps}
@@ -93,7 +94,7 @@ module _ (conv : Tree → Carry → Outcome) (keeps : (t : Tree) → Keeps (conv
   keeps-greedy : (o : ℕ) (t : Option Tree) → Keeps (greedy_in conv o t)
   keeps-greedy o nothing c = kept_refused tt
   keeps-greedy o (some (token k s)) c = kept_refused tt
-  keeps-greedy o (some (node k g)) c = kept-between _ _ (kept-shift o (keeps-each 1 _ g c))
+  keeps-greedy o (some (node k g)) c = kept-between left_paren _ (kept-shift o (keeps-each 1 _ g c))
 
 -- ---- tokens
 
@@ -180,7 +181,7 @@ module _ (conv : Conv) (h : KeepsConv conv) (x : Context) where
   keeps-colored : (l : Loop) (o : ℕ) (f : Forest) → Keeps (colored conv x l o f)
   keeps-colored l o none c = kept_done (λ s. s)
   keeps-colored l o (more t f) c =
-      kept-and_then _ (kept-shift o (h _ t c)) (λ c'. kept-between _ _ (keeps-each (conv x) (h x) (o + size t) l f c'))
+      kept-and_then _ (kept-shift o (h _ t c)) (λ c'. kept-between color_end _ (keeps-each (conv x) (h x) (o + size t) l f c'))
 
   keeps-model : (name : List ℕ) (l : Loop) (m : Model) → Keeps (with_model conv x name l m)
   keeps-model name l m c = kept-after _ (keeps-colored l m.behind.rows m.behind.elements c)
@@ -188,7 +189,7 @@ module _ (conv : Conv) (h : KeepsConv conv) (x : Context) where
   keeps-arguments : (a : Arguments) (f : Forest) → Keeps (arguments_by a conv x f)
   keeps-arguments NoArguments f c = kept_done (λ s. s)
   keeps-arguments GreedyArgument f c = keeps-greedy (conv x) (h x) _ (first_by is_argument f) c
-  keeps-arguments MathArguments f c = kept-between _ _ (keeps-each (conv x) (h x) 1 _ f c)
+  keeps-arguments MathArguments f c = kept-between left_paren _ (keeps-each (conv x) (h x) 1 _ f c)
   keeps-arguments TextArguments f c = kept-closing _ (keeps-each (conv _) (h _) 1 _ f c)
 
 keeps-written : (k : ℕ) (w : List ℕ) → KeepsArm (written_as k w)
@@ -226,17 +227,17 @@ module _ (conv : Conv) (h : KeepsConv conv) (x : Context) (f : Forest) where
       (kept-and_then _ (kept-shift _ (keeps-each (conv _) (h _) 1 _ (begin_of f) c)) (λ c'. keeps-each (conv _) (h _) 1 _ f c'))
 
   keeps-figure : (t : Caption) → Keeps (captioned t conv x f)
-  keeps-figure absent c = kept-between _ _ (keeps-each (conv x) (h x) 1 _ f c)
+  keeps-figure absent c = kept-between body_begin _ (keeps-each (conv x) (h x) 1 _ f c)
   keeps-figure (bare o) c = kept_refused tt
   keeps-figure (caption o t) c =
-      kept-after _
-      (kept-and_then _ (kept-closing _ (kept-shift o (h x t c))) (λ c'. kept-between _ _ (keeps-each (conv x) (h x) 1 _ f c')))
+      kept-after caption_begin
+      (kept-and_then _ (kept-closing _ (kept-shift o (h x t c))) (λ c'. kept-between body_begin _ (keeps-each (conv x) (h x) 1 _ f c')))
 
   keeps-table : (w : List ℕ) (t : Option Tree) → Keeps (table_by w t conv x f)
   keeps-table w nothing c = kept_refused tt
   keeps-table w (some t) c =
       kept-cond (good_ends (text_of t))
-      (λ e. kept-cond (letters_fit (trim (inner (text_of t)))) (λ e'. kept-after _ (keeps-each (conv _) (h _) 1 _ f c)) (kept_refused tt))
+      (λ e. kept-cond (letters_fit (trim (inner (text_of t)))) (λ e'. kept-after (hash ++ (w ++ (left_paren ++ table_head (trim (inner (text_of t)))))) (keeps-each (conv _) (h _) 1 _ f c)) (kept_refused tt))
       (kept_refused tt)
 
 keeps-plain : (e : LaTeXEnv) (w : List ℕ) → KeepsArm (plain_env e w)
@@ -244,7 +245,7 @@ keeps-plain e w conv h x f c = kept-between _ _ (keeps-each (conv _) (h _) 1 _ f
 
 keeps-body : (e : LaTeXEnv) (w : List ℕ) → KeepsArm (env_body e w)
 keeps-body None w conv h x f c = keeps-plain None w conv h x f c
-keeps-body FigureEnv w conv h x f c = kept-after _ (keeps-figure conv h _ f (last_caption 1 f) c)
+keeps-body FigureEnv w conv h x f c = kept-after (hash ++ (w ++ left_paren)) (keeps-figure conv h _ f (last_caption 1 f) c)
 keeps-body TableEnv w conv h x f c = keeps-table conv h x f w (first_of ClauseArgument (begin_of f)) c
 keeps-body Itemize w conv h x f c = keeps-plain Itemize w conv h x f c
 keeps-body Enumerate w conv h x f c = keeps-plain Enumerate w conv h x f c

@@ -40,13 +40,16 @@ unfolding first_by with_new_line
 first-begin s none = refl
 first-begin s (more t f) = ap (λ (o : Option Tree). cond (is_of ItemBegin t) (some t) o) (first-begin s f)
 
+-- with the same argument of that `\begin`
+one-table :
+    (w s : List ℕ) (conv : Conv) (x : Context) (f : Forest) (c : Carry) → ends_outside true f ≡ false → (a : Option Tree)
+    → table_by w a conv x (with_new_line s f) c ≡ table_by w a conv x f c
+one-table w s conv x f c e nothing = refl
+one-table w s conv x f c e (some t) = rw (cells (conv (in_env TableEnv x)) s 1 true f c e)
+
 pub new-line-left-out :
     (w s : List ℕ) (conv : Conv) (x : Context) (f : Forest) (c : Carry) → ends_outside true f ≡ false
     → table_env w conv x (with_new_line s f) c ≡ table_env w conv x f c
 new-line-left-out w s conv x f c e =
-    let by : (a : Option Tree) → table_by w a conv x (with_new_line s f) c ≡ table_by w a conv x f c = λ a. elim a [
-      | nothing ↦ refl
-      | some t ↦ rw (cells (conv (in_env TableEnv x)) s 1 true f c e)
-    ] in
     ap (λ (b : Option Tree). table_by w (first_of ClauseArgument (children_in b)) conv x (with_new_line s f) c) (first-begin s f)
-    ∙ by (first_of ClauseArgument (begin_of f))
+    ∙ one-table w s conv x f c e (first_of ClauseArgument (begin_of f))

@@ -5,8 +5,8 @@ use Prim.Native.Nat.{ℕ}
 use mathlib.Core.Path.{◌≡◌, sym, ap, subst}
 use mathlib.Core.List.{List, [], ◌∷◌}
 use seplogic.Ra.Ura.{Ura}
-use seplogic.Ra.TreeShare.{full_share}
-use mir.Syntax.{Name, Place, Opd as Operand, Body as Code, seq, call, named}
+use base.Fraction.{full_share}
+use mir.Syntax.{Callee, Place, Opd as Operand, Body as Code, seq, call, named}
 use mir.Val.{Val, vptr}
 use base.Logic.{ent, sep, emp, snd∗, ex_e, id⊢}
 use base.Fml.{Fml, GName, ftrue, fsep, fat, flft, flent}
@@ -33,7 +33,7 @@ use denote.Triple.Walked.{says}
 use Rattle.mitex_meaning.specs.declared.Converter.{Converter}
 use Rattle.mitex_meaning.proofs.LentForms.{Known, mach, Held, Form, ended, clauses, Lends, Move, move-ended, move-clauses, Moves}
 use Rattle.mitex_meaning.proofs.LentWalks.{had, converter-had, lies}
-use Rattle.mitex_meaning.specs.contracts.Converter as T
+use Rattle.all.specs.contracts.mitex_meaning.Converter as T
 use Rattle.mitex_meaning.proofs.Converter.TheLaws as T'
 
 -- ---- a form by value
@@ -55,7 +55,7 @@ module _ {M : Type 1} {𝓤 : Ura M} (𝓛 : Logic 𝓤) (N : Move) where
     move-told r = ex_e 𝓤 _ (λ ws. snd∗ 𝓤 (sem 𝓛 (lasts (move-ended N) tt (h, (p, tt)) ws)) (fact 𝓤 (r ≡ N.gives p h)))
 
 module _ {M : Type 1} {𝓤 : Ura M} {𝓛 : Logic 𝓤} {K : Type 0} {Γ : List (Item 𝓤)}
-    {E : Env 𝓤 𝓛.H} {C : Calls 𝓤 𝓛.H} {Λ : Loops 𝓤 𝓛.H} {f : Name} {xs : List Operand} {d : Place} {rest : Code} {q : Post 𝓤 𝓛.H} where
+    {E : Env 𝓤 𝓛.H} {C : Calls 𝓤 𝓛.H} {Λ : Loops 𝓤 𝓛.H} {f : Callee} {xs : List Operand} {d : Place} {rest : Code} {q : Post 𝓤 𝓛.H} where
   open 𝓛 use {H}
 
   pub calls-move : K → (N : Move) → FmC 𝓤 H 𝓛.laws C → Triple 𝓤 (C f) (Moves N 𝓛)
@@ -105,7 +105,7 @@ abbrev pub Owed : ℕ → ℕ → GName → Fml
 Owed l α γ = flent (α ∷ []) (Body (mem T.the_row) l 0 γ)
 
 module _ {M : Type 1} {𝓤 : Ura M} {𝓛 : Logic 𝓤} {K : Type 0} {Γ : List (Item 𝓤)}
-    {E : Env 𝓤 𝓛.H} {C : Calls 𝓤 𝓛.H} {Λ : Loops 𝓤 𝓛.H} {f : Name} {xs : List Operand} {d : Place} {rest : Code} {q : Post 𝓤 𝓛.H} where
+    {E : Env 𝓤 𝓛.H} {C : Calls 𝓤 𝓛.H} {Λ : Loops 𝓤 𝓛.H} {f : Callee} {xs : List Operand} {d : Place} {rest : Code} {q : Post 𝓤 𝓛.H} where
   open 𝓛 use {H}
 
   pub calls-lend : K → (F : Form) → FmC 𝓤 H 𝓛.laws C → Triple 𝓤 (C f) (Lends F 𝓛)
@@ -133,15 +133,15 @@ module _ {M : Type 1} {𝓤 : Ura M} {𝓛 : Logic 𝓤} {K : Type 0} {Γ : List
       use1 𝓛
       (some (λ (zs : Converter × (Last (F.P.row.exit yes) p × Unit {0})).
       ‵ (lasts (ended F) (α ∷ [], tt) args zs) ⊛ raw (fact 𝓤 (F.Promise h p r zs.0))))
-      (id⊢ 𝓤 _) $ pick t (λ zs. split t $ move t (1 ∷ []) $ heard t (F.Promise h p r zs.0) (λ kept. fsplit t $
-      move t (2 ∷ []) $ split t $ split t $ move t (2 ∷ []) $
+      (id⊢ 𝓤 _) $ pick t (λ zs. split t $ move t (1 ∷ []) $ heard t (F.Promise h p r zs.0) (λ kept. fsplit t $ fsplit t $
+      move t (3 ∷ []) $ split t $ split t $ move t (2 ∷ []) $
       facts t F.R.row (Is F.R.row) (shows 𝓛 F.R.row) r (v ∷ []) (λ gives.
-      -- [the token; true; the last value; true; the lender's part; …]: the lifetime is ended, and the local comes back
-      lft_end t tt $ move t (0 ∷ 4 ∷ 2 ∷ []) $
+      -- [the token; true; the last value; the borrow; true; the lender's part; …]: the lifetime is ended, and the local comes back
+      lft_end t tt $ move t (0 ∷ 5 ∷ 2 ∷ []) $
       use3 𝓛 (later (‵ ((mem T.the_row).own_at zs.0 l 0))) (ref_back 𝓛 T.the_row (α ∷ []) γ zs.0 l 0) $ await t tt $
       fpick t (λ us. fsplit t $ lies t zs.0 us l 0 (λ held.
-      -- [the converter's cell; true; true; …]
-      move t (1 ∷ []) $ drop t $ move t (1 ∷ []) $ drop t $
+      -- [the converter's cell; true; the borrow; true; …]
+      move t (1 ∷ []) $ drop t $ move t (1 ∷ []) $ drop t $ move t (1 ∷ []) $ drop t $
       let same = F.R.tells r (v ∷ []) gives in
       subst (λ (u : Val). Seq K 𝓛 (‵ (fat full_share T'.mir l 0 (mach zs.0)) ∷ Γ) (lands C Λ E d u rest q)) (sym (ap only same))
       (k zs.0 r kept held (subst (Is F.R.row r) same gives)))))))))))

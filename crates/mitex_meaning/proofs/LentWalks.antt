@@ -9,7 +9,7 @@ use Prim.Native.Nat.{ℕ}
 use mathlib.Core.Path.{refl}
 use mathlib.Core.List.{List, [], ◌∷◌}
 use seplogic.Ra.Ura.{Ura}
-use seplogic.Ra.TreeShare.{full_share}
+use base.Fraction.{full_share}
 use lib.Dec.{T as Holds}
 use mir.Syntax.{Fn, named}
 use mir.Val.{Val, WT, has_ty, vptr}
@@ -17,7 +17,7 @@ use base.Logic.{SProp, ent}
 use base.Stored.{Gv}
 use base.Fml.{GName, Lft, Share, ftrue, fat, flft, fobs, fauth, fbor, fobor}
 use prog.Model.{Model}
-use prog.Routine.{Name, Env}
+use prog.Routine.{Callee, Env}
 use prog.Wp.{WpFn, Tables, Closed}
 use types.Logic.{Logic}
 use contract.Running.{Running, tables, tables_of}
@@ -40,11 +40,11 @@ use denote.Triple.Table.{entered}
 use denote.Triple.Walked.{says, Stays, stay_ref, stay_none, walk_of, Goes-none, Goes-ref, ends_at, walked, walk_Meets}
 use Rattle.mitex_meaning.specs.declared.Converter.{Converter}
 use Rattle.mitex_meaning.proofs.LentForms.{Datum, Known, mode_datum, env_datum, mach, Held, Form, ended, clauses, Lends}
-use Rattle.mitex_meaning.specs.contracts.Converter as T
+use Rattle.all.specs.contracts.mitex_meaning.Converter as T
 use Rattle.mitex_meaning.proofs.Converter.TheLaws as T'
-use Rattle.mitex_meaning.specs.contracts.LaTeXEnv as E
+use Rattle.all.specs.contracts.mitex_meaning.LaTeXEnv as E
 use Rattle.mitex_meaning.proofs.LaTeXEnv.TheLaws as E'
-use Rattle.mitex_meaning.specs.contracts.LaTeXMode as D
+use Rattle.all.specs.contracts.mitex_meaning.LaTeXMode as D
 use Rattle.mitex_meaning.proofs.LaTeXMode.TheLaws as D'
 
 -- ---- machine values have their types' MIR types
@@ -155,7 +155,7 @@ module _ (F : Form) where
         by ! (walk κs.0 qs.0 a.0.ref_ptr.0 a.0.ref_ptr.1 a.0.ghost_name a.0.now a.1.0 are.1.0)))
 
   -- the function fn, which the table ρ has under the name k
-  module _ {M : Type 1} {𝓤 : Ura M} (𝓛 : Logic 𝓤) (𝓜 : Model 𝓤 𝓛.H) (𝓡 : Running 𝓤 𝓛.H 𝓜) (ρ : Env) (k : Name) where
+  module _ {M : Type 1} {𝓤 : Ura M} (𝓛 : Logic 𝓤) (𝓜 : Model 𝓤 𝓛.H) (𝓡 : Running 𝓤 𝓛.H 𝓜) (ρ : Env) (k : Callee) where
     open 𝓛 use {H}
 
     pub proved : (fn : Fn) → Closed 𝓤 H (tables 𝓤 H 𝓜 𝓡 ρ).C (tables 𝓤 H 𝓜 𝓡 ρ).Λ k fn

@@ -4,7 +4,7 @@ use mathlib.Core.Path.{◌≡◌, refl, ap, ◌∙◌}
 use mathlib.Core.Bool.{Bool, false, cond}
 use mathlib.Core.Option.{Option}
 use mathlib.Core.Option.Option.{none as nothing, some}
-use mathlib.Core.List.{List, []}
+use mathlib.Core.List.{List, [], ◌++◌}
 use Prim.Native.Nat.{ℕ, zero, suc, ◌+◌, ◌≤◌}
 use native.Mathlib.Omega.{arith}
 use lib.ListN.{drop}
@@ -22,8 +22,9 @@ use Rattle.mitex_meaning.specs.Children.{act_of, next_loop, before, behind, conv
 use Rattle.mitex_meaning.specs.Groups.{group_env, curly_in, clause_lr}
 use Rattle.mitex_meaning.specs.Colors.{Model, greedy_model, argument_model, colored, with_model, color_alias, body_loop, arguments_loop}
 use Rattle.mitex_meaning.specs.Commands.{is_argument, greedy_in, typst_name, arguments_of, arguments_by, stack_env, normal_by, command_of, command_by}
-use Rattle.mitex_meaning.specs.Tables.{letters_fit}
-use Rattle.mitex_meaning.specs.Environments.{Caption, absent, bare, caption, last_caption, math_env, captioned, table_by, is_list, take_label, env_of, env_body, env_by}
+use Rattle.mitex_meaning.specs.Tables.{letters_fit, table_head}
+use Rattle.mitex_meaning.specs.Texts.{left_paren, color_end, body_begin, caption_begin, hash}
+use Rattle.mitex_meaning.specs.Environments.{env_begin, Caption, absent, bare, caption, last_caption, math_env, captioned, table_by, is_list, take_label, env_of, env_body, env_by}
 use Rattle.mitex_meaning.specs.Conversion.{element_of, arm_by, step, convert}
 use Rattle.mitex_meaning.specs.declared.LaTeXMode.{LaTeXMode}
 use Rattle.mitex_meaning.specs.declared.LaTeXMode.TheVariants.{Text, Math}
@@ -75,7 +76,7 @@ module _ (n : ℕ) (p q : Tree → Carry → Outcome) (agree : Same n p q) where
   same-greedy : (o : ℕ) (t : Option Tree) (c : Carry) → Small n t → greedy_in p o t c ≡ greedy_in q o t c
   same-greedy o nothing c h = refl
   same-greedy o (some (token k s)) c h = refl
-  same-greedy o (some (node k g)) c h = between _ _ (ap (shift o) (same-each 1 Greedy g c (omega (arith, size-node k g))))
+  same-greedy o (some (node k g)) c h = between left_paren _ (ap (shift o) (same-each 1 Greedy g c (omega (arith, size-node k g))))
 
 -- ---- the arms
 
@@ -103,7 +104,7 @@ module _ (n : ℕ) (conv conv' : Conv) (agree : (x : Context) → Same n (conv x
   same-colored x l o (more t f) c h =
       let e = size-more t f in
       same_then _ _ _ _ (ap (shift o) (agree (in_mode Text x) t c (omega arith)))
-      (λ c'. between _ _ (loops x (o + size t) l f c' (omega arith)))
+      (λ c'. between color_end _ (loops x (o + size t) l f c' (omega arith)))
 
   same-model :
       (x : Context) (name : List ℕ) (l : Loop) (m : Model) (c : Carry) → sizes m.behind.elements ≤ n
@@ -114,7 +115,7 @@ module _ (n : ℕ) (conv conv' : Conv) (agree : (x : Context) → Same n (conv x
   same-arguments NoArguments x f c h = refl
   same-arguments GreedyArgument x f c h =
       same-greedy n (conv x) (conv' x) (agree x) _ (first_by is_argument f) c (small-more (sizes f) (first_by is_argument f) h (first_by-size is_argument f))
-  same-arguments MathArguments x f c h = between _ _ (loops x 1 _ f c h)
+  same-arguments MathArguments x f c h = between left_paren _ (loops x 1 _ f c h)
   same-arguments TextArguments x f c h = ap (closing _) (loops (in_mode Text x) 1 _ f c h)
 
   same-normal : (r : Option Rule) (name : List ℕ) → SameArm (normal_by r name)
@@ -145,27 +146,27 @@ module _ (n : ℕ) (conv conv' : Conv) (agree : (x : Context) → Same n (conv x
       (λ c'. loops (in_env e (in_mode Math x)) 1 _ f c' h))
 
   same-figure : (t : Caption) → Captions n t → SameArm (captioned t)
-  same-figure absent s x f c h = between _ _ (loops x 1 _ f c h)
+  same-figure absent s x f c h = between body_begin _ (loops x 1 _ f c h)
   same-figure (bare o) s x f c h = refl
   same-figure (caption o t) s x f c h =
-      ap (after _)
+      ap (after caption_begin)
       (same_then _ _ _ _ (ap (closing _) (ap (shift o) (agree x t c s)))
-      (λ c'. between _ _ (loops x 1 _ f c' h)))
+      (λ c'. between body_begin _ (loops x 1 _ f c' h)))
 
   same-table : (w : List ℕ) (t : Option Tree) → SameArm (table_by w t)
   same-table w nothing x f c h = refl
   same-table w (some t) x f c h =
       if-holds (good_ends (text_of t)) (refused 12 0)
-      (if-holds (letters_fit (trim (inner (text_of t)))) (refused 13 0) (ap (after _) (loops (in_env TableEnv x) 1 _ f c h)))
+      (if-holds (letters_fit (trim (inner (text_of t)))) (refused 13 0) (ap (after (hash ++ (w ++ (left_paren ++ table_head (trim (inner (text_of t))))))) (loops (in_env TableEnv x) 1 _ f c h)))
 
   same_body : (e : LaTeXEnv) (w : List ℕ) → SameArm (env_body e w)
-  same_body None w x f c h = between _ _ (loops (in_env None x) 1 _ f c h)
+  same_body None w x f c h = between (env_begin None w) _ (loops (in_env None x) 1 _ f c h)
   same_body FigureEnv w x f c h =
-      ap (after _)
+      ap (after (hash ++ (w ++ left_paren)))
       (same-figure (last_caption 1 f) (captions-more (sizes f) (last_caption 1 f) h (last_caption-size 1 f)) (in_env FigureEnv x) f c h)
   same_body TableEnv w x f c h = same-table w (first_of ClauseArgument (begin_of f)) x f c h
-  same_body Itemize w x f c h = between _ _ (loops (in_env Itemize x) 1 _ f c h)
-  same_body Enumerate w x f c h = between _ _ (loops (in_env Enumerate x) 1 _ f c h)
+  same_body Itemize w x f c h = between (env_begin Itemize w) _ (loops (in_env Itemize x) 1 _ f c h)
+  same_body Enumerate w x f c h = between (env_begin Enumerate w) _ (loops (in_env Enumerate x) 1 _ f c h)
   same_body MathEnv w x f c h = same-math MathEnv w x f c h
   same_body Matrix w x f c h = same-math Matrix w x f c h
   same_body Cases w x f c h = same-math Cases w x f c h

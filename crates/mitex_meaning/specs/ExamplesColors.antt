@@ -16,10 +16,7 @@ color_examples =
     -- \color: model in brackets, newline is trivia
     ∷ example usual Text
     (
-    cmd_node "\\color" (
-    arg (tok_new_line ∷ tok TokenLBracket "[" ∷ tok_word "rg" ∷ curly (tok_word "b" ∷ []) ∷ tok TokenRBracket "]" ∷ tok_comment ∷ curly (tok_word "red" ∷ []) ∷ tok_word "a" ∷ [])
-    ∷ []
-    )
+    cmd_node "\\color" (arg (tok_new_line ∷ tok TokenLBracket "[" ∷ tok_word "rg" ∷ curly (tok_word "b" ∷ []) ∷ tok TokenRBracket "]" ∷ tok_comment ∷ curly (tok_word "red" ∷ []) ∷ tok_word "a" ∷ []) ∷ [])
     ∷ []
     )
     (writes "mycolor([rg{b}], [red])[a];")

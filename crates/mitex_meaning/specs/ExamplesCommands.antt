@@ -2,8 +2,8 @@
 use Rattle.std.specs.Prelude.{◌≡◌, refl, true, List, [], ◌∷◌}
 use Rattle.mitex_syntax.specs.Syntax.{TokenError, ItemFormula, ItemBegin, TokenCommandSym, ItemCmd}
 use Rattle.mitex_syntax.specs.Tree.Tree.{token}
-use Rattle.mitex_meaning.specs.Examples.{Example, example, hold, usual, rule_for, rule_as, writes, over, tok, tok_word, tok_name, tok_sym, tok_space, tok_new_line, tok_dollar}
-use Rattle.mitex_meaning.specs.Examples.{curly, arg, braced, cmd_node, env_node}
+use Rattle.mitex_meaning.specs.Examples.{Example, example, hold, usual, rule_for, rule_as, writes, over, tok, tok_word, tok_name, tok_sym, tok_space, tok_new_line, tok_dollar, curly}
+use Rattle.mitex_meaning.specs.Examples.{arg, braced, cmd_node, env_node}
 use Rattle.mitex_meaning.specs.Examples.Expected.{refusal}
 use Rattle.mitex_meaning.specs.declared.LaTeXMode.TheVariants.{Text, Math}
 
@@ -24,9 +24,7 @@ command_examples =
     -- \textbf in Math writes its alias
     ∷ example usual Math (cmd_node "\\textbf" (braced (tok_word "a" ∷ []) ∷ []) ∷ []) (writes "bold(a )")
     -- \textbf in Text, class 0
-    ∷ example (rule_for "textbf" 0 ∷ usual) Text
-    (cmd_node "\\textbf" (braced (tok_word "a" ∷ []) ∷ []) ∷ [])
-    (writes "#strong ")
+    ∷ example (rule_for "textbf" 0 ∷ usual) Text (cmd_node "\\textbf" (braced (tok_word "a" ∷ []) ∷ []) ∷ []) (writes "#strong ")
     -- \textbf in Text, class 1
     ∷ example (rule_for "textbf" 1 ∷ usual) Text
     (cmd_node "\\textbf" (braced (tok_word "a" ∷ []) ∷ []) ∷ [])
@@ -74,9 +72,7 @@ command_examples =
     (over ItemCmd (braced (tok_word "a" ∷ []) ∷ tok_name "\\frac" ∷ braced (tok_word "b" ∷ []) ∷ []) ∷ [])
     (writes "frac(a ,b )")
     -- second ClauseCommandName is passed over
-    ∷ example usual Math
-    (cmd_node "\\frac" (tok_name "nobackslash" ∷ braced (tok_word "b" ∷ []) ∷ []) ∷ [])
-    (writes "frac(b )")
+    ∷ example usual Math (cmd_node "\\frac" (tok_name "nobackslash" ∷ braced (tok_word "b" ∷ []) ∷ []) ∷ []) (writes "frac(b )")
     -- Greedy, no child
     ∷ example usual Text (cmd_node "\\rm" [] ∷ []) (refusal 12 1)
     -- Greedy, a token first
@@ -94,9 +90,7 @@ command_examples =
     (cmd_node "\\rm" (over ItemBegin (token TokenCommandSym (195 ∷ 169 ∷ []) ∷ []) ∷ []) ∷ [])
     (refusal 9 4)
     -- Greedy over an ItemFormula: no check 8, no Math
-    ∷ example usual Text
-    (cmd_node "\\rm" (over ItemFormula (tok_dollar ∷ tok_word "ab" ∷ []) ∷ []) ∷ [])
-    (writes "upright(ab)")
+    ∷ example usual Text (cmd_node "\\rm" (over ItemFormula (tok_dollar ∷ tok_word "ab" ∷ []) ∷ []) ∷ []) (writes "upright(ab)")
     -- Greedy, the argument before the name
     ∷ example usual Text
     (over ItemCmd (arg (curly (tok_word "a" ∷ []) ∷ tok_word "b" ∷ []) ∷ tok_name "\\rm" ∷ []) ∷ [])

@@ -2,8 +2,8 @@
 use Rattle.std.specs.Prelude.{◌≡◌, refl, true, List, [], ◌∷◌, ◌++◌}
 use Rattle.text.specs.Ascii.{ascii}
 use Rattle.mitex_syntax.specs.Syntax.{TokenError, ItemFormula, ItemBegin, ItemEnd, TokenComment, ItemEnv}
-use Rattle.mitex_meaning.specs.Examples.{Example, example, hold, rule_for, rule_as, writes, over, tok, tok_word, tok_sym, tok_space, tok_break, tok_new_line, tok_ampersand}
-use Rattle.mitex_meaning.specs.Examples.{tok_dollar, curly, braced, cmd_node, env_node}
+use Rattle.mitex_meaning.specs.Examples.{Example, example, hold, rule_for, rule_as, writes, over, tok, tok_word, tok_sym, tok_space, tok_break, tok_new_line, tok_ampersand, tok_dollar}
+use Rattle.mitex_meaning.specs.Examples.{curly, braced, cmd_node, env_node}
 use Rattle.mitex_meaning.specs.Examples.Expected.{text, refusal}
 use Rattle.mitex_meaning.specs.declared.LaTeXMode.TheVariants.{Text, Math}
 
@@ -90,13 +90,7 @@ ending_examples =
     -- in a list: the indent and a line break in the open cell
     ∷ example (rule_for "itemize" 9 ∷ rule_as "tabular" 8 "table" ∷ []) Text
     (
-    env_node "itemize" [] (
-    cmd_node "\\item" []
-    ∷ env_node "tabular" (braced (tok_word "l|c" ∷ []) ∷ []) (tok_word "a" ∷ tok_break ∷ tok_space ∷ tok_word "b" ∷ tok_break ∷ [])
-    ∷ tok_space
-    ∷ tok_word "z"
-    ∷ []
-    )
+    env_node "itemize" [] (cmd_node "\\item" [] ∷ env_node "tabular" (braced (tok_word "l|c" ∷ []) ∷ []) (tok_word "a" ∷ tok_break ∷ tok_space ∷ tok_word "b" ∷ tok_break ∷ []) ∷ tok_space ∷ tok_word "z" ∷ [])
     ∷ []
     )
     (writes "\n- #table(stroke: none,\ncolumns: 2,\nalign: (left, center, ),\ntable.vline(stroke: .5pt, x: 1), \n[a\n  b\n  ],\n);z")

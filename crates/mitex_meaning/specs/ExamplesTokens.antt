@@ -15,9 +15,7 @@ token_examples =
     -- flag: a comment clears it
     ∷ example usual Text (tok_break ∷ tok_comment ∷ tok_space ∷ tok_word "a" ∷ []) (writes "\n a")
     -- flag: the lone dot of ClauseLR does not clear it
-    ∷ example usual Math
-    (over ClauseLR (tok_name "\\left" ∷ tok_break ∷ tok_word "." ∷ tok_space ∷ []) ∷ [])
-    (writes "lr(\n   ")
+    ∷ example usual Math (over ClauseLR (tok_name "\\left" ∷ tok_break ∷ tok_word "." ∷ tok_space ∷ []) ∷ []) (writes "lr(\n   ")
     -- flag: another word of ClauseLR clears it
     ∷ example usual Math
     (over ClauseLR (tok_name "\\left" ∷ tok_break ∷ tok_word "," ∷ tok_space ∷ []) ∷ [])

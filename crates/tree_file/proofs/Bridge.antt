@@ -61,7 +61,7 @@ accepted-by b by t u e true p nothing q w =
 pub accepted-says : (b : List ℕ) → Bytes b → (t : Tree) → check_tree b ≡ accepted t → Accepted b t
 unfolding check_tree
 accepted-says b by t e =
-    let go : (o : Option Tree) → decode b ≡ o → by_depth o ≡ accepted t → Accepted b t = λ o. elim o [
+    let go : (o : Option Tree) → decode b ≡ o → by_depth o ≡ accepted t → Accepted b t = elim [
       | nothing ↦ λ p q. no-verdict q
       | some u ↦ λ p q. accepted-by b by t u p (leb (depth u) depth_most) refl (lowest 0 0 u) refl q
     ] in
@@ -89,7 +89,7 @@ refused-3 b e t l = three-apart t (leb (depth t) depth_most) (lowest 0 0 t) (sym
 pub refuses-3 : (b : List ℕ) → Bytes b → ((t : Tree) → Laid t b → ⊥) → check_tree b ≡ refused 3 0
 unfolding check_tree
 refuses-3 b by h =
-    let go : (o : Option Tree) → decode b ≡ o → by_depth o ≡ refused 3 0 = λ o. elim o
+    let go : (o : Option Tree) → decode b ≡ o → by_depth o ≡ refused 3 0 = elim
     [ nothing ↦ λ p. refl | some t ↦ λ p. absurd (h t (decode-sound b by t p)) ] in
     go (decode b) refl
 

@@ -120,7 +120,7 @@ decode-not b h = ap (λ x. cond x (root (grows (lines (count_of b) (row_area b) 
 decode-some : (b : List ℕ) (t : Tree) → decode b ≡ some t → Trailed b
 unfolding decode
 decode-some b t e =
-    let go : (x : Bool) → trailed b ≡ x → cond x (root (grows (lines (count_of b) (row_area b) (text_area b)))) nothing ≡ some t → Trailed b = λ x. elim x
+    let go : (x : Bool) → trailed b ≡ x → cond x (root (grows (lines (count_of b) (row_area b) (text_area b)))) nothing ≡ some t → Trailed b = elim
     [ true ↦ λ p q. trailed-says b p | false ↦ λ p q. absurd (no-some q) ] in
     go (trailed b) refl e
 

@@ -140,9 +140,9 @@ record ClosedNode (k n : ℕ) (o : Option Forest) (f : Forest) : Type 0 where
 closed_some : (k n : ℕ) (o : Option Forest) (f : Forest) → closed k (splits n o) ≡ some f → ClosedNode k n o f
 closed_some k n nothing f e = absurd (no-some e)
 closed_some k n (some u) f e =
-    let go : (c : Option Cut) → split n u ≡ c → closed k c ≡ some f → ClosedNode k n (some u) f = λ c. elim c [
+    let go : (c : Option Cut) → split n u ≡ c → closed k c ≡ some f → ClosedNode k n (some u) f = elim [
       | nothing ↦ λ p q. absurd (no-some q)
-      | some x ↦ elim x [ cut g h ↦ λ p q. record { whole = u; under = g; others = h; grown = refl; cuts = p; is = cc } ]
+      | some (cut g h) ↦ λ p q. record { whole = u; under = g; others = h; grown = refl; cuts = p; is = cc }
     ] in
     go (split n u) refl e
 
@@ -226,7 +226,7 @@ grow-cut ls n le =
       ap (λ l. grow (take n l)) e ∙ ap grow (take_at (lines_ofs g) (lines_ofs h) n lg) ∙ grow-complete g,
       ap (λ l. grow (drop n l)) e ∙ ap grow (drop_at (lines_ofs g) (lines_ofs h) n lg) ∙ grow-complete h,
     ) in
-    let open_up : (o : Option Forest) → grow ls ≡ o → (g h : Forest) → splits n o ≡ some (cut g h) → (grow a ≡ some g) × (grow b ≡ some h) = λ o. elim o [
+    let open_up : (o : Option Forest) → grow ls ≡ o → (g h : Forest) → splits n o ≡ some (cut g h) → (grow a ≡ some g) × (grow b ≡ some h) = elim [
       | nothing ↦ λ p g h q. absurd (no-some q)
       | some u ↦ λ p g h q. part u g h p q
     ] in

@@ -114,19 +114,17 @@ pub grow-short : (l : Line) (ns : List Line) → length ns < under_line l → gr
 unfolding grow
 grow-short (token_line k s) ns h = absurd (omega arith)
 grow-short (node_line k n) ns h =
-    let go : (o : Option Forest) → grow ns ≡ o → closed k (splits n o) ≡ nothing = λ o. elim o [
+    let go : (o : Option Forest) → grow ns ≡ o → closed k (splits n o) ≡ nothing = elim [
       | nothing ↦ λ e. refl
       | some f ↦ λ e.
-          let in_split : (c : Option Cut) → split n f ≡ c → closed k c ≡ nothing = λ c. elim c [
+          let in_split : (c : Option Cut) → split n f ≡ c → closed k c ≡ nothing = elim [
             | nothing ↦ λ q. refl
-            | some x ↦ elim x [
-              | cut g u ↦ λ q. absurd (
-                  let s = split-sound f n g u q in
-                  let a = ap length (grow-sound ns f e) ∙ length-liness f in
-                  let b = ap sizes s.whole ∙ sizes-join g u in
-                  let d = s.so_many in
-                  omega arith)
-            ]
+            | some (cut g u) ↦ λ q. absurd (
+                let s = split-sound f n g u q in
+                let a = ap length (grow-sound ns f e) ∙ length-liness f in
+                let b = ap sizes s.whole ∙ sizes-join g u in
+                let d = s.so_many in
+                omega arith)
           ] in
           in_split (split n f) refl
     ] in
@@ -165,7 +163,7 @@ pub record At (ls : List Line) (left : ℕ) (rest : List ℕ) (n : ℕ) : Type 0
 pub at_row : {ls : List Line} {left : ℕ} {rest : List ℕ} → Turn ls left rest → 8 ≤ length rest → (n : ℕ) → n ≡ under_of rest → At ls left rest n
 unfolding bytes_of
 at_row {ls} {left} {rest} w h n e =
-    let go : (ms : List Line) → rest ≡ bytes_of ms → LinesFit ms → grow ls ≡ forest_ahead w.done (grow ms) → At ls left rest n = λ ms. elim ms [
+    let go : (ms : List Line) → rest ≡ bytes_of ms → LinesFit ms → grow ls ≡ forest_ahead w.done (grow ms) → At ls left rest n = elim [
       | [] ↦ λ p q r. absurd (omega (arith, ap length p))
       | ◌∷◌ l ns ↦ λ p q r. record {
         line = l;
@@ -315,7 +313,7 @@ turn-deep {ls} {left} {rest} w h z f e =
 pub turn_end : {ls : List Line} {left : ℕ} {rest : List ℕ} → Turn ls left rest → length rest < 8 → Nested (grow ls) left Fine
 unfolding grow
 turn_end {ls} {left} {rest} w h =
-    let go : (ms : List Line) → rest ≡ bytes_of ms → grow ls ≡ forest_ahead w.done (grow ms) → Nested (grow ls) left Fine = λ ms. elim ms [
+    let go : (ms : List Line) → rest ≡ bytes_of ms → grow ls ≡ forest_ahead w.done (grow ms) → Nested (grow ls) left Fine = elim [
       | [] ↦ λ p q. (w.done, (q ∙ ap some (join-none w.done), w.low))
       | ◌∷◌ l ns ↦ λ p q. absurd (omega (arith, ap length p, length-bytes (l ∷ ns)))
     ] in
@@ -347,7 +345,7 @@ first-grown l ns g e =
     let a = c.0 in let b = c.1.0 in
     let p = cut_of-some (grow (take (under_line l) ns)) (grow (drop (under_line l) ns)) a b c.1.1.0 in
     let la : sizes a ≡ under_line l = sym (length-liness a) ∙ ap length (sym (grow-sound (take (under_line l) ns) a p.0)) ∙ length-take (under_line l) ns ∙ omega arith in
-    let big : (l : Line) → under_line l ≡ sizes a → size (tree_of l a) ≡ 1 + under_line l = λ l. elim l [ token_line k s ↦ λ q. refl | node_line k m ↦ λ q. omega arith ] in
+    let big : (l : Line) → under_line l ≡ sizes a → size (tree_of l a) ≡ 1 + under_line l = elim [ token_line k s ↦ λ q. refl | node_line k m ↦ λ q. omega arith ] in
     record { inside = le; tree = tree_of l a; others = b; grown = p.1; is = c.1.1.1; so_big = big l (sym la) }
 
 -- hopping from tree to tree
@@ -393,7 +391,7 @@ lands-start n f ls rows e h g = record { ms = ls; g = f; spelt = e; fit = h; gro
 pub lands-out : {n : ℕ} {f : Forest} {left : ℕ} {rest : List ℕ} → Lands n f left rest → 0 < left → length rest < 8 → false ≡ is_some (split n f)
 unfolding grow
 lands-out {n} {f} {left} {rest} w h l =
-    let go : (ms : List Line) → rest ≡ bytes_of ms → grow ms ≡ some w.g → is_some (split left w.g) ≡ false = λ ms. elim ms [
+    let go : (ms : List Line) → rest ≡ bytes_of ms → grow ms ≡ some w.g → is_some (split left w.g) ≡ false = elim [
       | [] ↦ λ p q. (let z : none ≡ w.g = cc in ap (λ x. is_some (split left x)) (sym z) ∙ split-out left h)
       | ◌∷◌ x ns ↦ λ p q. absurd (omega (arith, ap length p, length-bytes (x ∷ ns)))
     ] in
@@ -414,7 +412,7 @@ pub record LandsAt (n : ℕ) (f : Forest) (left : ℕ) (rest : List ℕ) (m : �
 pub lands-at : {n : ℕ} {f : Forest} {left : ℕ} {rest : List ℕ} → Lands n f left rest → 8 ≤ length rest → (m : ℕ) → m ≡ under_of rest → LandsAt n f left rest m
 unfolding bytes_of
 lands-at {n} {f} {left} {rest} w h m e =
-    let go : (ms : List Line) → rest ≡ bytes_of ms → LinesFit ms → grow ms ≡ some w.g → LandsAt n f left rest m = λ ms. elim ms [
+    let go : (ms : List Line) → rest ≡ bytes_of ms → LinesFit ms → grow ms ≡ some w.g → LandsAt n f left rest m = elim [
       | [] ↦ λ p q r. absurd (omega (arith, ap length p))
       | ◌∷◌ l ns ↦ λ p q r. record {
         line = l;
@@ -485,18 +483,18 @@ row-lands :
 unfolding grow
 row-lands (token_line k s) ns b h e = is_some-tree_ahead (token k s) (grow ns)
 row-lands (node_line k n) ns b h e =
-    let go : (o : Option Forest) → ((f : Forest) → o ≡ some f → b ≡ is_some (split n f)) → is_some (closed k (splits n o)) ≡ is_some o = λ o. elim o
+    let go : (o : Option Forest) → ((f : Forest) → o ≡ some f → b ≡ is_some (split n f)) → is_some (closed k (splits n o)) ≡ is_some o = elim
     [ nothing ↦ λ q. refl | some f ↦ λ q. is_some-closed k (split n f) ∙ sym (q f refl) ∙ e ] in
     go (grow ns) h
 
 row-falls : (l : Line) (ns : List Line) (b : Bool) → ((f : Forest) → grow ns ≡ some f → b ≡ is_some (split (under_line l) f)) → b ≡ false → is_some (grow (l ∷ ns)) ≡ false
 unfolding grow
 row-falls (token_line k s) ns b h e =
-    let go : (o : Option Forest) → ((f : Forest) → o ≡ some f → b ≡ is_some (split 0 f)) → is_some (tree_ahead (token k s) o) ≡ false = λ o. elim o
+    let go : (o : Option Forest) → ((f : Forest) → o ≡ some f → b ≡ is_some (split 0 f)) → is_some (tree_ahead (token k s) o) ≡ false = elim
     [ nothing ↦ λ q. refl | some f ↦ λ q. absurd (let z : false ≡ true = sym e ∙ q f refl ∙ split-zero f in let y : ◌≡◌ {A = ℕ} 0 1 = cc in omega arith) ] in
     go (grow ns) h
 row-falls (node_line k n) ns b h e =
-    let go : (o : Option Forest) → ((f : Forest) → o ≡ some f → b ≡ is_some (split n f)) → is_some (closed k (splits n o)) ≡ false = λ o. elim o
+    let go : (o : Option Forest) → ((f : Forest) → o ≡ some f → b ≡ is_some (split n f)) → is_some (closed k (splits n o)) ≡ false = elim
     [ nothing ↦ λ q. refl | some f ↦ λ q. is_some-closed k (split n f) ∙ sym (q f refl) ∙ e ] in
     go (grow ns) h
 
@@ -517,7 +515,7 @@ lines-rest-at : {ls : List Line} {rest : List ℕ} → LinesRest ls rest → 8 �
     → LinesRestAt ls rest b
 unfolding bytes_of
 lines-rest-at {ls} {rest} w h n e b k =
-    let go : (ms : List Line) → rest ≡ bytes_of ms → LinesFit ms → is_some (grow ls) ≡ is_some (grow ms) → LinesRestAt ls rest b = λ ms. elim ms [
+    let go : (ms : List Line) → rest ≡ bytes_of ms → LinesFit ms → is_some (grow ls) ≡ is_some (grow ms) → LinesRestAt ls rest b = elim [
       | [] ↦ λ p q r. absurd (omega (arith, ap length p))
       | ◌∷◌ l ns ↦ λ p q r.
           let d : take (length rest - 8) (drop 8 rest) ≡ bytes_of ns = part-rest rest 8 ∙ ap (drop 8) p ∙ lines-one l ns in
@@ -540,6 +538,6 @@ lines-rest-next w h n e b k z =
 pub lines-rest-end : {ls : List Line} {rest : List ℕ} → LinesRest ls rest → length rest < 8 → true ≡ is_some (grow ls)
 unfolding grow
 lines-rest-end {ls} {rest} w h =
-    let go : (ms : List Line) → rest ≡ bytes_of ms → is_some (grow ms) ≡ true = λ ms. elim ms
+    let go : (ms : List Line) → rest ≡ bytes_of ms → is_some (grow ms) ≡ true = elim
     [ [] ↦ λ p. refl | ◌∷◌ l ns ↦ λ p. absurd (omega (arith, ap length p, length-bytes (l ∷ ns))) ] in
     sym (w.same ∙ go w.ms w.spelt)

@@ -39,7 +39,7 @@ pub trees-at : {f : Forest} {rest : List ℕ} {m : ℕ} → Trees f rest m → 8
     → (end : ℕ) → end ≡ extent_of rest → Tree-at f rest m end
 unfolding count rows_of
 trees-at {f} {rest} {m} w h lo end e =
-    let go : (g : Forest) → rest ≡ rows_ofs g → count f ≡ m + count g → Tree-at f rest m end = λ g. elim g [
+    let go : (g : Forest) → rest ≡ rows_ofs g → count f ≡ m + count g → Tree-at f rest m end = elim [
       | none ↦ λ p q. absurd (omega (arith, ap length p))
       | more t u ↦ λ p q.
           let long = ap length p ∙ length-append (rows_of t) (rows_ofs u) in
@@ -61,7 +61,7 @@ trees-at {f} {rest} {m} w h lo end e =
 pub trees-end : {f : Forest} {rest : List ℕ} {m : ℕ} → Trees f rest m → length rest < 8 → m ≡ count f
 unfolding count rows_of
 trees-end {f} {rest} {m} w h =
-    let go : (g : Forest) → rest ≡ rows_ofs g → count f ≡ m + count g → m ≡ count f = λ g. elim g [
+    let go : (g : Forest) → rest ≡ rows_ofs g → count f ≡ m + count g → m ≡ count f = elim [
       | none ↦ λ p q. omega arith
       | more t u ↦ λ p q. absurd (omega (arith, ap length p ∙ length-append (rows_of t) (rows_ofs u), length-rows t, size-some t))
     ] in

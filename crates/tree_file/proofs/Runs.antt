@@ -44,7 +44,7 @@ is_some-bad (Node m) rows text o h = absurd (let z : ◌≡◌ {A = ℕ} 0 1 = c
 pub lines-left-bad : {n : ℕ} {rows text l t : List ℕ} → LinesLeft n rows text l t → 8 ≤ length l → is_bad (tree_row_at l t) ≡ true → false ≡ is_some (lines n rows text)
 unfolding lines
 lines-left-bad {n} {rows} {text} {l} {t} w h b =
-    let go : (m : ℕ) → length l ≡ 8 * m → is_some (lines m l t) ≡ false = λ m. elim m [
+    let go : (m : ℕ) → length l ≡ 8 * m → is_some (lines m l t) ≡ false = elim [
       | zero ↦ λ e. absurd (omega arith)
       | suc k ↦ λ e. is_some-bad (tree_row_at l t) l t (lines k (drop 8 l) (drop (row_taken (tree_row_at l t)) t)) b
     ] in
@@ -54,7 +54,7 @@ pub lines-left-next : {n : ℕ} {rows text l t : List ℕ} → LinesLeft n rows 
     → (x : ℕ) → x ≡ row_taken r → LinesLeft n rows text (take (length l - 8) (drop 8 l)) (take (length t - x) (drop x t))
 unfolding lines
 lines-left-next {n} {rows} {text} {l} {t} w h r e b x ex =
-    let go : (m : ℕ) → length l ≡ 8 * m → is_some (lines n rows text) ≡ is_some (lines m l t) → LinesLeft n rows text (drop 8 l) (drop (row_taken r) t) = λ m. elim m [
+    let go : (m : ℕ) → length l ≡ 8 * m → is_some (lines n rows text) ≡ is_some (lines m l t) → LinesLeft n rows text (drop 8 l) (drop (row_taken r) t) = elim [
       | zero ↦ λ p q. absurd (omega arith)
       | suc k ↦ λ p q. record {
         rest = k;
@@ -70,7 +70,7 @@ lines-left-next {n} {rows} {text} {l} {t} w h r e b x ex =
 pub lines-left-end : {n : ℕ} {rows text l t : List ℕ} → LinesLeft n rows text l t → length l < 8 → eqb (length t) 0 ≡ is_some (lines n rows text)
 unfolding lines
 lines-left-end {n} {rows} {text} {l} {t} w h =
-    let nil : (t : List ℕ) → eqb (length t) 0 ≡ is_some (lines 0 l t) = λ t. elim t
+    let nil : (t : List ℕ) → eqb (length t) 0 ≡ is_some (lines 0 l t) = elim
     [ [] ↦ refl | ◌∷◌ b s ↦ ne_eqb (length (b ∷ s)) 0 (λ (e : length (b ∷ s) ≡ 0). omega arith) ] in
     let z : w.rest ≡ 0 = let e = w.so_many in omega arith in
     nil t ∙ ap (λ m. is_some (lines m l t)) (sym z) ∙ sym w.same
@@ -78,6 +78,6 @@ lines-left-end {n} {rows} {text} {l} {t} w h =
 -- a row takes no more text than there is
 pub taken-room : (rows text : List ℕ) (r : TreeRow) → r ≡ tree_row_at rows text → row_taken r ≤ length text
 taken-room rows text r e =
-    let go : (r : TreeRow) → RowSays rows text r → row_taken r ≤ length text = λ r. elim r
+    let go : (r : TreeRow) → RowSays rows text r → row_taken r ≤ length text = elim
     [ Bad ↦ λ s. omega arith | Token m ↦ λ s. s.room | Node m ↦ λ s. omega arith ] in
     go r (tree-row-says rows text r (sym e))

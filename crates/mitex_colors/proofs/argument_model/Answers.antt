@@ -5,24 +5,9 @@ use native.Mathlib.Omega.{arith}
 use Rattle.mitex_syntax.specs.Syntax.{ClauseArgument}
 use Rattle.mitex_syntax.specs.Views.{is_of}
 use Rattle.mitex_meaning.specs.Colors.{rest, seek, past_first, is_model}
-use Rattle.mitex_colors.specs.Scanning.{FirstPassed}
 use Rattle.mitex_colors.proofs.Scans.{some_left, exact-left, left-some, left-none}
-use Rattle.mitex_colors.proofs.Models.{argument-models, bare-by, bare-end, bare-found, model-wide, argument-found}
+use Rattle.mitex_colors.proofs.Models.{argument-models, bare-by, bare-end, bare-found, argument-found}
 use Rattle.mitex_colors.proofs.argument_model.Goals as goal
-
-abbrev start : goal.After-past_child-next → goal.Start
-start c = c.before.before.before.before.before
-
--- past the first argument
-abbrev next :
-    (c : goal.After-past_child-next)
-    → FirstPassed (start c).args.rows.now (start c).args.text.now (start c).requires.begins.rest c.before.before.seek.result.row
-    c.before.before.seek.result.text (seek (is_of ClauseArgument) (rest 1 (start c).requires.forest)) c.past-child.result
-next c =
-    let given = (start c).requires in
-    let children = rest 1 given.forest in
-    c.past_child-next.ensures _ (seek (is_of ClauseArgument) children)
-    (c.seek-first.ensures _ children (some_left given)).moved.there
 
 pub returns-then-rows-i : goal.returns-then-rows-i
 returns-then-rows-i c =
@@ -36,34 +21,34 @@ past_child-next-requires c =
     let pre = c.requires in
     left-some (c.seek-first.ensures _ (rest 1 pre.forest) (some_left pre)).moved.there pre.few pre.short
 
+-- what is past the first argument
 pub slice_bounds-is_model-count : goal.slice_bounds-is_model-count
-slice_bounds-is_model-count c = let h = (next c).moved.onward in omega arith
+slice_bounds-is_model-count c =
+    let pre = c.requires in
+    let children = rest 1 pre.forest in
+    let next = c.past_child-next.ensures _ (seek (is_of ClauseArgument) children) (c.seek-first.ensures _ children (some_left pre)).moved.there in
+    let h = next.moved.onward in omega arith
 
 pub slice_bounds-is_model-start : goal.slice_bounds-is_model-start
-slice_bounds-is_model-start c = let h = (next c).moved.onward in omega arith
+slice_bounds-is_model-start c =
+    let pre = c.requires in
+    let children = rest 1 pre.forest in
+    let next = c.past_child-next.ensures _ (seek (is_of ClauseArgument) children) (c.seek-first.ensures _ children (some_left pre)).moved.there in
+    let h = next.moved.onward in omega arith
 
 pub slice_bounds-is_model-end : goal.slice_bounds-is_model-end
-slice_bounds-is_model-end c = let h = (next c).moved.there.begun in omega arith
+slice_bounds-is_model-end c =
+    let pre = c.requires in
+    let children = rest 1 pre.forest in
+    let next = c.past_child-next.ensures _ (seek (is_of ClauseArgument) children) (c.seek-first.ensures _ children (some_left pre)).moved.there in
+    let h = next.moved.there.begun in omega arith
 
 pub seek-behind-requires : goal.seek-behind-requires
 seek-behind-requires c =
-    let past = c.before.before.before in
-    left-some (next past).moved.there (start past).requires.few (start past).requires.short
-
-pub overflow_add-from : goal.overflow_add-from
-overflow_add-from c =
-    let past = c.before.before.before.before in
-    let h = (next past).moved.onward in
-    let k = (next past).moved.there.begun in
-    let few = (start past).requires.short in
-    omega arith
-
-pub overflow_sub-to : goal.overflow_sub-to
-overflow_sub-to c =
-    let past = c.before.before.before.before in
-    let wide = model-wide _ _ (start past).args.text.now (next past).moved.onward (next past).moved.there.begun
-    (sym c.is_model.ensures ∙ c.if-is_model.true) in
-    omega arith
+    let pre = c.requires in
+    let children = rest 1 pre.forest in
+    let next = c.past_child-next.ensures _ (seek (is_of ClauseArgument) children) (c.seek-first.ensures _ children (some_left pre)).moved.there in
+    left-some next.moved.there pre.few pre.short
 
 pub returns-then-is_model : goal.returns-then-is_model
 returns-then-is_model c =

@@ -3,37 +3,36 @@ use native.Mathlib.Omega.{arith}
 use mathlib.Core.Path.{refl, sym}
 use lib.Seq.{length-take-le}
 use Rattle.mitex_syntax.specs.Syntax.{ClauseArgument}
-use Rattle.mitex_syntax.specs.Views.{is_of}
-use Rattle.mitex_syntax.specs.Places.{FirstAt}
 use Rattle.mitex_syntax.proofs.Trees.{all-begins}
 use Rattle.mitex_syntax.proofs.Places.{stands, nowhere}
 use Rattle.mitex_colors.proofs.Standing.{node-there, children-left, children-ask}
 use Rattle.mitex_colors.proofs.Models.{argument_rest, color-missing, color-there}
 use Rattle.mitex_colors.proofs.color_model.Goals as goal
 
-abbrev start : goal.In-At-2 → goal.Start
-start c = c.before.before.before.before.before
-
--- the argument that was found
-abbrev there :
-    (c : goal.In-At-2)
-    → FirstAt (is_of ClauseArgument) (start c).requires.forest (start c).args.rows.now (start c).args.text.now 0 c.found.given.0.0
-    c.found.given.0.1.0 c.found.given.0.1.1.0 c.found.given.0.1.1.1.0
-there c = stands (c.find_kind-found.ensures (start c).requires.forest (start c).requires.begins) c.in-At.is
-
+-- by the argument that was found
 pub slice_bounds-greedy_model-end : goal.slice_bounds-greedy_model-end
-slice_bounds-greedy_model-end c = sym (length-take-le _ _ (there c.before.before).end)
+slice_bounds-greedy_model-end c =
+    let pre = c.requires in
+    let s = stands (c.find_kind-found.ensures pre.forest pre.begins) c.in-At.is in
+    sym (length-take-le _ _ s.end)
 
 pub slice_bounds-greedy_model-end-in-At : goal.slice_bounds-greedy_model-end-in-At
-slice_bounds-greedy_model-end-in-At c = sym (length-take-le _ _ (there c.before.before.before).stop)
+slice_bounds-greedy_model-end-in-At c =
+    let pre = c.requires in
+    let s = stands (c.find_kind-found.ensures pre.forest pre.begins) c.in-At.is in
+    sym (length-take-le _ _ s.stop)
 
 pub overflow_add-row : goal.overflow_add-row
-overflow_add-row c = let s = there c.before.before.before in let h = s.some_rows in let k = s.end in omega arith
+overflow_add-row c =
+    let pre = c.requires in
+    let s = stands (c.find_kind-found.ensures pre.forest pre.begins) c.in-At.is in
+    let h = s.some_rows in let k = s.end in omega arith
 
 pub greedy_model-requires : goal.greedy_model-requires
 greedy_model-requires c =
-    let found = c.before.before.before in
-    children-ask ClauseArgument (there found) refl (start found).requires.few (start found).requires.short
+    let pre = c.requires in
+    let s = stands (c.find_kind-found.ensures pre.forest pre.begins) c.in-At.is in
+    children-ask ClauseArgument s refl pre.few pre.short
 
 pub returns-in-Nowhere : goal.returns-in-Nowhere
 returns-in-Nowhere c =

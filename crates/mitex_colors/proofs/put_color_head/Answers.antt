@@ -12,7 +12,7 @@ returns c =
     let one = c.put_color_name-a.ensures in
     let two = c.put-b.ensures in
     let three = c.put_model-c.ensures in
-    let h = c.requires.0.1 in
+    let h = c.requires.at_le_cap.1 in
     let h₁ = subst (λ n. n ≤ cap) (sym (wrote-long one)) h in
     let h₂ = subst (λ n. n ≤ cap) (sym (wrote-long two)) h₁ in
     λ name.

@@ -6,11 +6,6 @@ use Rattle.text.proofs.Writing.{wrote_as, wrote-long, wrote_then}
 use Rattle.mitex_meaning.specs.Parts.{model_text}
 use Rattle.mitex_colors.proofs.put_model.Goals as goal
 
-pub returns-then-not-held : goal.returns-then-not-held
-returns-then-not-held c =
-    let args = c.args in
-    wrote_as (ap (λ b. model_text b args.s.now) (sym (c.if-not-held.true))) c.put.ensures
-
 pub returns : goal.returns
 returns c =
     let long = subst (λ n. n ≤ cap) (sym (wrote-long c.put-p.ensures)) c.requires.1 in

@@ -1,5 +1,5 @@
 -- By whether the label is written at once.
-use mathlib.Core.Path.{refl, sym, ap, ◌∙◌}
+use mathlib.Core.Path.{sym, ap, ◌∙◌}
 use mathlib.Core.List.{List}
 use Prim.Native.Nat.{ℕ}
 use Rattle.mitex_syntax.proofs.Trees.{all-begins}
@@ -14,24 +14,24 @@ returns-then-writes_now c =
     let a = c.args in
     let s = c.label_text-s.result.now in
     let carry = carry_of (state_of a.mode a.env a.indent a.flag a.held a.len a.label.now) in
-    let now = c.write_label.ensures a.env a.indent a.row a.label.now in (
-      λ f sp.
+    let now = c.write_label.ensures a.env a.indent a.row a.label.now in
+    record {
+      agrees =
+          λ f sp.
           agrees-as
           (ap (λ (l : List ℕ). label_in a.env a.mode l carry) (sym (c.label_text-s.ensures f (all-begins sp)))
           ∙ label-now a.mode s carry a.env c.writes_now.ensures c.if-writes_now.true)
-          now,
-      λ z. absurd (z (label-well a.mode s carry now)),
-    )
+          now;
+      untouched = λ z. absurd (z (label-well a.mode s carry now));
+    }
 
-pub returns : goal.returns
-returns c =
+pub returns-clause-agrees : goal.returns-clause-agrees
+returns-clause-agrees c =
     let a = c.args in
     let s = c.label_text-s.result.now in
-    let carry = carry_of (state_of a.mode a.env a.indent a.flag a.held a.len a.label.now) in (
-      λ f sp.
-          agrees-as
-          (ap (λ (l : List ℕ). label_in a.env a.mode l carry) (sym (c.label_text-s.ensures f (all-begins sp)))
-          ∙ label-held a.mode s carry a.env c.writes_now.ensures c.if-writes_now.false)
-          (c.hold_label.ensures a.mode a.env a.indent a.held a.len a.out.now),
-      λ z. refl,
-    )
+    let carry = carry_of (state_of a.mode a.env a.indent a.flag a.held a.len a.label.now) in
+    λ f sp.
+    agrees-as
+    (ap (λ (l : List ℕ). label_in a.env a.mode l carry) (sym (c.label_text-s.ensures f (all-begins sp)))
+    ∙ label-held a.mode s carry a.env c.writes_now.ensures c.if-writes_now.false)
+    (c.hold_label.ensures a.mode a.env a.indent a.held a.len a.out.now)

@@ -1,5 +1,5 @@
 -- The call, and the caption's begin where there is one.
-use mathlib.Core.Path.{◌≡◌, refl, sym, ap, ◌∙◌}
+use mathlib.Core.Path.{◌≡◌, sym, ap, ◌∙◌}
 use mathlib.Core.List.{List, [], ◌++◌, append-nil}
 use Prim.Native.Nat.{ℕ}
 use Rattle.text.proofs.Writing.{wrote_then, wrote_as}
@@ -11,12 +11,6 @@ use Rattle.mitex_environments.proofs.put_figure_begin.Goals as goal
 -- a caption of which nothing is written
 no_caption : (w : List ℕ) {p q : CaptionPart} → p ≡ q → caption_text q ≡ [] → w ≡ w ++ caption_text p
 no_caption w e h = sym (append-nil w) ∙ ap (λ s. w ++ s) (sym (ap caption_text e ∙ h))
-
-pub returns-in-NoCaption : goal.returns-in-NoCaption
-returns-in-NoCaption c = wrote_as (no_caption _ c.in-NoCaption.is refl) c.put_hash_begin-p.ensures
-
-pub returns-in-BareCaption : goal.returns-in-BareCaption
-returns-in-BareCaption c = wrote_as (no_caption _ c.in-BareCaption.is refl) c.put_hash_begin-p.ensures
 
 pub returns-in-CaptionAt : goal.returns-in-CaptionAt
 returns-in-CaptionAt c =

@@ -2,50 +2,61 @@
 use mathlib.Core.Path.{◌∙◌, ap, sym}
 use mathlib.Core.Option.{Option}
 use native.Mathlib.Omega.{arith}
-use Rattle.mitex_syntax.specs.Syntax.{ClauseArgument, ItemBegin}
+use Rattle.mitex_syntax.specs.Syntax.{ClauseArgument}
 use Rattle.mitex_syntax.specs.Tree.{Tree, Forest}
-use Rattle.mitex_syntax.specs.Views.{is_of, first_by, first_of, children_of, children_in, text_in}
-use Rattle.mitex_syntax.specs.Places.{FirstAt}
+use Rattle.mitex_syntax.specs.Views.{first_by, first_of, children_of, children_in, text_in}
 use Rattle.mitex_syntax.proofs.Trees.{all-begins}
 use Rattle.mitex_syntax.proofs.Places.{stands, nowhere, found-children, found_some, children-found}
 use Rattle.mitex_environments.proofs.table_argument.Goals as goal
 
-abbrev start : goal.In-At-2 → goal.Start
-start c = c.before.before.before.before.before
-
--- where the first ItemBegin stands
-abbrev here :
-    (c : goal.In-At-2)
-    → let g = c.row.given.0 in
-    FirstAt (is_of ItemBegin) (start c).requires.forest (start c).args.rows.now (start c).args.text.now 0 g.0 g.1.0 g.1.1.0
-    g.1.1.1.0
-here c = stands (c.begin.ensures (start c).requires.forest (start c).requires.begins) c.in-At.is
-
+-- each answer first says where the first ItemBegin stands
 pub overflow_add-row : goal.overflow_add-row
-overflow_add-row c = let s = here c.before in let y = s.some_rows in let z = s.end in omega arith
+overflow_add-row c =
+    let pre = c.requires in
+    let here = stands (c.begin.ensures pre.forest pre.begins) c.in-At.is in
+    let y = here.some_rows in let z = here.end in omega arith
 
 pub slice_bounds-argument_text-count : goal.slice_bounds-argument_text-count
-slice_bounds-argument_text-count c = let z = (here c.before).some_rows in omega arith
+slice_bounds-argument_text-count c =
+    let pre = c.requires in
+    let here = stands (c.begin.ensures pre.forest pre.begins) c.in-At.is in
+    let z = here.some_rows in omega arith
 
 pub slice_bounds-argument_text-start : goal.slice_bounds-argument_text-start
-slice_bounds-argument_text-start c = let z = (here c.before).some_rows in omega arith
+slice_bounds-argument_text-start c =
+    let pre = c.requires in
+    let here = stands (c.begin.ensures pre.forest pre.begins) c.in-At.is in
+    let z = here.some_rows in omega arith
 
 pub slice_bounds-argument_text-end : goal.slice_bounds-argument_text-end
-slice_bounds-argument_text-end c = let z = (here c.before).end in omega arith
+slice_bounds-argument_text-end c =
+    let pre = c.requires in
+    let here = stands (c.begin.ensures pre.forest pre.begins) c.in-At.is in
+    let z = here.end in omega arith
 
 pub slice_bounds-argument_text-count-in-At : goal.slice_bounds-argument_text-count-in-At
-slice_bounds-argument_text-count-in-At c = let z = (here c.before.before).some_text in omega arith
+slice_bounds-argument_text-count-in-At c =
+    let pre = c.requires in
+    let here = stands (c.begin.ensures pre.forest pre.begins) c.in-At.is in
+    let z = here.some_text in omega arith
 
 pub slice_bounds-argument_text-start-in-At : goal.slice_bounds-argument_text-start-in-At
-slice_bounds-argument_text-start-in-At c = let z = (here c.before.before).some_text in omega arith
+slice_bounds-argument_text-start-in-At c =
+    let pre = c.requires in
+    let here = stands (c.begin.ensures pre.forest pre.begins) c.in-At.is in
+    let z = here.some_text in omega arith
 
 pub slice_bounds-argument_text-end-in-At : goal.slice_bounds-argument_text-end-in-At
-slice_bounds-argument_text-end-in-At c = let z = (here c.before.before).stop in omega arith
+slice_bounds-argument_text-end-in-At c =
+    let pre = c.requires in
+    let here = stands (c.begin.ensures pre.forest pre.begins) c.in-At.is in
+    let z = here.stop in omega arith
 
 pub argument_text-requires : goal.argument_text-requires
 argument_text-requires c =
-    let c₁ = c.before.before.before in
-    found_some (here (c₁)) c₁.requires.few c₁.requires.short
+    let pre = c.requires in
+    let here = stands (c.begin.ensures pre.forest pre.begins) c.in-At.is in
+    found_some here pre.few pre.short
 
 pub returns-in-Nowhere : goal.returns-in-Nowhere
 unfolding first_by

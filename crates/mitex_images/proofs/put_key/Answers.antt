@@ -1,14 +1,8 @@
 -- `put_key`: nothing for another key; else four parts, one after the other.
 use mathlib.Core.Path.{sym, ◌∙◌}
-use Rattle.text.proofs.Writing.{wrote-nil, wrote_as, wrote_then}
-use Rattle.mitex_images.proofs.Splitting.{key-size, key-other}
+use Rattle.text.proofs.Writing.{wrote_as, wrote_then}
+use Rattle.mitex_images.proofs.Splitting.{key-size}
 use Rattle.mitex_images.proofs.put_key.Goals as goal
-
-pub returns-then-not-is_size : goal.returns-then-not-is_size
-returns-then-not-is_size c =
-    wrote_as
-    (key-other c.args.key.now c.args.value.now (sym c.is_size.ensures ∙ c.if-not-is_size.true))
-    (wrote-nil _ _ c.requires.0)
 
 pub returns : goal.returns
 returns c =

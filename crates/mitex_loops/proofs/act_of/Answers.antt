@@ -14,17 +14,11 @@ use Rattle.mitex_loops.proofs.act_of.Goals as goal
 pub bounds-rows-0 : goal.bounds-rows-0
 bounds-rows-0 c = omega (arith, rows-some c.requires.0.child.spells)
 
-pub returns-in-Plain : goal.returns-in-Plain
-returns-in-Plain c = λ t f sp e. ap (λ l. act_of l t f) (sym c.in-Plain.is)
-
-pub returns-in-Curly : goal.returns-in-Curly
-returns-in-Curly c = λ t f sp e. ap (λ l. act_of l t f) (sym c.in-Curly.is)
-
 pub returns-in-Spaced : goal.returns-in-Spaced
 returns-in-Spaced c = λ t f sp e. c.spaced_act.ensures ∙ by-text t sp (λ k s. cond (is_dot k s) Space ThenSpace) ∙ ap (λ l. act_of l t f) (sym c.in-Spaced.is)
 
 pub returns-in-Attached : goal.returns-in-Attached
-returns-in-Attached c = λ t f sp e. c.attach_act.ensures ∙ by_kind t sp (λ k. attach_act c.l-1.given.0.0 (is_split k)) ∙ ap (λ l. act_of l t f) (sym c.in-Attached.is)
+returns-in-Attached c = λ t f sp e. c.attach_act.ensures ∙ by_kind t sp (λ k. attach_act c.in-Attached.state (is_split k)) ∙ ap (λ l. act_of l t f) (sym c.in-Attached.is)
 
 pub returns-in-Greedy : goal.returns-in-Greedy
 returns-in-Greedy c = λ t f sp e. c.greedy_act.ensures f e ∙ by_kind t sp (λ k. cond (eqb k ItemCurly && follows f) ThenComma Convert) ∙ ap (λ l. act_of l t f) (sym c.in-Greedy.is)
@@ -39,9 +33,6 @@ returns-in-Separated c =
 pub returns-in-Bracketed : goal.returns-in-Bracketed
 returns-in-Bracketed c = λ t f sp e. c.argument_act.ensures ∙ by_kind t sp (λ k. cond (eqb k ClauseArgument) InBrackets Skip) ∙ ap (λ l. act_of l t f) (sym c.in-Bracketed.is)
 
-pub returns-in-Dollars : goal.returns-in-Dollars
-returns-in-Dollars c = λ t f sp e. ap (λ l. act_of l t f) (sym c.in-Dollars.is)
-
 pub returns-in-Arguments : goal.returns-in-Arguments
 returns-in-Arguments c =
     λ t f sp e.
@@ -51,7 +42,7 @@ returns-in-Arguments c =
     ∙ ap (λ l. act_of l t f) (sym c.in-Arguments.is)
 
 pub returns-in-Named : goal.returns-in-Named
-returns-in-Named c = λ t f sp e. c.argument_act-in-Named.ensures ∙ by_kind t sp (λ k. cond (eqb k ClauseArgument) (Name c.l-in-Named-1.given.0.0) Skip) ∙ ap (λ l. act_of l t f) (sym c.in-Named.is)
+returns-in-Named c = λ t f sp e. c.argument_act-in-Named.ensures ∙ by_kind t sp (λ k. cond (eqb k ClauseArgument) (Name c.in-Named.n) Skip) ∙ ap (λ l. act_of l t f) (sym c.in-Named.is)
 
 pub returns-in-Inside : goal.returns-in-Inside
 returns-in-Inside c = λ t f sp e. c.inside_act.ensures ∙ by_kind t sp (λ k. cond (is_ends k) Skip Convert) ∙ ap (λ l. act_of l t f) (sym c.in-Inside.is)

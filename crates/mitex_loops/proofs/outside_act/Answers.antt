@@ -2,7 +2,8 @@
 use mathlib.Core.Path.{◌∙◌, sym}
 use mathlib.Core.Bool.{true}
 use native.Mathlib.Omega.{arith}
-use lib.ListN.{drop}
+use lib.ListN.{drop, get_or}
+use borrow.Author.Rules.{rules}
 use Rattle.mitex_syntax.specs.Views.{children_of, cmd_name}
 use Rattle.mitex_syntax.proofs.Trees.{kind-spelt, rows-some}
 use Rattle.mitex_loops.proofs.Acting.{cell-kind, other-outside}
@@ -29,6 +30,6 @@ returns-in-43 c = λ t sp. c.command_act.ensures t sp ∙ cell-kind true (drop 1
 pub returns-in_default : goal.returns-in_default
 returns-in_default c =
     λ t sp.
-    let name = (drop 1 (cmd_name (children_of t))) in
-    let no = c.in_default.rest in
-    other-outside _ name no.0.0.1 no.0.1 no.0.0.0.0.1 no.0.0.0.1 no.1 ∙ cell-kind true name (sym (kind-spelt t sp))
+    let name = drop 1 (cmd_name (children_of t)) in
+    other-outside (get_or c.args.rows.now 0 0) name (search rules) (search rules) (search rules) (search rules) (search rules)
+    ∙ cell-kind true name (sym (kind-spelt t sp))

@@ -17,6 +17,3 @@ returns-in-15 c =
     λ rs l e.
     puts-as (token-word (inside rs a.mode a.env a.indent) a.s.now (carrying a.flag l) a.kind c.in-15.is)
     (c.put_letters.ensures l)
-
-pub returns-in_default : goal.returns-in_default
-returns-in_default c = λ rs l e. c.put_token.ensures.0 rs l e

@@ -9,59 +9,51 @@ use Rattle.tree_file.specs.Parts.{Nested, answer_to}
 use Rattle.tree_file.specs.declared.Nest.{Nest}
 use Rattle.tree_file.specs.declared.Nest.TheVariants.{Broken, Deep, Fine}
 use Rattle.tree_file.specs.declared.Checked.TheVariants.{Refused}
-use Rattle.tree_file.proofs.Answers.{Lined, lined, unlined, answer-lines, grown}
+use Rattle.tree_file.proofs.Answers.{Lined, lined, answer-lines, grown}
+use Rattle.tree_file.proofs.check_areas.Goals.{After-check_rows}
 use Rattle.tree_file.proofs.check_areas.Goals as goal
 
-abbrev entry : (c : goal.Else-not-lines_fit) → goal.Start
-entry c = c.before.before.before.before
-
 -- the rows are lines
-lined-here : (c : goal.Else-not-lines_fit) (n : ℕ) → length (entry c).args.rows.now ≡ 8 * n → Lined n (entry c).args.rows.now (entry c).args.text.now
-lined-here c n e =
-    lined n _ _ (λ i. omega (arith, c.shared_slice_known-1.given i)) e c.lines_fit.result
-    (c.lines_fit.ensures n e) (c.if-not-lines_fit.false)
+lined-here : (c : After-check_rows) (n : ℕ) → length c.args.rows.now ≡ 8 * n → Lined n c.args.rows.now c.args.text.now
+lined-here c n e = lined n _ _ (λ i. omega (arith, c.type_inv.rows i)) e c.lines_fit.result (c.lines_fit.ensures n e) c.if-not-lines_fit.false
 
 -- and nest, or not
-nested : (c : goal.After-check_rows) (x : Nest) → c.check-rows.result ≡ x → (n : ℕ) (e : length (entry c.before).args.rows.now ≡ 8 * n)
-    → Nested (grow (lined-here c.before n e).ls) depth_most x
+nested : (c : After-check_rows) (x : Nest) → c.check_rows.result ≡ x → (n : ℕ) (e : length c.args.rows.now ≡ 8 * n)
+    → Nested (grow (lined-here c n e).ls) depth_most x
 nested c x told n e =
-    let w = lined-here c.before n e in
+    let w = lined-here c n e in
     subst (Nested (grow w.ls) depth_most) told (c.check_rows.ensures w.ls w.read.rows_are w.read.fit)
-
-pub returns-then-not-lines_fit : goal.returns-then-not-lines_fit
-returns-then-not-lines_fit c = λ n e. unlined n _ _ c.lines_fit.result (c.lines_fit.ensures n e) (c.if-not-lines_fit.true)
 
 pub check_deep-requires : goal.check_deep-requires
 check_deep-requires c =
-    let p = (entry c.before.before.before).requires in
-    let w = lined-here c.before.before.before p.many p.so_many in
+    let p = c.requires in
+    let w = lined-here (goal.at.check_deep-requires c).After-check_rows p.many p.so_many in
     record { ls = w.ls; spelt = w.read.rows_are; fit = w.read.fit; few = p.few }
 
 pub check_root-requires : goal.check_root-requires
 check_root-requires c =
-    let called = c.before.before in
-    let p = (entry called.before).requires in
-    let w = lined-here called.before p.many p.so_many in
+    let called = (goal.at.check_root-requires c).After-check_rows in
+    let p = c.requires in
+    let w = lined-here called p.many p.so_many in
     let v = nested called Fine c.in-Fine.is p.many p.so_many in
     record { forest = v.0; spells = grown w.ls v.0 w.read v.1.0; low = v.1.1; few = p.few; short = p.short }
 
 pub returns-in-Broken : goal.returns-in-Broken
 returns-in-Broken c =
-    let called = c.before.before in
-    λ n e. answer-lines (lined-here called.before n e) (Refused 3 0) (sym (ap answer_to (nested called Broken c.in-Broken.is n e)))
+    let called = (goal.at.returns-in-Broken c).After-check_rows in
+    λ n e. answer-lines (lined-here called n e) (Refused 3 0) (sym (ap answer_to (nested called Broken c.in-Broken.is n e)))
 
 pub returns-in-Deep : goal.returns-in-Deep
 returns-in-Deep c =
-    let called = c.before.before.before in
+    let called = (goal.at.returns-in-Deep c).After-check_rows in
     λ n e.
-    let w = lined-here called.before n e in
-    answer-lines w c.check_deep.result
-    (c.check_deep.ensures w.ls w.read.rows_are w.read.fit (nested called Deep c.in-Deep.is n e))
+    let w = lined-here called n e in
+    answer-lines w c.check_deep.result (c.check_deep.ensures w.ls w.read.rows_are w.read.fit (nested called Deep c.in-Deep.is n e))
 
 pub returns-in-Fine : goal.returns-in-Fine
 returns-in-Fine c =
-    let called = c.before.before.before in
+    let called = (goal.at.returns-in-Fine c).After-check_rows in
     λ n e.
-    let w = lined-here called.before n e in
+    let w = lined-here called n e in
     let v = nested called Fine c.in-Fine.is n e in
     answer-lines w c.check_root.result (c.check_root.ensures v.0 (grown w.ls v.0 w.read v.1.0) v.1.1 ∙ sym (ap answer_to v.1.0))

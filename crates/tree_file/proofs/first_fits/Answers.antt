@@ -10,18 +10,15 @@ use lib.ListN.{take, drop, get_or, length-take, length-drop}
 use Rattle.mitex_syntax.proofs.Places.{some-forest}
 use Rattle.tree_file.specs.Parts.{first_fits}
 use Rattle.tree_file.proofs.Scanning.{first-unruled, first-sym, first_under, given-scan-head}
-use borrow.Author.Rules.{rules}
+use Rattle.tree_file.proofs.first_fits.Goals.{After-extent-end}
 use Rattle.tree_file.proofs.first_fits.Goals as goal
 
-abbrev entry : (c : goal.After-extent-end) → goal.Start
-entry c = c.before.before.before.before.before.before.before
-
 -- the rows under a node that has rules
-under : (c : goal.After-extent-end) (t : Tree) (f : Forest) → SpellsAll (more t f) (entry c).args.rows.now (entry c).args.text.now
-    → let k = get_or (entry c).args.rows.now 0 0 in
-    (g : Forest) × ((t ≡ node k g) × Begins g (take (c.extent.result - 8) (drop 8 (entry c).args.rows.now)) (entry c).args.text.now)
+under : (c : After-extent-end) (t : Tree) (f : Forest) → SpellsAll (more t f) c.args.rows.now c.args.text.now
+    → let k = get_or c.args.rows.now 0 0 in
+    (g : Forest) × ((t ≡ node k g) × Begins g (take (c.extent-end.result - 8) (drop 8 c.args.rows.now)) c.args.text.now)
 under c t f sp =
-    let few = (entry c).requires.few in
+    let few = c.requires.few in
     first_under t f sp (omega arith) (sym c.is_ruled.ensures ∙ c.if-not-is_ruled.false) c.if-k-eq-TOKEN_COMMAND_SYM.false c.extent-end.result
     c.extent-end.ensures
 
@@ -31,26 +28,19 @@ returns-then-not-is_ruled c = λ t f sp. first-unruled t f sp (sym c.is_ruled.en
 pub returns-then-k-eq-TOKEN_COMMAND_SYM : goal.returns-then-k-eq-TOKEN_COMMAND_SYM
 returns-then-k-eq-TOKEN_COMMAND_SYM c = λ t f sp. c.begins_slashed.ensures ∙ first-sym t f sp c.if-k-eq-TOKEN_COMMAND_SYM.true
 
-pub slice_bounds-node_fits-count : goal.slice_bounds-node_fits-count
-slice_bounds-node_fits-count c = let x = given-scan-head (entry c).requires in omega (arith, x.first.extent, x.some, c.extent-end.ensures)
-
-pub slice_bounds-node_fits-start : goal.slice_bounds-node_fits-start
-slice_bounds-node_fits-start c = let x = given-scan-head (entry c).requires in omega (arith, x.first.extent, x.some, c.extent-end.ensures)
-
 pub slice_bounds-node_fits-end : goal.slice_bounds-node_fits-end
-slice_bounds-node_fits-end c = let x = given-scan-head (entry c).requires in omega (arith, x.first.extent, x.first.inside, c.extent-end.ensures)
+slice_bounds-node_fits-end c = let x = given-scan-head c.requires in omega (arith, x.first.extent, x.first.inside, c.extent-end.ensures)
 
 pub node_fits-requires : goal.node_fits-requires
 node_fits-requires c =
-    let at = c.before in
     let p = c.requires in
     let few = p.few in
     let short = p.short in
     let x = given-scan-head p in
-    some-forest (under at x.tree x.others x.exact).1.1 (simp (length-take, length-drop) (omega arith)) (omega arith)
+    some-forest (under (goal.at.node_fits-requires c).After-extent-end x.tree x.others x.exact).1.1 (simp (length-take, length-drop) (omega arith)) (omega arith)
 
 pub returns : goal.returns
 returns c =
     λ t f sp.
-    let u = under c.before.before t f sp in
+    let u = under (goal.at.returns c).After-extent-end t f sp in
     c.node_fits.ensures u.0 u.1.1 ∙ sym (ap first_fits u.1.0)

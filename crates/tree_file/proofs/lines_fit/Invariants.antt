@@ -9,7 +9,7 @@ use Rattle.tree_file.proofs.lines_fit.Given as goal
 
 abbrev pub invariant-loop-l : goal.invariant-loop-l
 invariant-loop-l l =
-    (l.l.plain ≡ true → one_byte_each l.t ≡ true) × ((n : ℕ) → length l.l.rows ≡ 8 * n → LinesLeft n l.l.rows l.l.text l.l l.t)
+    (l.plain ≡ true → one_byte_each l.t ≡ true) × ((n : ℕ) → length l.rows ≡ 8 * n → LinesLeft n l.rows l.text l.l l.t)
 
 abbrev pub decreases-loop-l : goal.decreases-loop-l
 decreases-loop-l l = length l.l

@@ -4,20 +4,13 @@ use native.Mathlib.Omega.{arith}
 use mathlib.Core.Path.{◌≡◌}
 use Rattle.mitex_syntax.specs.Tree.{Forest, rows_ofs}
 use Rattle.tree_file.proofs.Roots.{Root, root_none, root-token, root-kind, root-short, root-of}
+use Rattle.tree_file.proofs.root_blocks.Goals.{Else-rows-end}
 use Rattle.tree_file.proofs.root_blocks.Goals as goal
 
--- the first row, a node of kind ScopeRoot
-abbrev long : (c : goal.Else-rows-eq1) → goal.Else-rows-lt8
-long c = c.before.before.before.before
-
-abbrev entry : (c : goal.Else-rows-eq1) → goal.Start
-entry c = (long c).before.before
-
 -- past the tests
-root : (c : goal.Else-rows-end) (f : Forest) → (entry c.before.before).args.rows.now ≡ rows_ofs f → Root f (entry c.before.before).args.rows.now
+root : (c : Else-rows-end) (f : Forest) → c.args.rows.now ≡ rows_ofs f → Root f c.args.rows.now
 root c f e =
-    let node = c.before.before in
-    root-of f _ e (long node).if-rows-lt8.false (entry node).requires.few c.if-rows-ne-SCOPE_ROOT.false node.if-rows-eq1.false
+    root-of f _ e c.if-rows-lt8.false c.requires.few c.if-rows-ne-SCOPE_ROOT.false c.if-rows-eq1.false
     c.extent-end.result c.extent-end.ensures c.if-rows-end.false
 
 pub returns-then-rows-lt8 : goal.returns-then-rows-lt8
@@ -31,23 +24,22 @@ returns-then-rows-eq1 c = λ f e. root-token f _ e c.if-rows-lt8.false c.if-rows
 
 pub returns-then-rows-end : goal.returns-then-rows-end
 returns-then-rows-end c =
-    let node = c.before.before in
-    λ f e.
-    root-short f _ e (long node).if-rows-lt8.false (entry node).requires.few node.if-rows-eq1.false c.extent-end.result c.extent-end.ensures c.if-rows-end.true
+    λ f e. root-short f _ e c.if-rows-lt8.false c.requires.few c.if-rows-eq1.false c.extent-end.result c.extent-end.ensures c.if-rows-end.true
 
 pub count_trees-m-requires : goal.count_trees-m-requires
 count_trees-m-requires c =
-    let start = entry c.before.before.before in
-    let r = root c.before start.requires.forest start.requires.spelt in
-    let less = rest-length start.args.rows.now 8 in
-    record { forest = r.blocks; spelt = r.spelt; few = omega (arith, less, start.requires.few) }
+    let r = root (goal.at.count_trees-m-requires c).Else-rows-end c.requires.forest c.requires.spelt in
+    let less = rest-length c.args.rows.now 8 in
+    record { forest = r.blocks; spelt = r.spelt; few = omega (arith, less, c.requires.few) }
 
 pub returns-then-m-le-BLOCKS_MOST : goal.returns-then-m-le-BLOCKS_MOST
 returns-then-m-le-BLOCKS_MOST c =
-    let whole = c.before.before.before in
-    λ f e. let r = root whole f e in r.few c.count_trees-m.result (c.count_trees-m.ensures r.blocks r.spelt) c.if-m-le-BLOCKS_MOST.true
+    λ f e.
+    let r = root (goal.at.returns-then-m-le-BLOCKS_MOST c).Else-rows-end f e in
+    r.few c.count_trees-m.result (c.count_trees-m.ensures r.blocks r.spelt) c.if-m-le-BLOCKS_MOST.true
 
 pub returns : goal.returns
 returns c =
-    let whole = c.before.before.before in
-    λ f e. let r = root whole f e in r.many c.count_trees-m.result (c.count_trees-m.ensures r.blocks r.spelt) c.if-m-le-BLOCKS_MOST.false
+    λ f e.
+    let r = root (goal.at.returns c).Else-rows-end f e in
+    r.many c.count_trees-m.result (c.count_trees-m.ensures r.blocks r.spelt) c.if-m-le-BLOCKS_MOST.false

@@ -1,19 +1,11 @@
-use Rattle.text.proofs.Writing.{rest-length}
-use native.Mathlib.Omega.{arith}
-use Rattle.tree_file.proofs.Nesting.{lines-rest-start, lines-rest-falls, lines-rest-next, lines-rest-end}
+use Rattle.tree_file.proofs.Nesting.{lines-rest-falls, lines-rest-next, lines-rest-end}
 use Rattle.tree_file.proofs.rows_nest.Goals as goal
-
-pub loop-rest-init : goal.loop-rest-init
-loop-rest-init c = λ ls e h. lines-rest-start ls _ e h
 
 pub returns-then-not-lands : goal.returns-then-not-lands
 returns-then-not-lands c =
     λ ls e h.
     lines-rest-falls (c.loop-rest.invariant ls e h) c.loop-rest-test.true c.under-n.result c.under-n.ensures.0
     c.lands.result c.lands.ensures (c.if-not-lands.true)
-
-pub loop-rest-smaller : goal.loop-rest-smaller
-loop-rest-smaller c = omega (arith, rest-length c.loop-rest.rest.now 8)
 
 pub loop-rest-preserved : goal.loop-rest-preserved
 loop-rest-preserved c =

@@ -4,7 +4,7 @@ use Rattle.tree_file.proofs.Scanning.{ShapeScan}
 use Rattle.tree_file.proofs.scan_shape.Given as goal
 
 abbrev pub invariant-loop-l : goal.invariant-loop-l
-invariant-loop-l l = ShapeScan l.l.rows l.l.text l.l l.t l.at
+invariant-loop-l l = ShapeScan l.rows l.text l.l l.t l.at
 
 abbrev pub decreases-loop-l : goal.decreases-loop-l
 decreases-loop-l l = length l.l

@@ -19,4 +19,4 @@ returns-then-rows-eq1 c =
 pub returns : goal.returns
 unfolding tree_row_at
 returns c =
-    rw (eq-eqb _ _ c.if-rows-ne0.false, eq-eqb _ _ c.if-rows-ne0-2.false, ne_eqb _ _ c.if-rows-eq1.false) c.Node-row.ensures
+    rw (eq-eqb _ _ c.if-rows-ne0.false, eq-eqb _ _ c.if-rows-ne0-2.false, ne_eqb _ _ c.if-rows-eq1.false) c.node_row.ensures
