@@ -11,7 +11,7 @@ use lib.ListN.{length}
 use Rattle.ledger.specs.Ledger.{written}
 use Rattle.edit_meaning.specs.Walk.{BlockConverter, KeepsShort}
 use Rattle.edit_meaning.specs.Edit.{Answer, Result, convert_document}
-use Rattle.edit_meaning.specs.Edit.Answer.{refused, converted}
+use Rattle.edit_meaning.specs.Edit.Answer.{refused, converted, edited}
 use Rattle.edit_meaning.specs.Run.{Kept, size_after, leaves, pieces_of, edit_answer, document_after, length_of, carries_from, Holds}
 use Rattle.edit_meaning.specs.Calls.{Converts, Edits, Untouched}
 use Rattle.edit_meaning.specs.Numbers.{OfConvert}
@@ -89,6 +89,7 @@ module _ (𝓒 : BlockConverter) (t l before tree : List ℕ) (kept count : ℕ)
       let q : converted len n ≡ converted (size_after r.answer kept) h.blocks = sym e ∙ h.accepted in
       let m : n ≡ h.blocks = cc in
       record { count = count; answer = d; bytes = rw z at h.text; rows = rw (← m) at h.rows }
+  as-answered (edited _ _ _) e d of = elim of [ ]
 
 module _ (𝓒 : BlockConverter) (keeps-short : KeepsShort 𝓒) where
   -- a change beside Convert, whose buffers hold what is held

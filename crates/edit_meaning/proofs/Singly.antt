@@ -276,10 +276,10 @@ module _ (𝓒 : BlockConverter) (keeps-short : KeepsShort 𝓒) (t l : List ℕ
   -- ---- blocks replaced one by one
 
   singly-linked :
-      {bs bs' : List Block} {ks : List ℕ} {es : List Edit} → Singly 𝓒 bs' bs ks es → OnlyNamed ks bs bs' → (old : List ℕ)
+      {bs' bs : List Block} {ks : List ℕ} {es : List Edit} → Singly 𝓒 bs' bs ks es → OnlyNamed ks bs bs' → (old : List ℕ)
       → check old ≡ good bs → Linked old (as_changes es) × (check (last_tree old (as_changes es)) ≡ good bs')
-  singly-linked {bs} {bs'} all_done only old c = (tt, c ∙ ap good (only_none bs bs' only))
-  singly-linked {bs} {bs'} (one_then {k = k} {ks} {tree} {es} c₂ si) only old c =
+  singly-linked {bs'} {bs} all_done only old c = (tt, c ∙ ap good (only_none bs bs' only))
+  singly-linked {bs'} {bs} (one_then {k = k} {ks} {tree} {es} c₂ si) only old c =
       let more = singly-linked si (only-rest k ks bs bs' only) tree c₂ in
       let e : Change = record { tree = tree; kind = replace k } in
       ((permitted-by old bs e (with_block k bs bs') c c₂ (with-only k bs bs' only.count), more.0), more.1)

@@ -18,6 +18,7 @@ use Rattle.edit_meaning.proofs.Numbers.{convert-in}
 edit-answer-in : (P : ℕ → Type 0) (a : Answer) (old count : ℕ) → OfConvert P a → OfEdit P (edit_answer a old count)
 edit-answer-in P (refused n i) old count h = h
 edit-answer-in P (converted len n) old count h = tt
+edit-answer-in P (edited _ _ _) old count h = elim h [ ]
 
 module _ (𝓒 : BlockConverter) (numbered : RefusalNumbers 𝓒) where
   abbrev NotSix : ℕ → Type 0
@@ -32,6 +33,7 @@ module _ (𝓒 : BlockConverter) (numbered : RefusalNumbers 𝓒) where
   six-only : (b : Bool) (i : ℕ) (a : Answer) → OfEdit NotSix a → cond b (refused 6 0) a ≡ refused 6 i → b ≡ true
   six-only true i a h q = refl
   six-only false i (refused n j) h q = let z : n ≡ 6 = cc in absurd (h z)
+  six-only false i (converted _ _) h q = elim h [ ]
   six-only false i (edited len g n) h q = let z : ◌≡◌ {A = ℕ} 0 1 = cc in absurd (omega arith)
 
   module _ (t l : List ℕ) (old : List ℕ) (e : Edit) where

@@ -111,13 +111,13 @@ module _ (𝓒 : BlockConverter) where
   pub walked-take : {c : Carry} {bs : List Block} {ps : List Piece} (k : ℕ) → WalkedBlocks c bs ps → WalkedBlocks c (take k bs) (take k ps)
   walked-take zero w = none_left
   walked-take (suc k) none_left = none_left
-  walked-take (suc k) (one_walked e w) = one_walked e (walked-take k w)
+  walked-take {c = c} (suc k) (one_walked {c' = c'} e w) = one_walked e (walked-take {c = c'} k w)
 
   pub walked-drop :
       {c : Carry} {bs : List Block} {ps : List Piece} (k : ℕ) → WalkedBlocks c bs ps → WalkedBlocks (carry_after c (take k ps)) (drop k bs) (drop k ps)
   walked-drop zero w = w
   walked-drop (suc k) none_left = none_left
-  walked-drop (suc k) (one_walked e w) = walked-drop k w
+  walked-drop {c = c} (suc k) (one_walked {c' = c'} e w) = walked-drop {c = c'} k w
 
   pub walked-length : {c : Carry} {bs : List Block} {ps : List Piece} → WalkedBlocks c bs ps → length bs ≡ length ps
   walked-length none_left = refl

@@ -76,6 +76,7 @@ of-bad r n row e h = subst CheckIn e h
 -- and of a walk
 T-both : (a b : Bool) → T (a && b) → T a × T b
 T-both true b h = (tt, h)
+T-both false b h = elim h [ ]
 
 walk-number : (n : ℕ) → T (is_walk_number n) → (7 ≤ n) × (n ≤ 14)
 walk-number n h = let b = T-both (leb 7 n) (leb n 14) h in (leb→le 7 n b.0, leb→le n 14 b.1)

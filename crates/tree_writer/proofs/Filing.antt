@@ -5,7 +5,6 @@ use Prim.Native.Nat.{ℕ, ◌+◌, ◌*◌, ◌-◌, ◌≤◌}
 use native.Mathlib.Omega.{arith}
 use lib.ListN.{length, take, drop, length-drop, length-reverse}
 use lib.Seq.{sets, take-length, drop-length, take_all, drop_at, length-take-le}
-use Rattle.bytes.specs.Bytes.{rev, slice}
 use Rattle.text.specs.Numbers.{four}
 use Rattle.text.proofs.Writing.{sets-append}
 use Rattle.tree_writer.specs.Buffers.{turned_rows, filed}
@@ -14,8 +13,7 @@ module _ (b : List ℕ) (t n : ℕ) (h : t + 8 * n + 8 ≤ length b) where
   abbrev from : ℕ
   from = length b - 8 * n
 
-  turned_by : {o : List ℕ} → o ≡ take from b ++ (rev (slice from (length b) b) ++ drop (length b) b) → o ≡ turned_rows n b
-  unfolding rev slice
+  turned_by : {o : List ℕ} → o ≡ take from b ++ (reverse (drop from (take (length b) b)) ++ drop (length b) b) → o ≡ turned_rows n b
   turned_by e =
       e
       ∙ ap (λ x. take from b ++ (reverse (drop from x) ++ drop (length b) b)) (take-length b)
@@ -28,7 +26,7 @@ module _ (b : List ℕ) (t n : ℕ) (h : t + 8 * n + 8 ≤ length b) where
       ∙ take_all (8 * n) (reverse (drop from b)) (omega (arith, length-reverse (drop from b), length-drop from b))
 
   pub filed-by :
-      {o₁ o₂ o₃ o₄ : List ℕ} → o₁ ≡ take from b ++ (rev (slice from (length b) b) ++ drop (length b) b)
+      {o₁ o₂ o₃ o₄ : List ℕ} → o₁ ≡ take from b ++ (reverse (drop from (take (length b) b)) ++ drop (length b) b)
       → o₂ ≡ sets o₁ t (take (8 * n) (drop from o₁)) → o₃ ≡ sets o₂ (t + 8 * n) (four t []) → o₄ ≡ sets o₃ (t + 8 * n + 4) (four n [])
       → o₄ ≡ filed t n b
   filed-by {o₁} {o₂} {o₃} {o₄} e₁ e₂ e₃ e₄ =

@@ -45,11 +45,13 @@ convert-spells : (a : Answer) → OfConvert ConvertNumber a → a ≡ convert_to
 convert-spells (refused zero i) h = absurd (omega (arith, h.0.0))
 convert-spells (refused (suc n) i) h = refl
 convert-spells (converted len n) h = refl
+convert-spells (edited _ _ _) h = elim h [ ]
 
 edit-spells : (a : Answer) → OfEdit Fifteen a → a ≡ edit_told (number_told a) (place_told a) (growth_told a) (count_told a)
 edit-spells (refused zero i) h = absurd (omega arith)
 edit-spells (refused (suc n) i) h = refl
 edit-spells (edited len g n) h = refl
+edit-spells (converted _ _) h = elim h [ ]
 
 module _ (mode : ℕ) (rules tree text ledger : List ℕ) {number place count : ℕ} {growth : ℤ} {text' ledger' : List ℕ} where
   pub convert-told :

@@ -1,49 +1,23 @@
 -- `change`: a refusal of the checks is handed on (`alters-shut`); else the call is that over the document's blocks (`opened-changes`).
-use mathlib.Core.Path.{sym, subst}
+use mathlib.Core.Path.{sym}
 use native.Mathlib.Omega.{arith}
-use borrow.Author.Rules.{rules}
 use lib.Seq.{length-take-le}
-use Rattle.calls.specs.Calls.{CallBegins, kind_by}
-use Rattle.calls.specs.declared.Opened.{Opened}
-use Rattle.calls.specs.declared.Opened.TheVariants.{Open}
+use Rattle.calls.specs.Calls.{kind_by}
 use Rattle.calls.proofs.Files.{long, document, opened-changes, alters-shut}
 use Rattle.calls.proofs.change.Goals as goal
 
--- the function's entry, from where the files were opened
-abbrev start : goal.After-open → goal.Start
-start c = c.before.before.before.before.before.before
-
--- what it begins with
-abbrev Here : goal.After-open → Opened → Type 0
-Here c = let a = (start c).args in CallBegins a.mode a.rules.now a.tree.now c.«open».new.1.1.1.0
-
--- the files are open
-here : (c : goal.In-Open-2) → let g = c.m.given.0 in Here c.before.before.before (Open g.0 g.1.0 g.1.1.0)
-here c = let d = c.before.before.before in subst (Here d) c.in-Open.is d.«open».ensures.1
-
--- where the blocks' rows are known, from the call over them
-abbrev given : goal.After-change-blocks-arg3 → goal.After-block_rows
-given c = c.before.before.before.before
-
 pub block_rows-requires : goal.block_rows-requires
-block_rows-requires c = omega (arith, long (here c.before))
+block_rows-requires c = omega (arith, long c.in-Open.ensures.begins)
 
 pub slice_bounds-change_blocks-end : goal.slice_bounds-change_blocks-end
-slice_bounds-change_blocks-end c =
-    let m = c.before.before.before in
-    sym (length-take-le _ _ (omega (arith, long (here m))))
+slice_bounds-change_blocks-end c = sym (length-take-le _ _ (omega (arith, long c.in-Open.ensures.begins)))
 
 pub change_blocks-requires : goal.change_blocks-requires
-change_blocks-requires c = let r = given c in document (here r.before.before) r.block_rows.ensures
+change_blocks-requires c = document c.in-Open.ensures.begins c.block_rows.ensures
 
 pub returns-in-Shut : goal.returns-in-Shut
-returns-in-Shut c =
-    let d = c.before.before.before.before in
-    let a = (start d).args in
-    alters-shut a.mode a.rules.now a.tree.now (subst (Here d) c.in-Shut.is d.«open».ensures.1)
+returns-in-Shut c = alters-shut c.args.mode c.args.rules.now c.args.tree.now c.in-Shut.ensures.begins
 
 pub returns-in-Open : goal.returns-in-Open
 returns-in-Open c =
-    let r = given c.before.before.before.before.before in
-    let a = (start r.before.before.before.before.before).args in
-    opened-changes (here r.before.before) r.block_rows.ensures c.change_blocks.result (kind_by a.way a.block) c.change_blocks.ensures
+    opened-changes c.in-Open.ensures.begins c.block_rows.ensures c.change_blocks.result (kind_by c.args.way c.args.block) c.change_blocks.ensures

@@ -18,20 +18,16 @@ module _ {from r : Standing} {x b : Bool} (v : Walk) (is : b ≡ x) where
   again-on : b ≡ false → Came from r v → Came from r (cond x (pieces []) v)
   again-on t m = subst (λ (y : Bool). Came from r (cond y (pieces []) v)) (sym t ∙ is) m
 
--- the function's entry
-abbrev start : goal.After-met_at_once → goal.Start
-start c = c.before.before.before.before.before.before
-
 pub met_at_once-requires : goal.met_at_once-requires
 met_at_once-requires c =
-    let w = c.requires.0 in
-    (λ h. (omega (arith, w.many), c.requires.1.2 _ (omega (arith, w.many))), (w.given.outside.label, omega (arith, w.many, w.few)))
+    let w = c.requires.blocks_up_to in
+    record {
+      block_lt_was = λ h. (omega (arith, w.many), c.requires.blocks_bound.2 _ (omega (arith, w.many)));
+      label_len_bound = (w.given.outside.label, omega (arith, w.many, w.few));
+    }
 
 pub returns-then-met_at_once : goal.returns-then-met_at_once
 returns-then-met_at_once c = λ w. again-met _ c.met_at_once.ensures c.if-met_at_once.true (came-here w.given.well w.given.place)
-
-pub measure-requires : goal.measure-requires
-measure-requires c = (start c.before).requires
 
 pub returns : goal.returns
 returns c = λ w. again-on _ c.met_at_once.ensures c.if-met_at_once.false (c.measure.ensures w)

@@ -15,13 +15,13 @@ pub met-requires : goal.met-requires
 met-requires c =
     let k = c.args.from.block in
     let z : k ≡ k + 1 - 1 = omega arith in
-    (λ h. subst (λ j. RowFits j c.args.ledger.now) z (c.requires.0 c.if-was-blocks.false).1, c.requires.1.0)
+    (λ h. subst (λ j. RowFits j c.args.ledger.now) z (c.requires.block_lt_was c.if-was-blocks.false).1, c.requires.label_len_bound.0)
 
 pub returns : goal.returns
 returns c =
     let a = c.args in
     let z : a.from.block + 1 ≡ suc a.from.block = omega arith in
-    let s = (c.requires.0 c.if-was-blocks.false).0 in
+    let s = (c.requires.block_lt_was c.if-was-blocks.false).0 in
     rw (lt-ltb _ _ c.if-was-blocks.false)
     (c.met.ensures a.was (omega arith)
     ∙ ap (λ j. same_carry (carry_of a.from.walked.converter) (carry_before j (decode_rows a.was a.ledger.now))) z)

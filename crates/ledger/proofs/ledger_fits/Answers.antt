@@ -1,5 +1,6 @@
 use native.Mathlib.Omega.{arith}
-use Prim.Native.Nat.{◌-◌}
+use mathlib.Core.Path.{ap}
+use mathlib.Core.Bool.{not}
 use Rattle.ledger.proofs.Fitting.{fits-few, fits-start, fits-falls, fits_not, fits_next, fits_last}
 use Rattle.ledger.proofs.ledger_fits.Goals as goal
 
@@ -15,15 +16,12 @@ returns-then-next-end c = fits-falls _ _ _ _ _ c.loop-i.invariant.2 c.loop-i-tes
 pub returns-then-not-row_fits : goal.returns-then-not-row_fits
 returns-then-not-row_fits c =
     fits_not _ _ _ _ _ c.loop-i.invariant.2 c.loop-i-test.true c.row_end-next.ensures.0
-    c.if-next-end.false c.row_fits.ensures c.if-not-row_fits.true
+    c.if-next-end.false c.row_fits.ensures (ap not c.if-not-row_fits.true)
 
 pub loop-i-preserved : goal.loop-i-preserved
 loop-i-preserved c = (
   omega arith,
   omega arith,
   fits_next _ _ _ _ _ c.loop-i.invariant.2 c.loop-i-test.true c.row_end-next.ensures.0
-      c.if-next-end.false c.row_fits.ensures c.if-not-row_fits.false,
+      c.if-next-end.false c.row_fits.ensures (ap not c.if-not-row_fits.false),
 )
-
-pub returns : goal.returns
-returns c = fits_last _ _ _ _ _ c.loop-i.invariant.2 c.loop-i-test.false

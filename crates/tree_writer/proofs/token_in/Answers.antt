@@ -1,42 +1,14 @@
 -- The numbers are a writer, or the answer is 16; the step of that writer is the step of the numbers (`steps-in`).
 use mathlib.Core.Path.{◌≡◌, sym, ◌∙◌}
-use mathlib.Core.Bool.{true}
-use Prim.Native.Nat.{◌≤◌}
-use lib.ListN.{length}
 use Rattle.tree_writer.specs.Steps.{adds_token}
-use Rattle.tree_writer.specs.States.{state_size, is_state}
-use Rattle.tree_writer.proofs.Numbers.{state-long, steps-no-state, steps-in}
+use Rattle.tree_writer.proofs.Numbers.{steps-no-state, steps-in}
 use Rattle.tree_writer.proofs.token_in.Goals as goal
-
-abbrev start : goal.After-is_state → goal.Start
-start c = c.before.before.before.before.before
-
-is_one : (c : goal.Else-not-is_state) → is_state (start c.before).args.state.now ≡ true
-is_one c = sym c.is_state.ensures ∙ c.if-not-is_state.false
-
-enough : (c : goal.Else-not-is_state) → state_size ≤ length (start c.before).args.state.now
-enough c = state-long (start c.before).args.state.now (is_one c)
-
--- where the step was taken, the numbers are a writer
-abbrev test : goal.After-add_token-r → goal.Else-not-is_state
-test c = c.before.before.before.before
 
 pub returns-then-not-is_state : goal.returns-then-not-is_state
 returns-then-not-is_state c =
-    let args = (start c.before).args in
-    steps-no-state args.state-1.now args.buffer-1.now (adds_token args.kind args.s.now)
-    (sym c.is_state.ensures ∙ c.if-not-is_state.true)
-
-pub load-requires : goal.load-requires
-load-requires c = enough c.before
-
-pub save-requires : goal.save-requires
-save-requires c = enough (test c.before.before.before)
+    steps-no-state c.args.state.now c.args.buffer.now (adds_token c.args.kind c.args.s.now) (sym c.is_state.ensures ∙ c.if-not-is_state.true)
 
 pub returns : goal.returns
 returns c =
-    let step = c.before.before.before.before.before.before in
-    let at_test = test step in
-    let args = (start at_test.before).args in
-    steps-in args.state-1.now args.buffer-1.now (adds_token args.kind args.s.now) step.add_token-r.result (is_one at_test)
-    step.load.ensures step.add_token-r.ensures c.save.ensures
+    steps-in c.args.state.now c.args.buffer.now (adds_token c.args.kind c.args.s.now) c.add_token-r.result (sym c.is_state.ensures ∙ c.if-not-is_state.false)
+    c.load.ensures c.add_token-r.ensures c.save.ensures
