@@ -33,7 +33,7 @@ use denote.Triple.Walked.{says}
 use Rattle.mitex_meaning.specs.declared.Converter.{Converter}
 use Rattle.mitex_meaning.proofs.LentForms.{Known, mach, Held, Form, ended, clauses, Lends, Move, move-ended, move-clauses, Moves}
 use Rattle.mitex_meaning.proofs.LentWalks.{had, converter-had, lies}
-use Rattle.all.specs.contracts.mitex_meaning.Converter as T
+use Rattle.mitex_meaning.specs.contracts.Converter as T
 use Rattle.mitex_meaning.proofs.Converter.TheLaws as T'
 
 -- ---- a form by value

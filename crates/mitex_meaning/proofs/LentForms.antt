@@ -28,11 +28,11 @@ use Rattle.mitex_meaning.specs.Outcome.{step_of}
 use Rattle.mitex_meaning.specs.State.{with_mode, entered_env, exited_env}
 use Rattle.mitex_meaning.specs.declared.Converter.{Converter}
 use Rattle.mitex_meaning.specs.declared.LaTeXMode.{LaTeXMode}
-use Rattle.all.specs.contracts.mitex_meaning.Converter as T
+use Rattle.mitex_meaning.specs.contracts.Converter as T
 use Rattle.mitex_meaning.proofs.Converter.TheLaws as T'
-use Rattle.all.specs.contracts.mitex_meaning.LaTeXEnv as E
+use Rattle.mitex_meaning.specs.contracts.LaTeXEnv as E
 use Rattle.mitex_meaning.proofs.LaTeXEnv.TheLaws as E'
-use Rattle.all.specs.contracts.mitex_meaning.LaTeXMode as D
+use Rattle.mitex_meaning.specs.contracts.LaTeXMode as D
 use Rattle.mitex_meaning.proofs.LaTeXMode.TheLaws as D'
 
 -- ---- plain data beside the converter

@@ -40,11 +40,11 @@ use denote.Triple.Table.{entered}
 use denote.Triple.Walked.{says, Stays, stay_ref, stay_none, walk_of, Goes-none, Goes-ref, ends_at, walked, walk_Meets}
 use Rattle.mitex_meaning.specs.declared.Converter.{Converter}
 use Rattle.mitex_meaning.proofs.LentForms.{Datum, Known, mode_datum, env_datum, mach, Held, Form, ended, clauses, Lends}
-use Rattle.all.specs.contracts.mitex_meaning.Converter as T
+use Rattle.mitex_meaning.specs.contracts.Converter as T
 use Rattle.mitex_meaning.proofs.Converter.TheLaws as T'
-use Rattle.all.specs.contracts.mitex_meaning.LaTeXEnv as E
+use Rattle.mitex_meaning.specs.contracts.LaTeXEnv as E
 use Rattle.mitex_meaning.proofs.LaTeXEnv.TheLaws as E'
-use Rattle.all.specs.contracts.mitex_meaning.LaTeXMode as D
+use Rattle.mitex_meaning.specs.contracts.LaTeXMode as D
 use Rattle.mitex_meaning.proofs.LaTeXMode.TheLaws as D'
 
 -- ---- machine values have their types' MIR types

@@ -28,7 +28,7 @@ unfolding first_by
 first-picked p none e = let z : ◌≡◌ {A = ℕ} 0 1 = cc in absurd (omega arith)
 first-picked p (more u g) {t} e =
     by-test (p u)
-    (λ h. let q : u ≡ t = cc (ap (λ (b : Bool). cond b (some u) (first_by p g)) h) in ap p (sym q) ∙ h)
+    (λ h. let q : u ≡ t = cc in ap p (sym q) ∙ h)
     (λ h. first-picked p g (sym (ap (λ (b : Bool). cond b (some u) (first_by p g)) h) ∙ e))
 
 -- ---- the first row of an element

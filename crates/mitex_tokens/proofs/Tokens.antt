@@ -19,7 +19,7 @@ use Rattle.mitex_meaning.specs.Outcome.{Context, Carry, flagged}
 use Rattle.mitex_meaning.specs.Outcome.Outcome.{refused, done}
 use Rattle.mitex_meaning.specs.Texts.{escape, column_mark, line_mark, ampersand, new_line}
 use Rattle.mitex_meaning.specs.Tokens.{word, token_text, white_space, symbol_by, command_sym, token_out}
-use Rattle.all.specs.contracts.mitex_meaning.LaTeXEnv.{the_type as env-type}
+use Rattle.mitex_meaning.specs.contracts.LaTeXEnv.{the_type as env-type}
 use Rattle.mitex_meaning.specs.declared.LaTeXEnv.{LaTeXEnv}
 use Rattle.mitex_meaning.specs.declared.LaTeXEnv.TheVariants.{None, Figure, Table, Itemize, Enumerate, Math, Matrix, Cases, SubStack, MathCurlyGroup}
 use Rattle.mitex_tokens.specs.Escapes.{escape_of}

@@ -1,6 +1,5 @@
 -- The names are tried in turn.
 use mathlib.Core.Path.{◌∙◌, sym}
-use Rattle.text.specs.Compare.{same}
 use Rattle.mitex_commands.proofs.color_of.Goals as goal
 
 pub returns-then-same : goal.returns-then-same

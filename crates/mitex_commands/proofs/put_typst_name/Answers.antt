@@ -1,6 +1,5 @@
 -- By the mode, and in Text by the name.
 use mathlib.Core.Path.{◌∙◌, sym}
-use Rattle.text.specs.Compare.{same}
 use Rattle.text.proofs.Writing.{wrote_as}
 use Rattle.mitex_commands.proofs.Naming.{name-strong, name-emph, name-written, name-math}
 use Rattle.mitex_commands.proofs.put_typst_name.Goals as goal

@@ -9,8 +9,6 @@ use Rattle.mitex_commands.proofs.store_label.Goals as goal
 
 pub returns : goal.returns
 returns c =
-    let long = c.put-arg-1.given in
-    let short = c.requires in
     let s = c.args.s.now in
     let l = c.args.label.now in
     let same : 0 + length s ≡ length s = omega arith in

@@ -1,5 +1,4 @@
 use mathlib.Core.Path.{sym, ◌∙◌}
-use Prim.Native.Nat.{◌-◌}
 use native.Mathlib.Omega.{arith}
 use Rattle.mitex_loops.proofs.Steady.{blank-start, blank-end, blank-stop, blank-next}
 use Rattle.mitex_loops.proofs.is_blank_group.Goals as goal

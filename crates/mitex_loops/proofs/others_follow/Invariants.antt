@@ -3,7 +3,6 @@ use mathlib.Core.Path.{◌≡◌}
 use Prim.Native.Nat.{◌-◌, ◌≤◌}
 use lib.ListN.{length}
 use Rattle.mitex_syntax.specs.Tree.{Forest, rows_ofs}
-use Rattle.mitex_meaning.specs.Children.{behind}
 use Rattle.mitex_loops.proofs.Others.{Hopped}
 use Rattle.mitex_loops.proofs.others_follow.Given as goal
 

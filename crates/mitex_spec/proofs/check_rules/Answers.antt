@@ -2,7 +2,7 @@
 -- table (`checked-fit`).
 use mathlib.Core.Path.{sym, ◌∙◌}
 use native.Mathlib.Omega.{arith}
-use Rattle.text.proofs.Trailer.{trailed-says, start-inside, part-text, part-many}
+use Rattle.text.proofs.Trailer.{trailed-says}
 use Rattle.mitex_spec.proofs.Index.{checked-broken, checked-unfit, begun-fit, begun-numbered, checked-fit}
 use Rattle.mitex_spec.proofs.check_rules.Goals as goal
 
@@ -10,41 +10,10 @@ pub returns-then-not-trailed : goal.returns-then-not-trailed
 returns-then-not-trailed c =
     checked-broken c.args.file.now c.args.index.now (sym c.trailed.ensures ∙ c.if-not-trailed.true)
 
-pub start_of-start-requires : goal.start_of-start-requires
-start_of-start-requires c = (trailed-says _ (sym c.trailed.ensures ∙ c.if-not-trailed.false)).long
-
-pub overflow_sub-end : goal.overflow_sub-end
-overflow_sub-end c = (trailed-says _ (sym c.trailed.ensures ∙ c.if-not-trailed.false)).long
-
-pub slice_bounds-rules_fit-count : goal.slice_bounds-rules_fit-count
-slice_bounds-rules_fit-count c =
-    start-inside _ (trailed-says _ (sym c.trailed.ensures ∙ c.if-not-trailed.false)) c.start_of-start.result c.start_of-start.ensures.0
-
-pub slice_bounds-rules_fit-start : goal.slice_bounds-rules_fit-start
-slice_bounds-rules_fit-start c =
-    start-inside _ (trailed-says _ (sym c.trailed.ensures ∙ c.if-not-trailed.false)) c.start_of-start.result c.start_of-start.ensures.0
-
-pub slice_bounds-rules_fit-end-2 : goal.slice_bounds-rules_fit-end-2
-slice_bounds-rules_fit-end-2 c =
-    sym (part-text _ (trailed-says _ (sym c.trailed.ensures ∙ c.if-not-trailed.false)) c.start_of-start.result c.start_of-start.ensures.0)
-
 pub returns-then-not-rules_fit : goal.returns-then-not-rules_fit
 returns-then-not-rules_fit c =
     checked-unfit c.args.file.now (trailed-says _ (sym c.trailed.ensures ∙ c.if-not-trailed.false)) c.start_of-start.result
     c.start_of-start.ensures.0 c.args.index.now c.rules_fit.result c.rules_fit.ensures c.if-not-rules_fit.true
-
-pub slice_bounds-fill_index-count : goal.slice_bounds-fill_index-count
-slice_bounds-fill_index-count c =
-    start-inside _ (trailed-says _ (sym c.trailed.ensures ∙ c.if-not-trailed.false)) c.start_of-start.result c.start_of-start.ensures.0
-
-pub slice_bounds-fill_index-start : goal.slice_bounds-fill_index-start
-slice_bounds-fill_index-start c =
-    start-inside _ (trailed-says _ (sym c.trailed.ensures ∙ c.if-not-trailed.false)) c.start_of-start.result c.start_of-start.ensures.0
-
-pub fill_index-requires : goal.fill_index-requires
-fill_index-requires c =
-    let w = trailed-says c.args.file.now (sym c.trailed.ensures ∙ c.if-not-trailed.false) in
-    omega (arith, part-many c.args.file.now w c.start_of-start.result c.start_of-start.ensures.0, w.sum, w.short)
 
 pub fill_firsts-requires : goal.fill_firsts-requires
 fill_firsts-requires c =

@@ -1,26 +1,11 @@
 use native.Mathlib.Omega.{arith}
-use mathlib.Core.Path.{refl, subst, ap, ◌∙◌}
+use mathlib.Core.Path.{ap, ◌∙◌}
 use Prim.Native.Nat.{◌+◌}
 use lib.ListN.{length, length-set}
 use Rattle.mitex_spec.specs.Index.{firsts_start}
-use Rattle.mitex_spec.proofs.Firsts.{Tabled, tabled_start, tabled-next, tabled-end, firsts-most}
-use Rattle.mitex_spec.proofs.Index.{rules-few, rules-one}
+use Rattle.mitex_spec.proofs.Firsts.{tabled-next, tabled-end, firsts-most}
+use Rattle.mitex_spec.proofs.Index.{rules-few}
 use Rattle.mitex_spec.proofs.fill_firsts.Goals as goal
-
-pub loop-b-init : goal.loop-b-init
-loop-b-init c =
-    let s = c.requires in
-    let index = c.args.index.now in
-    (omega arith, refl, λ rs e. subst (λ l. Tabled l index index 0 0) (rules-one _ s.decodes e) (tabled_start s.rules index s.holds))
-
-pub firsts_below-k-requires : goal.firsts_below-k-requires
-firsts_below-k-requires c =
-    let s = c.requires in
-    let inv = c.loop-b.invariant.2 in
-    record {
-      numbered = record { rules = s.rules; decodes = s.decodes; holds = (inv s.rules s.decodes).holds };
-      from_bound = λ rs e. (inv rs e).low;
-    }
 
 pub store-requires : goal.store-requires
 store-requires c =
@@ -41,9 +26,6 @@ loop-b-preserved c =
           let n = rules-few c.args.file.now rs (λ i. omega (arith, c.type_inv.file i)) e in
           tabled-next (loop.invariant.2 rs e) _ found.result (omega arith) (omega arith) (found.ensures rs e) c.store.ensures,
     )
-
-pub shape_of-index : goal.shape_of-index
-shape_of-index c = c.loop-b.invariant.1
 
 pub returns : goal.returns
 returns c = λ rs e. tabled-end (c.loop-b.invariant.2 rs e) c.loop-b-test.false

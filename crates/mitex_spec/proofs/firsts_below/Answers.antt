@@ -20,9 +20,6 @@ many file by n q rs e = q ∙ (file-rules file rs by e).count
 pub count_of-count-requires : goal.count_of-count-requires
 count_of-count-requires c = (rules-tested _ _ c.requires.numbered.decodes).long
 
-pub loop-k-init : goal.loop-k-init
-loop-k-init c = c.requires.from_bound
-
 pub name_at-requires : goal.name_at-requires
 name_at-requires c =
     let s = c.requires.numbered in

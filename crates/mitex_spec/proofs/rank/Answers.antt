@@ -83,6 +83,3 @@ loop-low-preserved c =
             omega arith,
           ),
     )
-
-pub returns : goal.returns
-returns c = λ rs e. let r = c.loop-low.invariant.2 rs e in let low = r.0 in let high = r.1 in omega arith

@@ -4,7 +4,6 @@ use mathlib.Core.Path.{ap, sym, ◌∙◌}
 use mathlib.Core.Bool.{true≢false}
 use native.Mathlib.Omega.{arith}
 use lib.ListN.{take}
-use lib.Seq.{length-take-le}
 use Rattle.utf8.specs.Utf8.{valid}
 use Rattle.mitex_spec.proofs.Checking.{row-not, row-alias, row_plain}
 use Rattle.mitex_spec.proofs.rule_row_fits.Goals as goal
@@ -26,10 +25,6 @@ pub returns-then-plain : goal.returns-then-plain
 returns-then-plain c =
     row_plain c.args.rows.now c.args.text.now (sym c.padded.ensures ∙ c.if-not-padded.false)
     (omega (arith, c.rule_taken-end.ensures.0, c.if-text-end.false)) c.if-rows-gt-CLASS_MOST.false (c.requires.1 c.if-plain.true)
-
-pub slice_bounds-valid-end : goal.slice_bounds-valid-end
-slice_bounds-valid-end c =
-    sym (length-take-le _ _ (omega (arith, c.read_u16-n.ensures.0, c.rule_taken-end.ensures.0, c.if-text-end.false)))
 
 pub returns-then-not-valid : goal.returns-then-not-valid
 returns-then-not-valid c =

@@ -5,12 +5,12 @@ use Prim.Native.Nat.{◌≤◌, ℕ}
 use native.Mathlib.Omega.{arith}
 use lib.ListN.{length}
 use lib.Seq.{length-take-le}
-use Rattle.text.proofs.Writing.{part-rest, rest-length}
+use Rattle.text.proofs.Writing.{part-rest}
 use Rattle.utf8.specs.Utf8.{one_byte_each}
 use Rattle.utf8.proofs.Texts.{one-drop}
 use Rattle.mitex_spec.specs.RuleFile.{length_of_name, rule_taken, rule_row_fits}
 use Rattle.mitex_spec.proofs.RuleFile.{rule-row-says}
-use Rattle.mitex_spec.proofs.Checking.{rules-left-start, rules-left-unfit, rules-left-falls, rules-left-next, rules-left-end}
+use Rattle.mitex_spec.proofs.Checking.{rules-left-unfit, rules-left-falls, rules-left-next, rules-left-end}
 use Rattle.mitex_spec.proofs.rules_fit.Goals as goal
 
 -- the texts of a row that fits are there: its name, and all that it takes
@@ -19,12 +19,6 @@ name-room rows text r n q t e = let f = (rule-row-says rows text (sym q ∙ t)).
 
 room : (rows text : List ℕ) (r : Bool) (n : ℕ) → r ≡ rule_row_fits rows text → r ≡ true → n ≡ rule_taken rows → n ≤ length text
 room rows text r n q t e = let f = (rule-row-says rows text (sym q ∙ t)).room in omega arith
-
-pub loop-l-init : goal.loop-l-init
-loop-l-init c = (λ e. sym c.one_byte_each-plain.ensures ∙ e, λ n e. rules-left-start n _ _ _ e)
-
-pub rule_row_fits-requires : goal.rule_row_fits-requires
-rule_row_fits-requires c = (c.loop-l-test.true, c.loop-l.invariant.0)
 
 pub returns-then-not-rule_row_fits : goal.returns-then-not-rule_row_fits
 returns-then-not-rule_row_fits c =
@@ -39,9 +33,6 @@ returns-then-not-may_follow c =
     λ n e. rules-left-falls (c.loop-l.invariant.1 n e) c.may_follow.result c.read_u16-n.result c.loop-l-test.true
     (sym c.rule_row_fits.ensures ∙ c.if-not-rule_row_fits.false) c.read_u16-n.ensures.0 c.may_follow.ensures c.if-not-may_follow.true
 
-pub rule_taken-m-requires : goal.rule_taken-m-requires
-rule_taken-m-requires c = c.loop-l-test.true
-
 pub slice_bounds-last-end-in-loop-l : goal.slice_bounds-last-end-in-loop-l
 slice_bounds-last-end-in-loop-l c =
     sym (length-take-le _ _ (name-room _ _ _ _ c.rule_row_fits.ensures c.if-not-rule_row_fits.false c.read_u16-n.ensures.0))
@@ -51,12 +42,6 @@ slice_bounds-t-count c = room _ _ _ _ c.rule_row_fits.ensures c.if-not-rule_row_
 
 pub slice_bounds-t-start : goal.slice_bounds-t-start
 slice_bounds-t-start c = room _ _ _ _ c.rule_row_fits.ensures c.if-not-rule_row_fits.false c.rule_taken-m.ensures.0
-
-pub slice_bounds-t-end : goal.slice_bounds-t-end
-slice_bounds-t-end c = let h = room _ _ _ _ c.rule_row_fits.ensures c.if-not-rule_row_fits.false c.rule_taken-m.ensures.0 in omega arith
-
-pub loop-l-smaller : goal.loop-l-smaller
-loop-l-smaller c = omega (arith, rest-length c.loop-l.l.now 8)
 
 pub loop-l-preserved : goal.loop-l-preserved
 loop-l-preserved c =

@@ -9,7 +9,7 @@ use Rattle.mitex_syntax.specs.Rows.{extent_of, token_sum}
 use Rattle.mitex_syntax.specs.Spells.{Begins, SomeForest}
 use Rattle.mitex_syntax.specs.Places.Placed.{missing, there}
 use Rattle.mitex_syntax.proofs.Trees.{ChildPart, child-part, spans}
-use Rattle.mitex_syntax.proofs.Seeking.{Seeks, seek-start, seek-element, seek_found, seek-next, seek-none}
+use Rattle.mitex_syntax.proofs.Seeking.{Seeks, seek-element, seek_found, seek-next, seek-none}
 use Rattle.mitex_syntax.proofs.find.Goals as goal
 
 -- in a turn of the loop there is an element: the child that `span_at` measures
@@ -19,20 +19,11 @@ kid :
     → e ≡ extent_of (drop i rows) → n ≡ token_sum (take (extent_of (drop i rows)) (drop i rows)) → ChildPart rows text i j e n
 kid pre seeks h hj is_e is_n = child-part (seek-element (seeks pre.forest pre.begins) h hj pre.few pre.short) _ _ is_e is_n
 
-pub loop-i-init : goal.loop-i-init
-loop-i-init c = (c.requires.low, c.requires.begun, λ f sp. seek-start _ f _ _ _ _ sp)
-
 pub span_at-s-requires : goal.span_at-s-requires
 span_at-s-requires c =
     let pre = c.requires in
     let inv = c.loop-i.invariant in
     spans (seek-element (inv.2 pre.forest pre.begins) c.loop-i-test.true inv.1 pre.few pre.short) pre.few pre.short
-
-pub overflow_add-end : goal.overflow_add-end
-overflow_add-end c =
-    let inv = c.loop-i.invariant in
-    let k = kid c.requires inv.2 c.loop-i-test.true inv.1 c.span_at-s.ensures.rows c.span_at-s.ensures.text in
-    let z = k.end in omega arith
 
 pub overflow_add-to : goal.overflow_add-to
 overflow_add-to c =
@@ -58,12 +49,6 @@ returns-then-is_wanted c =
     let pre = c.requires in
     λ f sp. there (seek_found (inv.2 f sp) c.loop-i-test.true inv.1 pre.few pre.short _ _ c.span_at-s.ensures.rows
     c.span_at-s.ensures.text c.is_wanted.ensures c.if-is_wanted.true)
-
-pub loop-i-smaller : goal.loop-i-smaller
-loop-i-smaller c =
-    let inv = c.loop-i.invariant in
-    let k = kid c.requires inv.2 c.loop-i-test.true inv.1 c.span_at-s.ensures.rows c.span_at-s.ensures.text in
-    let z = k.end in let y = k.some in omega arith
 
 pub loop-i-preserved : goal.loop-i-preserved
 loop-i-preserved c =

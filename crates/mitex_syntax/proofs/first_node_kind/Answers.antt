@@ -1,25 +1,13 @@
 -- In a turn of the loop a whole row is left (`nodes-inside`).
 use native.Mathlib.Omega.{arith}
-use Rattle.mitex_syntax.proofs.Seeking.{nodes-start, nodes-inside, nodes-end, nodes-found, nodes-next}
+use Rattle.mitex_syntax.proofs.Seeking.{nodes-inside, nodes-end, nodes-found, nodes-next}
 use Rattle.mitex_syntax.proofs.first_node_kind.Goals as goal
-
-pub loop-i-init : goal.loop-i-init
-loop-i-init c = (omega arith, λ f e. nodes-start f _ e)
-
-pub overflow_add-i : goal.overflow_add-i
-overflow_add-i c = omega (arith, nodes-inside (c.loop-i.invariant.1 c.requires.forest c.requires.rows_are) c.loop-i-test.true)
 
 pub bounds-rows-i : goal.bounds-rows-i
 bounds-rows-i c = omega (arith, nodes-inside (c.loop-i.invariant.1 c.requires.forest c.requires.rows_are) c.loop-i-test.true)
 
 pub returns-then-rows-i-ne1 : goal.returns-then-rows-i-ne1
 returns-then-rows-i-ne1 c = λ f e. nodes-found (c.loop-i.invariant.1 f e) c.loop-i-test.true c.if-rows-i-ne1.true
-
-pub overflow_add-i-in-loop-i : goal.overflow_add-i-in-loop-i
-overflow_add-i-in-loop-i c = omega (arith, nodes-inside (c.loop-i.invariant.1 c.requires.forest c.requires.rows_are) c.loop-i-test.true)
-
-pub loop-i-smaller : goal.loop-i-smaller
-loop-i-smaller c = omega (arith, nodes-inside (c.loop-i.invariant.1 c.requires.forest c.requires.rows_are) c.loop-i-test.true)
 
 pub loop-i-preserved : goal.loop-i-preserved
 loop-i-preserved c = (

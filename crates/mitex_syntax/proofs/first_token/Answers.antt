@@ -7,7 +7,7 @@ use Rattle.text.specs.Writing.{cap}
 use Rattle.mitex_syntax.specs.Tree.{Forest}
 use Rattle.mitex_syntax.specs.Rows.{num_of}
 use Rattle.mitex_syntax.specs.Spells.{Begins, SomeForest}
-use Rattle.mitex_syntax.proofs.Tokens.{Firsts, first-start, first_found, first-into, first-none, token-none}
+use Rattle.mitex_syntax.proofs.Tokens.{Firsts, first_found, first-into, first-none, token-none}
 use Rattle.mitex_syntax.proofs.first_token.Goals as goal
 
 -- a node's rows are whole
@@ -16,30 +16,14 @@ whole :
     → length l < cap → n ≡ num_of (drop 0 l) → (get_or l 1 0 ≡ 1 → ⊥) → 8 + 8 * n ≤ length l
 whole {n = n} pre left h few e k = (first-into (left pre.forest pre.begins) h few pre.short n e k).0
 
-pub loop-l-init : goal.loop-l-init
-loop-l-init c = (c.requires.few, λ f sp. first-start f _ _ sp)
-
 pub returns-then-l-eq1 : goal.returns-then-l-eq1
 returns-then-l-eq1 c =
     let inv = c.loop-l.invariant in
     λ f sp. first_found (inv.1 f sp) c.loop-l-test.true inv.0 c.requires.short _ c.number-n.ensures.0 _ c.if-l-eq1.true refl refl refl
 
-pub overflow_mul-l : goal.overflow_mul-l
-overflow_mul-l c =
-    omega (arith, whole c.requires c.loop-l.invariant.1 c.loop-l-test.true c.loop-l.invariant.0 c.number-n.ensures.0 c.if-l-eq1.false)
-
-pub overflow_add-l : goal.overflow_add-l
-overflow_add-l c =
-    omega (arith, whole c.requires c.loop-l.invariant.1 c.loop-l-test.true c.loop-l.invariant.0 c.number-n.ensures.0 c.if-l-eq1.false)
-
 pub slice_bounds-l-end : goal.slice_bounds-l-end
 slice_bounds-l-end c =
     omega (arith, whole c.requires c.loop-l.invariant.1 c.loop-l-test.true c.loop-l.invariant.0 c.number-n.ensures.0 c.if-l-eq1.false)
-
-pub loop-l-smaller : goal.loop-l-smaller
-loop-l-smaller c =
-    let w = whole c.requires c.loop-l.invariant.1 c.loop-l-test.true c.loop-l.invariant.0 c.number-n.ensures.0 c.if-l-eq1.false in
-    simp (length-take, length-drop) (omega arith)
 
 pub loop-l-preserved : goal.loop-l-preserved
 loop-l-preserved c =

@@ -15,8 +15,5 @@ bounds-rows-0-in-Other c = omega (arith, element-eight c.requires.tree _ c.requi
 pub returns-in-Kind : goal.returns-in-Kind
 returns-in-Kind c = λ t e. wanted-kind t _ e _ ∙ ap (λ (w : Wanted). is_wanted w t) (sym c.in-Kind.is)
 
-pub returns-in-ArgumentWith : goal.returns-in-ArgumentWith
-returns-in-ArgumentWith c = λ t e. c.is_argument_with.ensures t e ∙ ap (λ (w : Wanted). is_wanted w t) (sym c.in-ArgumentWith.is)
-
 pub returns-in-Other : goal.returns-in-Other
 returns-in-Other c = λ t e. wanted-any-other t _ e _ ∙ ap (λ (w : Wanted). is_wanted w t) (sym c.in-Other.is)

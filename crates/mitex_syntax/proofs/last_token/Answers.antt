@@ -1,47 +1,9 @@
 -- What holds after a step (`last-next`) holds for each forest that is spelt.
 use mathlib.Core.Path.{refl}
-use mathlib.Core.List.{List}
-use Prim.Native.Nat.{ℕ, ◌≤◌, ◌<◌, ◌+◌}
 use native.Mathlib.Omega.{arith}
-use lib.ListN.{length}
-use Rattle.mitex_syntax.specs.Tree.{Forest}
-use Rattle.mitex_syntax.specs.Spells.{Begins, SomeForest}
 use Rattle.mitex_syntax.proofs.Trees.{spans}
-use Rattle.mitex_syntax.proofs.Tokens.{Lasts, last-start, last-element, last_found, last-bare, last-next, last_none, token-none}
+use Rattle.mitex_syntax.proofs.Tokens.{last-element, last_found, last-bare, last-next, last_none, token-none}
 use Rattle.mitex_syntax.proofs.last_token.Goals as goal
-
--- in a turn of the loop a whole row is left
-eight :
-    {rows text : List ℕ} {i j : ℕ} (pre : SomeForest rows text 0 0) → ((f : Forest) → Begins f rows text → Lasts f rows text i j)
-    → i < length rows → j ≤ length text → i + 8 ≤ length rows
-eight pre lasts h hj =
-    let x = last-element (lasts pre.forest pre.begins) h hj pre.few pre.short in
-    let z = x.end in let y = x.some in omega arith
-
-pub loop-i-init : goal.loop-i-init
-loop-i-init c = (omega arith, omega arith, λ f sp. last-start f _ _ sp)
-
-pub overflow_add-i : goal.overflow_add-i
-overflow_add-i c = omega (arith, eight c.requires c.loop-i.invariant.2 c.loop-i-test.true c.loop-i.invariant.1)
-
-pub overflow_add-i-then-i-rows : goal.overflow_add-i-then-i-rows
-overflow_add-i-then-i-rows c = omega (arith, eight c.requires c.loop-i.invariant.2 c.loop-i-test.true c.loop-i.invariant.1)
-
-pub bounds-rows-i : goal.bounds-rows-i
-bounds-rows-i c = omega (arith, eight c.requires c.loop-i.invariant.2 c.loop-i-test.true c.loop-i.invariant.1)
-
-pub number-requires : goal.number-requires
-number-requires c = omega (arith, eight c.requires c.loop-i.invariant.2 c.loop-i-test.true c.loop-i.invariant.1)
-
-pub overflow_add-result : goal.overflow_add-result
-overflow_add-result c =
-    let pre = c.requires in
-    let inv = c.loop-i.invariant in
-    omega (
-      arith,
-      (last_found (inv.2 pre.forest pre.begins) c.loop-i-test.true inv.1 pre.few pre.short c.if-i-rows.true _
-          c.number.ensures.0 c.if-rows-i-eq1.true).0,
-    )
 
 pub returns-then-rows-i-eq1 : goal.returns-then-rows-i-eq1
 returns-then-rows-i-eq1 c =

@@ -5,11 +5,6 @@ use Rattle.mitex_syntax.specs.Rows.{token_sum}
 use Rattle.mitex_syntax.proofs.Reading.{token_sum-at, token_sum-nil}
 use Rattle.mitex_syntax.proofs.text_len.Goals as goal
 
-pub overflow_add-sum : goal.overflow_add-sum
-overflow_add-sum c =
-    omega
-    (arith, token_sum-at c.args.rows.now c.loop-i.i (omega arith), c.token_len-sum.ensures)
-
 pub loop-i-preserved : goal.loop-i-preserved
 loop-i-preserved c = (
   omega arith,

@@ -1,5 +1,4 @@
 use mathlib.Core.Path.{refl, sym, ◌∙◌}
-use Prim.Native.Nat.{◌-◌}
 use native.Mathlib.Omega.{arith}
 use Rattle.mitex_tables.proofs.Letters.{letters-next, letters-stop, letters-end}
 use Rattle.mitex_tables.proofs.letters_fit.Goals as goal

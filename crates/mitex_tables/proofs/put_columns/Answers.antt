@@ -4,7 +4,7 @@ use mathlib.Core.List.{◌++◌}
 use Rattle.text.specs.Writing.{decimal}
 use Rattle.text.proofs.Writing.{wrote_as, wrote_then}
 use Rattle.mitex_meaning.specs.Texts.{columns_begin, align_begin}
-use Rattle.mitex_meaning.specs.Tables.{columns, alignments}
+use Rattle.mitex_meaning.specs.Tables.{alignments}
 use Rattle.mitex_tables.proofs.Letters.{columns-parts}
 use Rattle.mitex_tables.proofs.put_columns.Goals as goal
 

@@ -1,12 +1,9 @@
-use mathlib.Core.Path.{refl, sym, ap, ◌∙◌}
+use mathlib.Core.Path.{sym, ap, ◌∙◌}
 use mathlib.Core.Bool.{◌&&◌, and-true}
 use native.Mathlib.Omega.{arith}
 use lib.Dec.{leb}
 use Rattle.utf8.proofs.Texts.{one-next, one_end}
 use Rattle.utf8.proofs.one_byte_each.Goals as goal
-
-pub loop-i-init : goal.loop-i-init
-loop-i-init c = (omega arith, refl)
 
 pub loop-i-preserved : goal.loop-i-preserved
 loop-i-preserved c =

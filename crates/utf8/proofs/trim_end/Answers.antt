@@ -2,9 +2,7 @@ use mathlib.Core.Path.{◌≡◌, sym, ap, ◌∙◌}
 use mathlib.Core.Bool.{Bool}
 use mathlib.Core.List.{List}
 use Prim.Native.Nat.{ℕ, ◌-◌}
-use native.Mathlib.Omega.{arith}
 use lib.ListN.{length, take, drop}
-use lib.Seq.{length-take-le}
 use Rattle.text.proofs.Writing.{part-rest}
 use Rattle.utf8.specs.Chars.{is_white}
 use Rattle.utf8.proofs.Trimming.{trim_end-white, trim_end-done, trim_end-none}
@@ -18,15 +16,6 @@ pub returns-then-not-is_white : goal.returns-then-not-is_white
 returns-then-not-is_white c =
     trim_end-done _ _ c.last_at-k.ensures (tested c.loop-t.t.now c.last_at-k.result _ c.is_white.ensures ∙ c.if-not-is_white.true)
     ∙ c.loop-t.invariant
-
-pub slice_bounds-t-end : goal.slice_bounds-t-end
-slice_bounds-t-end c =
-    sym (length-take-le _ _ (let h = c.last_at-k.ensures.within in omega arith))
-
-pub loop-t-smaller : goal.loop-t-smaller
-loop-t-smaller c =
-    let h = c.last_at-k.ensures.within in
-    rw (length-take-le c.last_at-k.result c.loop-t.t.now (omega arith)) h
 
 pub loop-t-preserved : goal.loop-t-preserved
 loop-t-preserved c =

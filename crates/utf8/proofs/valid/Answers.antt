@@ -10,9 +10,6 @@ use Rattle.utf8.proofs.valid.Goals as goal
 pub returns-then-one_byte_each : goal.returns-then-one_byte_each
 returns-then-one_byte_each c = sym (one-valid _ (sym c.one_byte_each.ensures ∙ c.if-one_byte_each.true))
 
-pub loop-i-init : goal.loop-i-init
-loop-i-init c = (omega arith, rw c.plain-u.ensures)
-
 pub loop-i-preserved : goal.loop-i-preserved
 loop-i-preserved c =
     let at = c.loop-i in

@@ -1,9 +1,0 @@
--- The test that decides which is the greater.
-use borrow.Author.Tests.{lt-ltb, le-ltb}
-use Rattle.utf8.proofs.greater.Goals as goal
-
-pub returns-then-a-b : goal.returns-then-a-b
-returns-then-a-b c = rw (lt-ltb _ _ c.if-a-b.true)
-
-pub returns : goal.returns
-returns c = rw (le-ltb _ _ c.if-a-b.false)
