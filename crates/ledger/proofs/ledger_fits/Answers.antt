@@ -1,7 +1,7 @@
 use native.Mathlib.Omega.{arith}
 use mathlib.Core.Path.{ap}
 use mathlib.Core.Bool.{not}
-use Rattle.ledger.proofs.Fitting.{fits-few, fits-start, fits-falls, fits_not, fits_next, fits_last}
+use Rattle.ledger.proofs.Fitting.{fits-few, fits-start, fits-falls, fits_not, fits_next}
 use Rattle.ledger.proofs.ledger_fits.Goals as goal
 
 pub returns-then-ledger-blocks : goal.returns-then-ledger-blocks

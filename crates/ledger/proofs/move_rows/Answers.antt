@@ -1,6 +1,5 @@
 use native.Mathlib.Omega.{arith}
-use Prim.Native.Nat.{◌-◌}
-use Rattle.ledger.proofs.Moving.{rows-moved-none, rows-moved-same, rows-moved-movable, rows-moved-more, rows-moved-all}
+use Rattle.ledger.proofs.Moving.{rows-moved-same, rows-moved-movable, rows-moved-more}
 use Rattle.ledger.proofs.move_rows.Goals as goal
 
 pub move_row-requires : goal.move_row-requires

@@ -4,10 +4,6 @@ use Rattle.passes.specs.Passes.{Pieced}
 use Rattle.passes.proofs.Rewriting.{BlocksLeft}
 use Rattle.passes.proofs.write_blocks.Given as goal
 
--- and the block, after the writing of its row
-abbrev pub block : tie.After-slice-known4 invariant-loop decreases-loop → tie.After-next-block invariant-loop decreases-loop
-block c = let d = c.before.before.before in d.before.before.before.before
-
 abbrev pub invariant-loop-s : goal.invariant-loop-s
 invariant-loop-s l = (w : Pieced l.rules l.index l.rows l.text l.initial.s l.to l.initial.ledger) → BlocksLeft w l.initial.out l.s l.out l.ledger
 

@@ -1,5 +1,5 @@
--- The answer by its tests (`answer-by`); where it is 0, the row fits (`row_kept`), and the writer and the buffer are those after the step.
-use mathlib.Core.Path.{◌≡◌, refl, sym, ◌∙◌}
+-- The answer by its tests (`answer-by`); where it is 0, the row fits, and the writer and the buffer are those after the step.
+use mathlib.Core.Path.{refl, sym, ◌∙◌}
 use Rattle.tree_writer.specs.Steps.{adds_token}
 use Rattle.tree_writer.proofs.Answers.{answer-by, gives-refused, gives-done, writer_token, buffer-token}
 use Rattle.tree_writer.proofs.add_token.Goals as goal

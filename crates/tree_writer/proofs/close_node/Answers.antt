@@ -1,5 +1,5 @@
 -- Whether the step may be tried is the answer; then the innermost row is in the buffer (`close-kept`).
-use mathlib.Core.Path.{◌≡◌, refl, sym, ◌∙◌}
+use mathlib.Core.Path.{refl, sym, ◌∙◌}
 use native.Mathlib.Omega.{arith}
 use Rattle.tree_writer.specs.Steps.{closes_node}
 use Rattle.tree_writer.proofs.Answers.{refused-by, accepted-by, close-kept, gives-refused, gives-done, writer-close, buffer-close}

@@ -1,5 +1,5 @@
 -- Whether the step may be tried is the answer; then the file fits the buffer (`finish-kept`).
-use mathlib.Core.Path.{◌≡◌, refl, sym, ◌∙◌}
+use mathlib.Core.Path.{refl, sym, ◌∙◌}
 use native.Mathlib.Omega.{arith}
 use Rattle.tree_writer.specs.Steps.{finishes}
 use Rattle.tree_writer.proofs.Answers.{refused-by, accepted-by, finish-kept, gives-refused, gives-done, writer-finish, buffer-finish}

@@ -1,5 +1,5 @@
 -- The numbers are a writer, or the answer is 16; the step of that writer is the step of the numbers (`steps-in`).
-use mathlib.Core.Path.{◌≡◌, sym, ◌∙◌}
+use mathlib.Core.Path.{sym, ◌∙◌}
 use Rattle.tree_writer.specs.Steps.{opens_node}
 use Rattle.tree_writer.proofs.Numbers.{steps-no-state, steps-in}
 use Rattle.tree_writer.proofs.open_in.Goals as goal

@@ -1,9 +1,7 @@
--- The answer by its tests (`answer-by`); where it is 0, the row fits (`row_kept`), and the writer and the buffer are those after the step.
-use mathlib.Core.Path.{◌≡◌, refl, sym, ◌∙◌}
-use native.Mathlib.Omega.{arith}
+-- The answer by its tests (`answer-by`); where it is 0, the row fits, and the writer and the buffer are those after the step.
+use mathlib.Core.Path.{refl, sym, ◌∙◌}
 use Rattle.tree_writer.specs.Steps.{opens_node}
-use Rattle.tree_writer.specs.Writers.{answer_step}
-use Rattle.tree_writer.proofs.Answers.{RowKept, answer-by, row_kept, gives-refused, gives-done, writer-open, buffer-open}
+use Rattle.tree_writer.proofs.Answers.{answer-by, gives-refused, gives-done, writer-open, buffer-open}
 use Rattle.tree_writer.proofs.open_node.Goals as goal
 
 pub returns-then-number-ne0 : goal.returns-then-number-ne0
