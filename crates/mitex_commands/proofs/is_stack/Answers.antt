@@ -4,7 +4,7 @@ use mathlib.Core.List.{List}
 use Prim.Native.Nat.{ℕ}
 use Rattle.text.specs.Compare.{same}
 use Rattle.mitex_meaning.specs.Texts.{substack_name}
-use Rattle.mitex_commands.proofs.Naming.{name-strong, name-emph, name-written, name-math, strong-no-stack, emph-no-stack}
+use Rattle.mitex_commands.proofs.Naming.{name-strong, name-emph, strong-no-stack, emph-no-stack}
 use Rattle.mitex_commands.proofs.is_stack.Goals as goal
 
 pub returns-then-same : goal.returns-then-same
@@ -15,12 +15,3 @@ returns-then-same-2 c =
     sym (ap (λ (w : List ℕ). same w substack_name)
     (name-emph _ _ c.in-Text.is (sym c.same.ensures ∙ c.if-same.false) (sym c.same-in-Text.ensures ∙ c.if-same-2.true))
     ∙ emph-no-stack)
-
-pub returns-else-same-2 : goal.returns-else-same-2
-returns-else-same-2 c =
-    c.same-in-Text-2.ensures
-    ∙ sym (ap (λ (w : List ℕ). same w substack_name)
-    (name-written _ _ c.in-Text.is (sym c.same.ensures ∙ c.if-same.false) (sym c.same-in-Text.ensures ∙ c.if-same-2.false)))
-
-pub returns-in-Math : goal.returns-in-Math
-returns-in-Math c = c.same-in-Math.ensures ∙ sym (ap (λ (w : List ℕ). same w substack_name) (name-math _ _ c.in-Math.is))

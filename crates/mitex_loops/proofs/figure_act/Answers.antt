@@ -14,12 +14,6 @@ returns-then-is_ends c =
     let ends = ap is_ends (sym (kind-spelt t sp)) ∙ sym c.is_ends.ensures in
     rw (ends ∙ c.if-is_ends.true)
 
-pub returns-then-is_named : goal.returns-then-is_named
-returns-then-is_named c =
-    λ t f sp.
-    let ends = ap is_ends (sym (kind-spelt t sp)) ∙ sym c.is_ends.ensures in
-    rw (ends ∙ c.if-is_ends.false, sym (c.is_named.ensures t sp) ∙ c.if-is_named.true)
-
 pub returns : goal.returns
 returns c =
     λ t f sp.

@@ -1,24 +1,11 @@
 use mathlib.Core.Path.{sym, ◌∙◌}
-use native.Mathlib.Omega.{arith}
-use Rattle.mitex_loops.proofs.Steady.{blank-start, blank-end, blank-stop, blank-next}
+use Rattle.mitex_loops.proofs.Steady.{blank-end, blank-stop, blank-next}
 use Rattle.mitex_loops.proofs.is_blank_group.Goals as goal
-
-pub loop-i-init : goal.loop-i-init
-loop-i-init c = λ f text sp. blank-start sp
-
-pub bounds-rows-i : goal.bounds-rows-i
-bounds-rows-i c = omega arith
 
 pub returns-then-not-is_blank : goal.returns-then-not-is_blank
 returns-then-not-is_blank c =
     let kind = sym c.is_blank.ensures ∙ c.if-not-is_blank.true in
     λ f text sp. sym (blank-stop (c.loop-i.invariant f text sp) c.loop-i-test.true kind)
-
-pub overflow_add-i : goal.overflow_add-i
-overflow_add-i c = omega arith
-
-pub loop-i-smaller : goal.loop-i-smaller
-loop-i-smaller c = omega arith
 
 pub loop-i-preserved : goal.loop-i-preserved
 loop-i-preserved c =

@@ -1,7 +1,6 @@
 use mathlib.Core.Path.{refl, sym, ap, ◌∙◌}
 use native.Mathlib.Omega.{arith}
 use lib.ListN.{get_or}
-use lib.Seq.{take_all}
 use Rattle.mitex_meaning.specs.Tables.{columns}
 use Rattle.mitex_tables.specs.Letters.{counted}
 use Rattle.mitex_tables.proofs.Letters.{columns-more, counted-most}
@@ -18,9 +17,3 @@ loop-i-preserved c =
     let b = get_or s loop.i 0 in
     let e = c.counted-n.ensures in
     (omega arith, omega (arith, e, counted-most loop.n b), e ∙ ap (λ m. counted m b) loop.invariant.2 ∙ sym (columns-more s loop.i (omega arith)))
-
-pub returns : goal.returns
-returns c =
-    let loop = c.loop-i in
-    let s = c.args.s.now in
-    (loop.invariant.2 ∙ ap columns (take_all loop.i s c.loop-i-test.false), omega arith)

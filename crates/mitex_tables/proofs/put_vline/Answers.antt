@@ -1,15 +1,8 @@
 -- `put_vline`: nothing for another letter; else three parts, one after the other.
-use mathlib.Core.Path.{◌≡◌, sym, ap}
-use mathlib.Core.List.{[]}
-use borrow.Author.Tests.{ne_eqb}
-use Rattle.text.proofs.Writing.{wrote_as, wrote-nil, wrote_then}
+use mathlib.Core.Path.{sym, ap}
+use Rattle.text.proofs.Writing.{wrote_as, wrote_then}
 use Rattle.mitex_tables.specs.Letters.{vline}
 use Rattle.mitex_tables.proofs.put_vline.Goals as goal
-
-pub returns-then-b-ne-LINE : goal.returns-then-b-ne-LINE
-returns-then-b-ne-LINE c =
-    let e : [] ≡ vline c.args.n c.args.b = rw (ne_eqb _ _ c.if-b-ne-LINE.true) in
-    wrote_as e (wrote-nil _ _ c.requires.0)
 
 pub returns : goal.returns
 returns c =

@@ -2,8 +2,7 @@ use mathlib.Core.Path.{refl, sym, ap, ◌∙◌}
 use mathlib.Core.List.{◌++◌}
 use native.Mathlib.Omega.{arith}
 use lib.ListN.{take, get_or}
-use lib.Seq.{take_all}
-use Rattle.text.proofs.Writing.{wrote-nil, wrote_as, wrote_then, wrote-low, wrote-long}
+use Rattle.text.proofs.Writing.{wrote-nil, wrote_as, wrote_then}
 use Rattle.mitex_meaning.specs.Tables.{columns, vlines}
 use Rattle.mitex_tables.specs.Letters.{counted, vline}
 use Rattle.mitex_tables.proofs.Letters.{columns-more, counted-most, vlines-more}
@@ -12,11 +11,6 @@ use Rattle.mitex_tables.proofs.put_vlines.Goals as goal
 pub loop-i-init : goal.loop-i-init
 unfolding vlines columns
 loop-i-init c = (omega arith, omega arith, refl, wrote-nil _ _ c.requires.0)
-
-pub put_vline-p-requires : goal.put_vline-p-requires
-put_vline-p-requires c =
-    let w = c.loop-i.invariant.3 in
-    (wrote-low w, omega (arith, wrote-long w, c.requires.1))
 
 pub loop-i-preserved : goal.loop-i-preserved
 loop-i-preserved c =
@@ -27,10 +21,3 @@ loop-i-preserved c =
     let w = wrote_then c.requires.1 loop.invariant.3 c.put_vline-p.ensures in
     let v = ap (λ m. vlines 0 (take loop.i s) ++ vline m b) loop.invariant.2 ∙ sym (vlines-more s loop.i (omega arith)) in
     (omega arith, omega (arith, e, counted-most loop.n b), e ∙ ap (λ m. counted m b) loop.invariant.2 ∙ sym (columns-more s loop.i (omega arith)), wrote_as v w)
-
-pub shape_of-out : goal.shape_of-out
-shape_of-out c = wrote-long c.loop-i.invariant.3
-
-pub returns : goal.returns
-returns c =
-    wrote_as (ap (vlines 0) (take_all c.loop-i.i c.args.s.now c.loop-i-test.false)) c.loop-i.invariant.3
