@@ -4,12 +4,13 @@
 #![tactic(auto)]
 
 ghost use Rattle.std.specs.Prelude.{◌≡◌, ◌+◌, ◌≤◌, length};
-ghost use Rattle.io.specs.Counts.{IsPrefixLen};
+ghost use Rattle.console.specs.Counts.{IsPrefixLen};
 ghost use Rattle.cases.specs.Held.{buffer_most, Within, CaseHeld};
 
 use calls::{Converted, Edited};
 use ledger::ROW_SIZE;
-use libc::{STDIN_FILENO, STDOUT_FILENO};
+use std::io;
+use std::io::Read;
 use text::FILE_MOST;
 use tree_file::BLOCKS_MOST;
 
@@ -509,41 +510,39 @@ fn step_passes(
 
 // ---- the parts
 
-// Says which case failed, and at which call.
-fn print_failure(name: &[u8], call: usize) {
-    io::write_all(STDOUT_FILENO, name);
-    io::write_all(STDOUT_FILENO, b" fails at call ");
-    io::print_decimal(STDOUT_FILENO, call as u64);
-    io::write_all(STDOUT_FILENO, b"\n");
+// Says which case failed, and at which call. A line that cannot be written is left out.
+fn print_failure(rt: &impl Print, name: &[u8], call: usize) {
+    let _ = rt.write_all(name);
+    let _ = println!(rt; " fails at call {call}");
 }
 
 // A case that failed once more.
-fn fails(input: &[u8], c: Case) -> Case
+fn fails(rt: &impl Print, input: &[u8], c: Case) -> Case
     requires { CaseHeld (length input.now) c }
     ensures { CaseHeld (length input.now) result }
 {
-    print_failure(bytes_of(input, c.name), c.calls);
+    print_failure(rt, bytes_of(input, c.name), c.calls);
     let mut d = c;
     d.failed = sum(c.failed, 1);
     d
 }
 
 // The sizes that a part names, if there are such buffers.
-fn sized(input: &[u8], part: InputPart, c: Case) -> Case
+fn sized(rt: &impl Print, input: &[u8], part: InputPart, c: Case) -> Case
     requires { Within (length input.now) part × CaseHeld (length input.now) c }
     ensures { CaseHeld (length input.now) result }
 {
     let from = part.from;
     if part.to - from < 8 {
-        return fails(input, c);
+        return fails(rt, input, c);
     }
     let text_size = text::read_u32(input, from);
     let ledger_size = text::read_u32(input, from + 4);
     if BUFFER < text_size {
-        return fails(input, c);
+        return fails(rt, input, c);
     }
     if BUFFER < ledger_size {
-        return fails(input, c);
+        return fails(rt, input, c);
     }
     let mut d = c;
     d.text_size = text_size;
@@ -560,7 +559,7 @@ fn is_call(tag: u8) -> bool {
 }
 
 // A part that says something of the case.
-fn told(input: &[u8], tag: u8, part: InputPart, c: Case) -> Case
+fn told(rt: &impl Print, input: &[u8], tag: u8, part: InputPart, c: Case) -> Case
     requires { Within (length input.now) part × CaseHeld (length input.now) c }
     ensures { CaseHeld (length input.now) result }
 {
@@ -586,7 +585,7 @@ fn told(input: &[u8], tag: u8, part: InputPart, c: Case) -> Case
         return d;
     }
     if tag == SIZES {
-        return sized(input, part, c);
+        return sized(rt, input, part, c);
     }
     if is_call(tag) {
         d.calls = sum(c.calls, 1);
@@ -627,6 +626,7 @@ fn lay(
 
 // A call that is a part.
 fn replay_call(
+    rt: &impl Print,
     input: &[u8],
     part: InputPart,
     c: Case,
@@ -640,16 +640,17 @@ fn replay_call(
 {
     let from = part.from;
     if part.to - from < CALL_SIZE {
-        return fails(input, c);
+        return fails(rt, input, c);
     }
     if passes(input, from, c, text, ledger, text_due, ledger_due) {
         return c;
     }
-    fails(input, c)
+    fails(rt, input, c)
 }
 
 // A step that is a part.
 fn replay_step(
+    rt: &impl Print,
     input: &[u8],
     part: InputPart,
     c: Case,
@@ -662,16 +663,17 @@ fn replay_step(
     ensures { CaseHeld (length input.now) result }
 {
     if part.to - part.from < STEP_SIZE {
-        return fails(input, c);
+        return fails(rt, input, c);
     }
     if step_passes(input, part, c, text, spelt, text_due, state) {
         return c;
     }
-    fails(input, c)
+    fails(rt, input, c)
 }
 
 // A part in turn: what it says, what it lays down, and the call or the step that it is.
 fn take_part(
+    rt: &impl Print,
     input: &[u8],
     tag: u8,
     part: InputPart,
@@ -687,19 +689,19 @@ fn take_part(
 {
     let from = part.from;
     let to = part.to;
-    let d = told(input, tag, part, c);
+    let d = told(rt, input, tag, part, c);
     lay(tag, &input[from..to], text, ledger, text_due, ledger_due);
     if tag == CALL {
-        return replay_call(input, part, d, text, ledger, text_due, ledger_due);
+        return replay_call(rt, input, part, d, text, ledger, text_due, ledger_due);
     }
     if tag == STEP {
-        return replay_step(input, part, d, text, ledger, text_due, state);
+        return replay_step(rt, input, part, d, text, ledger, text_due, state);
     }
     d
 }
 
 // All parts of a case in turn.
-fn replay(input: &[u8]) -> Case {
+fn replay(rt: &impl Print, input: &[u8]) -> Case {
     let mut text = [0u8; BUFFER];
     let mut ledger = [0u8; BUFFER];
     let mut text_due = [0u8; BUFFER];
@@ -720,16 +722,17 @@ fn replay(input: &[u8]) -> Case {
     let mut i = 0;
     while i < input.len() {
         if input.len() - i < 5 {
-            return fails(input, c);
+            return fails(rt, input, c);
         }
         let from = i + 5;
         let n = text::read_u32(input, i + 1);
         if input.len() - from < n {
-            return fails(input, c);
+            return fails(rt, input, c);
         }
         let to = from + n;
         let part = InputPart { from, to };
         c = take_part(
+            rt,
             input,
             input[i],
             part,
@@ -748,24 +751,24 @@ fn replay(input: &[u8]) -> Case {
 // ---- the cases
 
 // Fills `buffer` with the next case and answers its length; 0 where there is none, or none that has room.
-fn read_case(buffer: &mut [u8]) -> usize
+fn read_case<R: Read>(reader: &mut R, buffer: &mut [u8]) -> usize
     ensures { IsPrefixLen result buffer.new }
 {
     let mut size = [0u8; 4];
-    if io::read_full(STDIN_FILENO, &mut size) < 4 {
+    if console::read_full(reader, &mut size) < 4 {
         return 0;
     }
     let n = text::read_u32(&size, 0);
     if buffer.len() < n {
         return 0;
     }
-    io::read_full(STDIN_FILENO, &mut buffer[..n])
+    console::read_full(reader, &mut buffer[..n])
 }
 
 // Replays the next case.
-fn replay_next(t: Tally) -> Tally {
+fn replay_next<R: Read>(rt: &impl Print, reader: &mut R, t: Tally) -> Tally {
     let mut buffer = [0u8; CASE_MOST];
-    let n = read_case(&mut buffer);
+    let n = read_case(reader, &mut buffer);
     if n == 0 {
         return Tally {
             cases: t.cases,
@@ -774,7 +777,7 @@ fn replay_next(t: Tally) -> Tally {
             ended: true,
         };
     }
-    let c = replay(&buffer[..n]);
+    let c = replay(rt, &buffer[..n]);
     Tally {
         cases: sum(t.cases, 1),
         calls: sum(t.calls, c.calls),
@@ -784,7 +787,7 @@ fn replay_next(t: Tally) -> Tally {
 }
 
 // Replays all cases.
-fn replay_all() -> Tally {
+fn replay_all<R: Read>(rt: &impl Print, reader: &mut R) -> Tally {
     let mut t = Tally {
         cases: 0,
         calls: 0,
@@ -796,18 +799,16 @@ fn replay_all() -> Tally {
         if t.ended {
             return t;
         }
-        t = replay_next(t);
+        t = replay_next(rt, reader, t);
         turns += 1;
     }
     t
 }
 
-fn main() {
-    let t = replay_all();
-    io::print_decimal(STDOUT_FILENO, t.cases as u64);
-    io::write_all(STDOUT_FILENO, b" cases, ");
-    io::print_decimal(STDOUT_FILENO, t.calls as u64);
-    io::write_all(STDOUT_FILENO, b" calls, ");
-    io::print_decimal(STDOUT_FILENO, t.failed as u64);
-    io::write_all(STDOUT_FILENO, b" failed\n");
+fn main(rt: HostRuntime) -> io::Result<()> {
+    let t = replay_all(&rt, &mut rt.reader());
+    let cases = t.cases;
+    let calls = t.calls;
+    let failed = t.failed;
+    println!(rt; "{cases} cases, {calls} calls, {failed} failed")
 }

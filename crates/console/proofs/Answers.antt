@@ -7,11 +7,11 @@ use lib.Dec.{leb, ltb}
 use borrow.Author.Tests.{le-leb, lt-leb}
 use lib.ListN.{length, length-append}
 use lib.Seq.{length-take-le}
-use Rattle.io.specs.Counts.{IsPrefixLen}
+use Rattle.console.specs.Counts.{IsPrefixLen}
 use Rattle.text.specs.Ascii.{ascii}
-use Rattle.text.specs.Writing.{Wrote, digits, decimal}
+use Rattle.text.specs.Writing.{cap, Wrote, digits, decimal}
 use Rattle.text.proofs.Compare.{by-test}
-use Rattle.text.proofs.Writing.{wrote_as, wrote-long}
+use Rattle.text.proofs.Writing.{wrote_as, wrote_then, wrote-long}
 use Rattle.console.specs.Answers.{answer_most, difference, refusal_line, edited_line}
 
 -- ---- its parts
@@ -65,3 +65,29 @@ line-written {out} {w} {line} {r} {out'} l e h p =
     let n = q.next in
     let long = wrote-long q in
     let fits : r ≤ length out' = omega arith in (q, (fits, sym (length-take-le r out' fits)))
+
+-- seven parts, one after the other
+pub edited-written :
+    (size kept count : ℕ) {out₀ out₁ out₂ out₃ out₄ out₅ out₆ out₇ : List ℕ} {a b c d e f r : ℕ} → length out₀ ≡ answer_most
+    → Wrote 0 out₀ (ascii "ok ") a out₁ → Wrote a out₁ (decimal size) b out₂ → Wrote b out₂ (ascii " ") c out₃
+    → Wrote c out₃ (difference size kept) d out₄ → Wrote d out₄ (ascii " ") e out₅ → Wrote e out₅ (decimal count) f out₆
+    → Wrote f out₆ (ascii "\n") r out₇ → Wrote 0 out₀ (edited_line size kept count) r out₇ × IsPrefixLen r out₇
+edited-written size kept count {out₀} l w₁ w₂ w₃ w₄ w₅ w₆ w₇ =
+    let h : length out₀ ≤ cap = omega arith in
+    line-written l
+    (seven-parts (ascii "ok ") (decimal size) (ascii " ") (difference size kept) (ascii " ") (decimal count) (ascii "\n"))
+    (edited-most size kept count)
+    (wrote_then h (wrote_then h (wrote_then h (wrote_then h (wrote_then h (wrote_then h w₁ w₂) w₃) w₄) w₅) w₆) w₇)
+
+-- five parts, one after the other
+pub refusal-written :
+    (number row : ℕ) {out₀ out₁ out₂ out₃ out₄ out₅ : List ℕ} {a b c d r : ℕ} → length out₀ ≡ answer_most
+    → Wrote 0 out₀ (ascii "refused ") a out₁ → Wrote a out₁ (decimal number) b out₂ → Wrote b out₂ (ascii " at ") c out₃
+    → Wrote c out₃ (decimal row) d out₄ → Wrote d out₄ (ascii "\n") r out₅
+    → Wrote 0 out₀ (refusal_line number row) r out₅ × IsPrefixLen r out₅
+refusal-written number row {out₀} l w₁ w₂ w₃ w₄ w₅ =
+    let h : length out₀ ≤ cap = omega arith in
+    line-written l
+    (five-parts (ascii "refused ") (decimal number) (ascii " at ") (decimal row) (ascii "\n"))
+    (refusal-most number row)
+    (wrote_then h (wrote_then h (wrote_then h (wrote_then h w₁ w₂) w₃) w₄) w₅)

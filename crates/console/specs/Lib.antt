@@ -1,3 +1,4 @@
+pub mod Counts
 pub mod Mode
 pub mod Request
 pub mod Answers

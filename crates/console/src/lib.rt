@@ -3,11 +3,15 @@
 #![tactic(auto)]
 
 ghost use Rattle.std.specs.Prelude.{◌≡◌, true, ◌≤◌, length};
-ghost use Rattle.io.specs.Counts.{IsPrefixLen};
+ghost use Rattle.console.specs.Counts.{IsPrefixLen};
 ghost use Rattle.text.specs.Writing.{cap, Wrote};
 ghost use Rattle.console.specs.Mode.{mode_by, mode_in};
 ghost use Rattle.console.specs.Request.{digit_fits, with_digit, number_spelt, part_before, part_after, both, line_request, request_in};
 ghost use Rattle.console.specs.Answers.{difference, refusal_line, edited_line};
+
+use std::fs::File;
+use std::io::Read;
+use std::rt::Files;
 
 // What is no mode: it is refused as 1.
 const NO_MODE: u8 = 2;
@@ -28,17 +32,34 @@ pub enum Request {
 
 // ---- files
 
-// Fills `buffer` from the file of this name and answers how many bytes came. One that is missing or cannot be read counts as empty.
-pub fn read_file(name: &[u8], buffer: &mut [u8]) -> usize
+// Fills `buffer` from a reader and answers how many bytes came. A read that fails ends the input.
+pub fn read_full<R: Read>(reader: &mut R, buffer: &mut [u8]) -> usize
     ensures { IsPrefixLen result buffer.new }
 {
-    let fd = os::open_read(name);
-    if fd < 0 {
-        return 0;
+    let mut done = 0;
+    while done < buffer.len() {
+        let Ok(n) = reader.read(&mut buffer[done..]) else {
+            return done;
+        };
+        if n == 0 {
+            return done;
+        }
+        done += n;
     }
-    let n = io::read_full(fd, buffer);
-    libc::close(fd);
-    n
+    done
+}
+
+// Fills `buffer` from the file of this name and answers how many bytes came. One that is missing or cannot be read counts as empty.
+pub fn read_file(rt: &impl Files, name: &[u8], buffer: &mut [u8]) -> usize
+    ensures { IsPrefixLen result buffer.new }
+{
+    let Ok(path) = str::from_utf8(name) else {
+        return 0;
+    };
+    let Ok(mut file) = File::open(rt, path) else {
+        return 0;
+    };
+    read_full(&mut file, buffer)
 }
 
 // ---- the mode

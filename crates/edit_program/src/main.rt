@@ -5,7 +5,8 @@
 
 use calls::Edited;
 use console::{ANSWER_MOST, LINE_MOST, Request};
-use libc::{STDIN_FILENO, STDOUT_FILENO};
+use std::io;
+use std::rt::Files;
 use text::FILE_MOST;
 
 // A byte more than a file may have, so that a longer one is seen and refused.
@@ -15,32 +16,39 @@ const FILE_READ: usize = FILE_MOST + 1;
 const BUFFER_MOST: usize = 65536;
 
 // What the first line of standard input asks for.
-fn read_request() -> Request {
+fn read_request(rt: &impl Input) -> Request {
     let mut line = [0u8; LINE_MOST];
-    let n = io::read_full(STDIN_FILENO, &mut line);
+    let n = console::read_full(&mut rt.reader(), &mut line);
     console::request_in(&line[..n])
 }
 
 // Writes the line of a refusal.
-fn print_refusal(number: u8, row: usize) {
+fn print_refusal(rt: &impl Print, number: u8, row: usize) -> io::Result<()> {
     let mut line = [0u8; ANSWER_MOST];
     let n = console::put_refusal(&mut line, number, row);
-    io::write_all(STDOUT_FILENO, &line[..n]);
+    rt.write_all(&line[..n])
 }
 
 // Writes the line of an edit.
-fn print_edited(length: usize, kept: usize, count: usize) {
+fn print_edited(rt: &impl Print, length: usize, kept: usize, count: usize) -> io::Result<()> {
     let mut line = [0u8; ANSWER_MOST];
     let n = console::put_edited(&mut line, length, kept, count);
-    io::write_all(STDOUT_FILENO, &line[..n]);
+    rt.write_all(&line[..n])
 }
 
 // Edits, and says what came of it. The growth is the new length less the kept one.
-fn edit_block(mode: u8, block: usize, kept: usize, text: &mut [u8], ledger: &mut [u8]) {
+fn edit_block(
+    rt: &(impl Files + Print),
+    mode: u8,
+    block: usize,
+    kept: usize,
+    text: &mut [u8],
+    ledger: &mut [u8],
+) -> io::Result<()> {
     let mut rules = [0u8; FILE_READ];
-    let rules_size = console::read_file(b"rules.bin", &mut rules);
+    let rules_size = console::read_file(rt, b"rules.bin", &mut rules);
     let mut tree = [0u8; FILE_READ];
-    let tree_size = console::read_file(b"tree.bin", &mut tree);
+    let tree_size = console::read_file(rt, b"tree.bin", &mut tree);
     match calls::edit(
         mode,
         &rules[..rules_size],
@@ -50,48 +58,47 @@ fn edit_block(mode: u8, block: usize, kept: usize, text: &mut [u8], ledger: &mut
         text,
         ledger,
     ) {
-        Edited::Refused { number, row } => print_refusal(number, row),
+        Edited::Refused { number, row } => print_refusal(rt, number, row),
         Edited::Done {
             length,
             growth: _,
             count,
-        } => print_edited(length, kept, count),
+        } => print_edited(rt, length, kept, count),
     }
 }
 
 // Writes both buffers, whole.
-fn print_buffers(text: &[u8], ledger: &[u8]) {
-    io::write_all(STDOUT_FILENO, text);
-    io::write_all(STDOUT_FILENO, ledger);
+fn print_buffers(rt: &impl Print, text: &[u8], ledger: &[u8]) -> io::Result<()> {
+    rt.write_all(text)?;
+    rt.write_all(ledger)
 }
 
 // Does what standard input asks for. A line of another form is refused as if it named no mode.
-fn serve(text: &mut [u8], ledger: &mut [u8]) {
-    let Request::Edit { mode, block, kept } = read_request() else {
-        print_refusal(1, 0);
-        print_buffers(text, ledger);
-        return;
+fn serve(rt: &(impl Files + Input + Print), text: &mut [u8], ledger: &mut [u8]) -> io::Result<()> {
+    let Request::Edit { mode, block, kept } = read_request(rt) else {
+        print_refusal(rt, 1, 0)?;
+        return print_buffers(rt, text, ledger);
     };
-    edit_block(mode, block, kept, text, ledger);
-    print_buffers(text, ledger);
+    edit_block(rt, mode, block, kept, text, ledger)?;
+    print_buffers(rt, text, ledger)
 }
 
 // Says that a buffer that was kept is too long for this program: it is not cut.
-fn print_too_long(name: &[u8]) {
-    io::write_all(STDOUT_FILENO, name);
-    io::write_all(STDOUT_FILENO, b" has more than 65536 bytes\n");
+fn print_too_long(rt: &impl Print, name: &[u8]) -> io::Result<()> {
+    rt.write_all(name)?;
+    rt.write_all(b" has more than 65536 bytes\n")
 }
 
-fn main() {
+fn main(rt: HostRuntime) -> io::Result<()> {
     let mut text = [0u8; FILE_READ];
-    let text_size = console::read_file(b"text.bin", &mut text);
+    let text_size = console::read_file(&rt, b"text.bin", &mut text);
     let mut ledger = [0u8; FILE_READ];
-    let ledger_size = console::read_file(b"ledger.bin", &mut ledger);
+    let ledger_size = console::read_file(&rt, b"ledger.bin", &mut ledger);
     if BUFFER_MOST < text_size {
-        return print_too_long(b"text.bin");
+        return print_too_long(&rt, b"text.bin");
     }
     if BUFFER_MOST < ledger_size {
-        return print_too_long(b"ledger.bin");
+        return print_too_long(&rt, b"ledger.bin");
     }
-    serve(&mut text[..text_size], &mut ledger[..ledger_size]);
+    serve(&rt, &mut text[..text_size], &mut ledger[..ledger_size])
 }

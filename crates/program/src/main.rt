@@ -4,43 +4,45 @@
 
 use calls::Converted;
 use console::ANSWER_MOST;
-use libc::{STDIN_FILENO, STDOUT_FILENO};
+use std::io;
+use std::rt::Files;
 use text::FILE_MOST;
 
 // A byte more than a file may have, so that a longer one is seen and refused.
 const FILE_READ: usize = FILE_MOST + 1;
 
+// How long the text and the ledger may be here.
+const BUFFER_MOST: usize = 65536;
+
 // The mode that the first byte of standard input names.
-fn read_mode() -> u8 {
+fn read_mode(rt: &impl Input) -> u8 {
     let mut first = [0u8; 1];
-    let n = io::read_full(STDIN_FILENO, &mut first);
+    let n = console::read_full(&mut rt.reader(), &mut first);
     console::mode_in(&first[..n])
 }
 
 // Writes the line of a refusal.
-fn print_refusal(number: u8, row: usize) {
+fn print_refusal(rt: &impl Print, number: u8, row: usize) -> io::Result<()> {
     let mut line = [0u8; ANSWER_MOST];
     let n = console::put_refusal(&mut line, number, row);
-    io::write_all(STDOUT_FILENO, &line[..n]);
+    rt.write_all(&line[..n])
 }
 
 // Converts, and writes what came of it.
-fn convert<'a>(mode: u8, rules: &'a [u8], tree: &'a [u8]) {
-    let mut text = io::large_buffer();
-    let mut ledger = io::large_buffer();
+fn convert<'a>(rt: &impl Print, mode: u8, rules: &'a [u8], tree: &'a [u8]) -> io::Result<()> {
+    let mut text = [0u8; BUFFER_MOST];
+    let mut ledger = [0u8; BUFFER_MOST];
     match calls::convert(mode, rules, tree, &mut text, &mut ledger) {
-        Converted::Refused { number, row } => print_refusal(number, row),
-        Converted::Done { length, blocks: _ } => {
-            io::write_all(STDOUT_FILENO, &text[..length]);
-        }
+        Converted::Refused { number, row } => print_refusal(rt, number, row),
+        Converted::Done { length, blocks: _ } => rt.write_all(&text[..length]),
     }
 }
 
-fn main() {
-    let mode = read_mode();
+fn main(rt: HostRuntime) -> io::Result<()> {
+    let mode = read_mode(&rt);
     let mut rules = [0u8; FILE_READ];
-    let rules_size = console::read_file(b"rules.bin", &mut rules);
+    let rules_size = console::read_file(&rt, b"rules.bin", &mut rules);
     let mut tree = [0u8; FILE_READ];
-    let tree_size = console::read_file(b"tree.bin", &mut tree);
-    convert(mode, &rules[..rules_size], &tree[..tree_size]);
+    let tree_size = console::read_file(&rt, b"tree.bin", &mut tree);
+    convert(&rt, mode, &rules[..rules_size], &tree[..tree_size])
 }

@@ -4,6 +4,7 @@
 
 ghost use Rattle.std.specs.Prelude.{◌+◌, ◌≤◌, ◌<◌};
 
+use std::io;
 use tree_file::Checked;
 
 // How many cases there were, and how many of them failed.
@@ -77,12 +78,11 @@ fn replay_all(cases: &[u8]) -> Tally {
     t
 }
 
-fn main() {
+fn main(rt: HostRuntime) -> io::Result<()> {
     let mut buffer = [0u8; 131072];
-    let n = io::read_full(0, &mut buffer);
+    let n = console::read_full(&mut rt.reader(), &mut buffer);
     let t = replay_all(&buffer[..n]);
-    io::print_decimal(1, t.cases as u64);
-    io::write_all(1, b" cases, ");
-    io::print_decimal(1, t.failed as u64);
-    io::write_all(1, b" failed\n");
+    let cases = t.cases;
+    let failed = t.failed;
+    println!(rt; "{cases} cases, {failed} failed")
 }
