@@ -75,7 +75,7 @@ pub fn convert_block<'a>(
 }
 
 // Elements side by side. Tokens go in runs; a node that only clears the flag is entered here: its children come next.
-#[cycle(args_arm_body_cmd_convert_convert_clause_lr_convert_command_color_convert_curly_group_convert_env_convert_env_figure_convert_env_table_convert_formula_convert_normal_command_each_math_turn)]
+#[cycle(walk)]
 fn convert<'a>(
     out: &mut [u8],
     at: usize,
@@ -146,7 +146,7 @@ fn convert<'a>(
 }
 
 // A node, by its kind; the caller has cleared the flag.
-#[cycle(args_arm_body_cmd_convert_convert_clause_lr_convert_command_color_convert_curly_group_convert_env_convert_env_figure_convert_env_table_convert_formula_convert_normal_command_each_math_turn)]
+#[cycle(walk)]
 fn arm<'a>(
     out: &mut [u8],
     at: usize,
@@ -200,7 +200,7 @@ fn arm<'a>(
 }
 
 // One child in a loop: what is written before it, the child itself if it is converted, and what is written after.
-#[cycle(args_arm_body_cmd_convert_convert_clause_lr_convert_command_color_convert_curly_group_convert_env_convert_env_figure_convert_env_table_convert_formula_convert_normal_command_each_math_turn)]
+#[cycle(walk)]
 fn turn<'a>(
     out: &mut [u8],
     at: usize,
@@ -231,7 +231,7 @@ fn turn<'a>(
 }
 
 // Elements side by side, by a loop. Those that the loop converts with nothing around them, and that leave it as it is, go in one call.
-#[cycle(args_arm_body_cmd_convert_convert_clause_lr_convert_command_color_convert_curly_group_convert_env_convert_env_figure_convert_env_table_convert_formula_convert_normal_command_each_math_turn)]
+#[cycle(walk)]
 fn each<'a>(
     out: &mut [u8],
     at: usize,
@@ -304,7 +304,7 @@ fn each<'a>(
 }
 
 // A formula like `$x$` or `$$x$$`.
-#[cycle(args_arm_body_cmd_convert_convert_clause_lr_convert_command_color_convert_curly_group_convert_env_convert_env_figure_convert_env_table_convert_formula_convert_normal_command_each_math_turn)]
+#[cycle(walk)]
 fn convert_formula<'a>(
     out: &mut [u8],
     at: usize,
@@ -340,7 +340,7 @@ fn convert_formula<'a>(
 }
 
 // A curly group like `{abc}`; only in Math a blank one is marked.
-#[cycle(args_arm_body_cmd_convert_convert_clause_lr_convert_command_color_convert_curly_group_convert_env_convert_env_figure_convert_env_table_convert_formula_convert_normal_command_each_math_turn)]
+#[cycle(walk)]
 fn convert_curly_group<'a>(
     out: &mut [u8],
     at: usize,
@@ -375,7 +375,7 @@ fn convert_curly_group<'a>(
 }
 
 // `\left` and `\right`: the first child is the name.
-#[cycle(args_arm_body_cmd_convert_convert_clause_lr_convert_command_color_convert_curly_group_convert_env_convert_env_figure_convert_env_table_convert_formula_convert_normal_command_each_math_turn)]
+#[cycle(walk)]
 fn convert_clause_lr<'a>(
     out: &mut [u8],
     at: usize,
@@ -410,7 +410,7 @@ fn convert_clause_lr<'a>(
 }
 
 // A command, by its name.
-#[cycle(args_arm_body_cmd_convert_convert_clause_lr_convert_command_color_convert_curly_group_convert_env_convert_env_figure_convert_env_table_convert_formula_convert_normal_command_each_math_turn)]
+#[cycle(walk)]
 fn cmd<'a>(
     out: &mut [u8],
     at: usize,
@@ -469,7 +469,7 @@ fn cmd<'a>(
 }
 
 // A colour command: its model, then the colour and the body; where there is neither, the colour is black.
-#[cycle(args_arm_body_cmd_convert_convert_clause_lr_convert_command_color_convert_curly_group_convert_env_convert_env_figure_convert_env_table_convert_formula_convert_normal_command_each_math_turn)]
+#[cycle(walk)]
 fn convert_command_color<'a>(
     out: &mut [u8],
     at: usize,
@@ -533,7 +533,7 @@ fn convert_command_color<'a>(
 }
 
 // A command by its rule.
-#[cycle(args_arm_body_cmd_convert_convert_clause_lr_convert_command_color_convert_curly_group_convert_env_convert_env_figure_convert_env_table_convert_formula_convert_normal_command_each_math_turn)]
+#[cycle(walk)]
 fn convert_normal_command<'a>(
     out: &mut [u8],
     at: usize,
@@ -570,7 +570,7 @@ fn convert_normal_command<'a>(
 }
 
 // The arguments of a command, after its name.
-#[cycle(args_arm_body_cmd_convert_convert_clause_lr_convert_command_color_convert_curly_group_convert_env_convert_env_figure_convert_env_table_convert_formula_convert_normal_command_each_math_turn)]
+#[cycle(walk)]
 fn args<'a>(
     out: &mut [u8],
     at: usize,
@@ -635,7 +635,7 @@ fn args<'a>(
 }
 
 // An environment, by its rule; where it ends in Text, any but a list takes the held label.
-#[cycle(args_arm_body_cmd_convert_convert_clause_lr_convert_command_color_convert_curly_group_convert_env_convert_env_figure_convert_env_table_convert_formula_convert_normal_command_each_math_turn)]
+#[cycle(walk)]
 fn convert_env<'a>(
     out: &mut [u8],
     at: usize,
@@ -671,7 +671,7 @@ fn convert_env<'a>(
 }
 
 // What stands in an environment.
-#[cycle(args_arm_body_cmd_convert_convert_clause_lr_convert_command_color_convert_curly_group_convert_env_convert_env_figure_convert_env_table_convert_formula_convert_normal_command_each_math_turn)]
+#[cycle(walk)]
 fn body<'a>(
     out: &mut [u8],
     at: usize,
@@ -721,7 +721,7 @@ fn body<'a>(
 }
 
 // An environment for Math: a function like `mat(a, b; c, d)`, its arguments first.
-#[cycle(args_arm_body_cmd_convert_convert_clause_lr_convert_command_color_convert_curly_group_convert_env_convert_env_figure_convert_env_table_convert_formula_convert_normal_command_each_math_turn)]
+#[cycle(walk)]
 fn math<'a>(
     out: &mut [u8],
     at: usize,
@@ -777,7 +777,7 @@ fn math<'a>(
 }
 
 // A figure: its last caption, then the children.
-#[cycle(args_arm_body_cmd_convert_convert_clause_lr_convert_command_color_convert_curly_group_convert_env_convert_env_figure_convert_env_table_convert_formula_convert_normal_command_each_math_turn)]
+#[cycle(walk)]
 fn convert_env_figure<'a>(
     out: &mut [u8],
     at: usize,
@@ -830,7 +830,7 @@ fn convert_env_figure<'a>(
 }
 
 // A table: the head by its column letters, then the cells.
-#[cycle(args_arm_body_cmd_convert_convert_clause_lr_convert_command_color_convert_curly_group_convert_env_convert_env_figure_convert_env_table_convert_formula_convert_normal_command_each_math_turn)]
+#[cycle(walk)]
 fn convert_env_table<'a>(
     out: &mut [u8],
     at: usize,
