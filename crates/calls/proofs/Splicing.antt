@@ -296,9 +296,9 @@ module _ {rules index rows text : List ℕ} {was n kept : ℕ} {from m : Standin
     no_room h = rw (exchange-at, ← room-same, h) (record { answer = refl; bytes = refl; rows = refl })
 
     module _ (h : b ≡ true) where
-      pub has_room : (m.walked.at + (kept - old) ≤ min (length out) text_most) × (row_size * n ≤ length ledger)
+      pub has-room : (m.walked.at + (kept - old) ≤ min (length out) text_most) × (row_size * n ≤ length ledger)
       unfolding room_for_text
-      has_room =
+      has-room =
           let x = (and-eq-true_iff (room_for_text (m.walked.at + (kept - old)) (length out)) (leb (row_size * n) (length ledger))).0 (sym r ∙ h) in
           (leb-true (m.walked.at + (kept - old)) (min (length out) text_most) x.0, leb-true (row_size * n) (length ledger) x.1)
 
@@ -306,7 +306,7 @@ module _ {rules index rows text : List ℕ} {was n kept : ℕ} {from m : Standin
           → Overwrote was n kept from m w.qs out ledger out' ledger'
           → Gives change-gives (edited (m.walked.at + (kept - old)) g k) out' ledger'
       spliced {g} {k} e c v =
-          let a : m.walked.at ≡ from.walked.at + length (written w.qs) = measured-place (omega (arith, has_room.0)) in
+          let a : m.walked.at ≡ from.walked.at + length (written w.qs) = measured-place (omega (arith, has-room.0)) in
           let s : k ≡ length w.qs = omega (arith, w.many) in
           let t : old ≡ old_end was n m ledger = is-old in
           rw (exchange-at, ← room-same, h, ← a) (record { answer = cc; bytes = rw t v.text; rows = v.rows })

@@ -1,4 +1,4 @@
--- What a change reads from buffers that hold some pieces: where a block begins (`end_of`), its text and its carry (`block-text`,
+-- What a change reads from buffers that hold some pieces: where a block begins (`end-of`), its text and its carry (`block-text`,
 -- `block-carry`), the text from there on (`text-after`), the carry before a block (`carry_before-take`), and what the blocks from one on
 -- carry (`row_carries-rows`).
 use mathlib.Core.Path.{◌≡◌, refl, sym, ap, ap₂, ◌∙◌}
@@ -37,8 +37,8 @@ carry_before-rows [] z = refl
 carry_before-rows (p ∷ a) z = row-carry 0 start_carry p a z
 
 -- where block j begins, whose pieces before it are x
-pub end_of : (whole x z : List Piece) (j : ℕ) → whole ≡ x ++ z → length x ≡ j → end_before j (rows_from 0 whole) ≡ length (written x)
-end_of whole x z j e n = rw (e, ← n) (end_before-rows x z)
+pub end-of : (whole x z : List Piece) (j : ℕ) → whole ≡ x ++ z → length x ≡ j → end_before j (rows_from 0 whole) ≡ length (written x)
+end-of whole x z j e n = rw (e, ← n) (end_before-rows x z)
 
 -- the rows of the first j blocks
 decode-front :
@@ -68,7 +68,7 @@ pub text-after :
     → text_from_block j (holding (x ++ z) r l) ≡ written z
 text-after x z j n ok r l =
     let d : end_before j (decode_rows j (encode_rows (rows_from 0 (x ++ z)) ++ l)) ≡ length (written x)
-    = ap (end_before j) (decode-front (x ++ z) x z j refl n ok l) ∙ end_of x x [] j (sym (append-nil x)) n in
+    = ap (end_before j) (decode-front (x ++ z) x z j refl n ok l) ∙ end-of x x [] j (sym (append-nil x)) n in
     ap (λ i. drop i (take (length (written (x ++ z))) (written (x ++ z) ++ r))) d
     ∙ ap (drop (length (written x))) (take-append_seam (written (x ++ z)) r ∙ written-append x z)
     ∙ drop-append_seam (written x) (written z)
@@ -87,9 +87,9 @@ module _ (ps : List Piece) (rest l : List ℕ) (ok : AllEncodable (rows_from 0 p
       let d : decode_rows (suc i) (encode_rows (rows_from 0 ps) ++ l) ≡ rows_from 0 (x ++ a)
       = decode-front ps (x ++ a) z (suc i) (w ∙ sym (append_assoc x a z)) n₂ ok l in
       let e₁ : end_before i (decode_rows (suc i) (encode_rows (rows_from 0 ps) ++ l)) ≡ length (written x)
-      = ap (end_before i) d ∙ end_of (x ++ a) x a i refl n in
+      = ap (end_before i) d ∙ end-of (x ++ a) x a i refl n in
       let e₂ : end_before (suc i) (decode_rows (suc i) (encode_rows (rows_from 0 ps) ++ l)) ≡ length (written (x ++ a))
-      = ap (end_before (suc i)) d ∙ end_of (x ++ a) (x ++ a) [] (suc i) (sym (append-nil (x ++ a))) n₂ in
+      = ap (end_before (suc i)) d ∙ end-of (x ++ a) (x ++ a) [] (suc i) (sym (append-nil (x ++ a))) n₂ in
       ap₂ (λ j k. between j k (written ps ++ rest)) e₁ e₂
       ∙ ap (λ q. between (length (written x)) (length (written (x ++ a))) (written q ++ rest)) w
       ∙ between-part x a z rest

@@ -17,7 +17,7 @@ use Rattle.ledger.proofs.Rows.{written-append, rows_from-append, move_rows-encod
 use Rattle.edit_meaning.specs.Edit.{unchanged, room}
 use Rattle.edit_meaning.specs.Edit.Answer.{edited}
 use Rattle.edit_meaning.specs.Changes.{Stretch, block_after, come_count, gone_count, text_from, text_over, ledger_from, ledger_over, front_over, exchange}
-use Rattle.edit_meaning.proofs.Reading.{end_of, between-part}
+use Rattle.edit_meaning.proofs.Reading.{end-of, between-part}
 
 -- ---- the rows of a kept part, a, after the pieces x
 
@@ -61,7 +61,7 @@ module _ (whole : List Piece) (rest l : List ℕ) where
   text-from (as_kept {ps = z} e) s x b n w =
       let q : between (length (written x)) (length (written whole)) (written whole ++ rest) ≡ written z
       = rw w (rw append-nil at (between-part x z [] rest)) in
-      rw (end_of whole x z (block_after s) w (n ∙ sym b), q, e)
+      rw (end-of whole x z (block_after s) w (n ∙ sym b), q, e)
   text-from (at_stretch {s = s₂} {ss} a m z z' b₂ g p e sp) s x b n w =
       let w₁ : whole ≡ x ++ (a ++ (m ++ z)) = w ∙ ap (λ y. x ++ y) p in
       let w₂ : whole ≡ (x ++ a) ++ (m ++ z) = w₁ ∙ sym (append_assoc x a (m ++ z)) in
@@ -71,8 +71,8 @@ module _ (whole : List Piece) (rest l : List ℕ) where
       let q : between (length (written x)) (length (written (x ++ a))) (written whole ++ rest) ≡ written a
       = rw w₁ (between-part x a (m ++ z) rest) in
       rw (
-        end_of whole x _ (block_after s) w (n ∙ sym b),
-        end_of whole (x ++ a) (m ++ z) s₂.block w₂ n₂,
+        end-of whole x _ (block_after s) w (n ∙ sym b),
+        end-of whole (x ++ a) (m ++ z) s₂.block w₂ n₂,
         q,
         text-from sp s₂ ((x ++ a) ++ m) refl n₃ w₃,
         e,
@@ -92,7 +92,7 @@ module _ (whole : List Piece) (rest l : List ℕ) where
       let f : take (length (written a)) (written whole ++ rest) ≡ written a
       = rw (p, written-append a (m ++ z), append_assoc (written a)) (take-append_seam (written a) (written (m ++ z) ++ rest)) in
       rw (
-        end_of whole a (m ++ z) s.block p n,
+        end-of whole a (m ++ z) s.block p n,
         f,
         text-from sp s (a ++ m) refl n₂ w,
         e,
@@ -114,7 +114,7 @@ module _ (whole : List Piece) (rest l : List ℕ) where
         let q : move_rows (length z) (length (written x)) now (drop (row_size * length x) (encode_rows (rows_from 0 whole) ++ l))
         ≡ encode_rows (rows_from now z)
         = rw w (rw append-nil at (rows-part x z [] (rw (append-nil, ← w) ok) now l)) in
-        rw (end_of whole x z (block_after s) w (n ∙ sym b), n₁, k, q, e)
+        rw (end-of whole x z (block_after s) w (n ∙ sym b), n₁, k, q, e)
     ledger-from (at_stretch {s = s₂} {ss} a m z z' b₂ g p e sp) s x b n w at =
         let w₁ : whole ≡ x ++ (a ++ (m ++ z)) = w ∙ ap (λ y. x ++ y) p in
         let w₂ : whole ≡ (x ++ a) ++ (m ++ z) = w₁ ∙ sym (append_assoc x a (m ++ z)) in
@@ -130,8 +130,8 @@ module _ (whole : List Piece) (rest l : List ℕ) where
         let v : length (written (x ++ a)) - length (written x) ≡ length (written a)
         = rw (written-append x a, length-append) (omega arith) in
         rw (
-          end_of whole x _ (block_after s) w (n ∙ sym b),
-          end_of whole (x ++ a) (m ++ z) s₂.block w₂ n₂,
+          end-of whole x _ (block_after s) w (n ∙ sym b),
+          end-of whole (x ++ a) (m ++ z) s₂.block w₂ n₂,
           v,
           n₁,
           k,
@@ -160,7 +160,7 @@ module _ (whole : List Piece) (rest l : List ℕ) where
         let f : take (row_size * s.block) (encode_rows (rows_from 0 whole) ++ l) ≡ encode_rows (rows_from 0 a)
         = rw (p, rows_from-append 0 a (m ++ z), append_assoc) (take_at (encode_rows (rows_from 0 a)) _ (row_size * s.block) n₃) in
         rw (
-          end_of whole a (m ++ z) s.block p n,
+          end-of whole a (m ++ z) s.block p n,
           f,
           ledger-from sp s (a ++ m) refl n₂ w at,
           e,

@@ -39,8 +39,8 @@ and_first a b e = sym (ap (λ t. t && b) e)
 pub and-later : (a b r : Bool) → a ≡ true → r ≡ b → r ≡ (a && b)
 and-later a b r e q = q ∙ sym (ap (λ t. t && b) e)
 
-pub or_later : (b x r : Bool) → r ≡ x → b ≡ false → r ≡ (b || x)
-or_later b x r e f = e ∙ sym (ap (λ t. t || x) f)
+pub or-later : (b x r : Bool) → r ≡ x → b ≡ false → r ≡ (b || x)
+or-later b x r e f = e ∙ sym (ap (λ t. t || x) f)
 
 pub row-not : (rows text : List ℕ) → (RuleRowFits rows text → ⊥) → false ≡ rule_row_fits rows text
 row-not rows text h = by-test (rule_row_fits rows text) (λ e. absurd (h (rule-row-says rows text e))) (λ e. sym e)

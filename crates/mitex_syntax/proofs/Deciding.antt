@@ -3,8 +3,8 @@ use mathlib.Core.Path.{◌≡◌, sym, ap, ◌∙◌}
 use mathlib.Core.Bool.{Bool, true, false, ◌&&◌, ◌||◌}
 
 module _ {x : Bool} (a b : Bool) (is-a : x ≡ a) where
-  pub and_then : {y : Bool} → x ≡ true → y ≡ b → y ≡ a && b
-  and_then e is_b = is_b ∙ ap (λ (c : Bool). c && b) (sym e ∙ is-a)
+  pub and-then : {y : Bool} → x ≡ true → y ≡ b → y ≡ a && b
+  and-then e is_b = is_b ∙ ap (λ (c : Bool). c && b) (sym e ∙ is-a)
 
   pub and-not : x ≡ false → false ≡ a && b
   and-not e = ap (λ (c : Bool). c && b) (sym e ∙ is-a)

@@ -22,7 +22,7 @@ use Rattle.mitex_syntax.specs.Spells.{Sound, Begins}
 use Rattle.mitex_syntax.specs.Places.{TokenIs, LastHop}
 use Rattle.mitex_syntax.specs.declared.Token.{Token}
 use Rattle.mitex_syntax.specs.declared.Span.{Span}
-use Rattle.mitex_syntax.proofs.Deciding.{and_then, and-not}
+use Rattle.mitex_syntax.proofs.Deciding.{and-then, and-not}
 use Rattle.text.proofs.Numbers.{four-says}
 use Rattle.mitex_syntax.proofs.Trees.{length-rowss, size-some, left, no-left, First, first-spelt, ElementAt, element, rows-e, text-n, past-begins}
 use Rattle.mitex_syntax.proofs.Seeking.{kind-here, mark-here, size-token}
@@ -322,7 +322,7 @@ module _ {f : Forest} {rows text : List ℕ} {i j : ℕ} (w : Lasts f rows text 
 module _ {o : Option Tree} {text : List ℕ} {r : Token} (m : TokenIs o text r) (k : ℕ) (s : List ℕ) where
   pub token-of-same : r.kind ≡ k → {b : Bool} → b ≡ same (take (r.to - r.from) (drop r.from text)) s → b ≡ is_token_of k s o
   token-of-same e {b} q =
-      and_then (eqb (kind_in o) k) (same (text_in o) s) refl (eq-eqb (kind_in o) k (sym m.kind ∙ e)) (q ∙ ap (λ (l : List ℕ). same l s) m.text_is)
+      and-then (eqb (kind_in o) k) (same (text_in o) s) refl (eq-eqb (kind_in o) k (sym m.kind ∙ e)) (q ∙ ap (λ (l : List ℕ). same l s) m.text_is)
 
   pub token-of-other : (r.kind ≡ k → ⊥) → false ≡ is_token_of k s o
   token-of-other e = and-not (eqb (kind_in o) k) (same (text_in o) s) refl (ne_eqb (kind_in o) k (λ q. e (m.kind ∙ q)))

@@ -95,8 +95,8 @@ each-token n x o k s f c h =
 -- ---- the first token alone, as a run; its text has u bytes
 
 module _ {rows text : List ℕ} (given : RunGiven rows text) (mark : get_or rows 1 0 ≡ 1) {u : ℕ} (e : u ≡ num_of rows) where
-  pub first_fits : u ≤ length text
-  first_fits = omega (arith, (head given.forest given.spells given.some mark given.short).fits)
+  pub first-fits : u ≤ length text
+  first-fits = omega (arith, (head given.forest given.spells given.some mark given.short).fits)
 
   module _ (x : Context) (flag : Bool) {at : ℕ} {out out' : List ℕ} {t : TokenPut}
       (m : (l : Label) → Puts t l at out out' (token_out x (get_or rows 0 0) (take u text) (carrying flag l))) where
@@ -136,7 +136,7 @@ module _ {rows text : List ℕ} (given : RunGiven rows text) (mark : get_or rows
     first_runs z =
         record {
           high = rows-eight given.spells given.some;
-          stop = first_fits;
+          stop = first-fits;
           some = λ y. omega arith;
           refuses = λ y. absurd (y refl);
           goes = λ y f n sp q. gone-first f n sp q z;
@@ -197,8 +197,8 @@ module _ {x : Context} {flag : Bool} {rows text : List ℕ} {at : ℕ} {out : Li
   pub ran-long : length out' ≡ length out
   ran-long = wrote-long gone-given.wrote
 
-  pub row_fits : r.rows < length rows → r.rows + 8 ≤ length rows
-  row_fits h =
+  pub row-fits : r.rows < length rows → r.rows + 8 ≤ length rows
+  row-fits h =
       let l = length-drop r.rows rows in
       omega (arith, rows-eight gone-given.spells (omega arith))
 

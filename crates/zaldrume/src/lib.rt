@@ -4,7 +4,7 @@
 #![tactic(auto)]
 
 ghost use Rattle.std.specs.Prelude.{◌≡◌};
-ghost use Rattle.edit_meaning.specs.Edit.{convert_document, edit as editDocument};
+ghost use Rattle.edit_meaning.specs.Edit.{convert_document, edit as edit_document};
 ghost use Rattle.edit_meaning.specs.Changes.{put_in, take_out, replace_all, change};
 ghost use Rattle.manuscript.specs.Manuscript.{manuscript};
 ghost use Rattle.calls.specs.Calls.{answer_of_edit};
@@ -83,7 +83,7 @@ pub extern "C" fn zaldrume_edit<'a>(
     growth: &mut i64,
     count: &mut usize,
 ) -> u8
-    ensures { Tells (editDocument (manuscript mode rules.now) tree.now block kept text.old
+    ensures { Tells (edit_document (manuscript mode rules.now) tree.now block kept text.old
         ledger.old) result place.new growth.new count.new text.new ledger.new }
 {
     let r = calls::edit(mode, rules, tree, block, kept, text, ledger);

@@ -2,7 +2,7 @@
 use mathlib.Core.Path.{refl}
 use Prim.Native.Nat.{◌+◌, ◌-◌}
 use native.Mathlib.Omega.{arith}
-use Rattle.calls.proofs.Splicing.{old-kept, last_row, difference-fits, difference-is, no_room, has_room, spliced}
+use Rattle.calls.proofs.Splicing.{old-kept, last_row, difference-fits, difference-is, no_room, has-room, spliced}
 use Rattle.calls.proofs.splice.Goals as goal
 
 pub end_before-old-requires : goal.end_before-old-requires
@@ -20,7 +20,7 @@ returns-then-not-has_room c w =
 pub overwrite-requires : goal.overwrite-requires
 overwrite-requires c =
     let e = c.end_before-old.ensures.0 c.args.was (omega (arith, c.requires.within)) in
-    let h = has_room c.requires refl e c.has_room.ensures c.if-not-has_room.false in
+    let h = has-room c.requires refl e c.has_room.ensures c.if-not-has_room.false in
     record {
       measured = c.requires;
       roomy = record { starts = refl; ends = e; text = omega (arith, h.0); small = omega (arith, h.0); rows = h.1 };
@@ -30,17 +30,17 @@ overwrite-requires c =
 pub overflow_cast-growth : goal.overflow_cast-growth
 overflow_cast-growth c =
     let e = c.end_before-old.ensures.0 c.args.was (omega (arith, c.requires.within)) in
-    record { sfits = omega (arith, (has_room c.requires refl e c.has_room.ensures c.if-not-has_room.false).0) }
+    record { sfits = omega (arith, (has-room c.requires refl e c.has_room.ensures c.if-not-has_room.false).0) }
 
 pub overflow_sub-growth : goal.overflow_sub-growth
 overflow_sub-growth c =
     let e = c.end_before-old.ensures.0 c.args.was (omega (arith, c.requires.within)) in
-    difference-fits (c.args.m.walked.at + (c.args.kept - c.end_before-old.result)) c.args.kept (omega (arith, (has_room c.requires refl e c.has_room.ensures c.if-not-has_room.false).0))
+    difference-fits (c.args.m.walked.at + (c.args.kept - c.end_before-old.result)) c.args.kept (omega (arith, (has-room c.requires refl e c.has_room.ensures c.if-not-has_room.false).0))
     (omega (arith, c.requires.inside))
 
 pub returns : goal.returns
 returns c w =
     let e = c.end_before-old.ensures.0 c.args.was (omega (arith, c.requires.within)) in
-    let g = difference-is (c.args.m.walked.at + (c.args.kept - c.end_before-old.result)) c.args.kept (omega (arith, (has_room c.requires refl e c.has_room.ensures c.if-not-has_room.false).0))
+    let g = difference-is (c.args.m.walked.at + (c.args.kept - c.end_before-old.result)) c.args.kept (omega (arith, (has-room c.requires refl e c.has_room.ensures c.if-not-has_room.false).0))
     (omega (arith, c.requires.inside)) in
     spliced w refl e c.has_room.ensures c.if-not-has_room.false g refl (c.overwrite.ensures w)

@@ -1,5 +1,5 @@
 use native.Mathlib.Omega.{arith}
-use Rattle.mitex_tokens.proofs.Running.{runs_as, ran-low, ran-long, row_fits, rest-given, rest-mark}
+use Rattle.mitex_tokens.proofs.Running.{runs_as, ran-low, ran-long, row-fits, rest-given, rest-mark}
 use Rattle.mitex_tokens.proofs.Running.{runs-part, ran-part, ran-part-refused}
 use Rattle.mitex_tokens.proofs.convert_tokens.Goals as goal
 
@@ -7,7 +7,7 @@ pub token_at-requires : goal.token_at-requires
 token_at-requires c =
     let g = c.requires.some_rules in
     let here = c.loop-mode.invariant g.rules g.ready.decodes in
-    (here.high, row_fits c.requires.run_given.0 here)
+    (here.high, row-fits c.requires.run_given.0 here)
 
 pub put_part-r-requires : goal.put_part-r-requires
 put_part-r-requires c =
