@@ -12,12 +12,11 @@ use Rattle.text.specs.Writing.{cap}
 use Rattle.mitex_syntax.specs.Tree.{size}
 use Rattle.mitex_meaning.specs.Outcome.{Carry}
 use Rattle.mitex_meaning.specs.State.{new_of, carry_of, Carried}
-use Rattle.mitex_meaning.specs.declared.LaTeXMode.{LaTeXMode}
 use Rattle.mitex_meaning.specs.declared.Converter.{Converter}
 use Rattle.ledger.specs.Ledger.{RowFits, decode_rows, fits, same_carry, Piece}
 use Rattle.ledger.proofs.Fitting.{fits-row}
 use Rattle.edit_meaning.specs.Walk.{BlockConverter, Walk, rows_all, walk_until}
-use Rattle.edit_meaning.specs.Walk.Walk.{stopped, pieces}
+use Rattle.edit_meaning.specs.Walk.Walk.{pieces}
 use Rattle.edit_meaning.specs.Walk.CheckedFile.{good}
 use Rattle.edit_meaning.specs.Edit.{Answer, Result, unchanged, end_before, carry_before, again}
 use Rattle.edit_meaning.specs.Edit.Answer.{refused}
@@ -25,7 +24,11 @@ use Rattle.edit_meaning.specs.Calls.{Gives}
 use Rattle.edit_meaning.specs.Changes.{named_there, old_count, change_fits, named_block, Stretch, stretch, first_row, putting_in, taking_out, remake, exchange, exchange_or, change_checked}
 use Rattle.edit_meaning.proofs.Bytes.{carry_before-at, row_carries-at}
 use Rattle.manuscript.specs.Manuscript.{listed, blocks_in}
-use Rattle.passes.specs.Passes.{Document, EndsBefore, CarriesBefore, BlocksUpTo, Stood, Came, row_no, converter_of, carries_on, kept_block}
+use Rattle.std.specs.Prelude.{Result as Reply, Ok, Err}
+use Rattle.refusals.specs.Refusals.{refusal_number}
+use Rattle.refusals.specs.declared.Refusal.{Refusal}
+use Rattle.passes.specs.Passes.{EndsBefore, CarriesBefore, BlocksUpTo, Stood, Came, row_no, converter_of, carries_on, kept_block}
+use Rattle.passes.specs.declared.open.OpenDocument.{OpenDocument}
 use Rattle.passes.specs.declared.Standing.{Standing}
 use Rattle.manuscript.proofs.Manuscript.{listed-count}
 use Rattle.passes.proofs.Measuring.{carries_on-at}
@@ -149,13 +152,15 @@ named-is TakeOut k = refl
 
 -- ---- the call over the blocks
 
-module _ {rules index rows text : List ℕ} {n : ℕ} (w : Document rules index rows text n) (m : LaTeXMode) (way : Way) (k kept : ℕ)
-    (out ledger : List ℕ) where
+module _ (d : OpenDocument) (way : Way) (k kept : ℕ) (out ledger : List ℕ) where
+  abbrev n : ℕ
+  n = d.blocks
+
   abbrev 𝓒 : BlockConverter
-  𝓒 = blocks_in m w.rs
+  𝓒 = blocks_in d.mode d.open.rs
 
   abbrev bs : List 𝓒.Block
-  bs = listed w.blocks
+  bs = listed d.open.blocks
 
   abbrev result : Result
   result = change_checked 𝓒 (good bs) (kind_by way k) kept out ledger
@@ -167,7 +172,7 @@ module _ {rules index rows text : List ℕ} {n : ℕ} (w : Document rules index 
   by b was = cond b (exchange_or was kept (decode_rows was ledger) (stretch (kind_by way k) (walked was)) out ledger) (unchanged 6 0 out ledger)
 
   counted : length bs ≡ n
-  counted = listed-count w.blocks ∙ w.many
+  counted = listed-count d.open.blocks ∙ d.open.many
 
   result_by : {b : Bool} → b ≡ change_fits (kind_by way k) n kept out ledger → (c : Bool) → b ≡ c → result ≡ by c (old_count (kind_by way k) n)
   result_by e c t =
@@ -187,7 +192,7 @@ module _ {rules index rows text : List ℕ} {n : ℕ} (w : Document rules index 
       (record { answer = refl; bytes = refl; rows = refl })
 
   -- a pass that began before block k, as the row before it says, and measured up to where the blocks' carry is the kept one
-  pub record MeasuredAgain (was : ℕ) (from r : Standing) : Type 0 where
+  pub record MeasuredAgain (was : ℕ) (from : Standing) (r : Reply Standing Refusal) : Type 0 where
     pub test : Bool
     pub tested : test ≡ change_fits (kind_by way k) n kept out ledger
     pub fits_so : test ≡ true
@@ -196,12 +201,12 @@ module _ {rules index rows text : List ℕ} {n : ℕ} (w : Document rules index 
     pub converter : Converter
     pub ends : EndsBefore ledger k at
     pub low : at < cap
-    pub carries : CarriesBefore ledger k m converter
-    pub stood : Stood w.blocks rows text k at converter from
-    pub measured : MeasuresAgain rules index rows text from n was ledger r
+    pub carries : CarriesBefore ledger k d.mode converter
+    pub stood : Stood d.open.blocks d.rows.now d.text.now k at converter from
+    pub measured : MeasuresAgain d from was ledger r
 
-  module _ {was : ℕ} {from r : Standing} (p : MeasuredAgain was from r) where
-    abbrev st : Stood w.blocks rows text k p.at p.converter from
+  module _ {was : ℕ} {from : Standing} {r : Reply Standing Refusal} (p : MeasuredAgain was from r) where
+    abbrev st : Stood d.open.blocks d.rows.now d.text.now k p.at p.converter from
     st = p.stood
 
     abbrev fit : Fitting way n was k kept out ledger
@@ -209,11 +214,11 @@ module _ {rules index rows text : List ℕ} {n : ℕ} (w : Document rules index 
         subst (λ (x : ℕ). Fitting way n x k kept out ledger) (sym p.was_is)
         (fitting way n k kept out ledger p.tested p.fits_so)
 
-    pub carried : Carried (new_of m) (carry_before k (decode_rows was ledger)) p.converter
+    pub carried : Carried (new_of d.mode) (carry_before k (decode_rows was ledger)) p.converter
     carried = p.carries was fit.before
 
-    abbrev whole : BlocksUpTo rules index rows text from n
-    whole = blocks-begin w st carried (omega (arith, p.low)) fit.now
+    abbrev whole : BlocksUpTo d.rules.file.now d.rules.index.now d.rows.now d.text.now from d.blocks
+    whole = blocks-begin d.open st carried (omega (arith, p.low)) fit.now
 
     -- what was measured is the walk of the blocks converted again
     abbrev passed : Carry → ℕ → Walk → Walk
@@ -221,12 +226,12 @@ module _ {rules index rows text : List ℕ} {n : ℕ} (w : Document rules index 
 
     pub walk_is :
         ◌≡◌ {A = Walk}
-        (passed (carry_of from.walked.converter) from.block
-        (walk_until (converter_of whole.given) (carry_of from.walked.converter) (row_no from) (listed st.left)
+        (passed (carry_of from.converter) from.block
+        (walk_until (converter_of whole.given) (carry_of from.converter) (row_no from) (listed st.left)
         (carries_on (kept_block (suc from.block) n was) (decode_rows was ledger)))) (walked was)
     walk_is =
         let ds = carries_on (kept_block (suc from.block) n was) (decode_rows was ledger) in
-        ap₂ (λ c v. passed c from.block v) (begins-carry w st carried) (begins-as w st carried (omega (arith, p.low)) fit.now true ds)
+        ap₂ (λ c v. passed c from.block v) (begins-carry d.open st carried) (begins-as d.open st carried (omega (arith, p.low)) fit.now true ds)
         ∙ ap
         (λ (i : ℕ). passed (carry_before k (decode_rows was ledger)) i
         (walk_until 𝓒 (carry_before k (decode_rows was ledger)) (1 + rows_all size (take k bs)) (drop k bs)
@@ -243,55 +248,55 @@ module _ {rules index rows text : List ℕ} {n : ℕ} (w : Document rules index 
         ∙ ap (by true) (sym p.was_is)
         ∙ ap (λ (v : Walk). exchange_or was kept (decode_rows was ledger) (stretch (kind_by way k) v) out ledger) e
 
-    pub changed-refused : (r.walked.refusal ≡ 0 → ⊥) → Gives result (refused r.walked.refusal r.walked.row) out ledger
-    changed-refused z =
-        subst (λ (x : Result). Gives x (refused r.walked.refusal r.walked.row) out ledger)
-        (sym (by-walk (came_refused came z)))
-        (record { answer = refl; bytes = refl; rows = refl })
+  pub changed-refused :
+      {was : ℕ} {from : Standing} {e : Refusal} → MeasuredAgain was from (Err e) → Gives result (refused (refusal_number e.reason) e.row) out ledger
+  changed-refused {e = e} p =
+      subst (λ (x : Result). Gives x (refused (refusal_number e.reason) e.row) out ledger) (sym (by-walk p (came_refused (came p))))
+      (record { answer = refl; bytes = refl; rows = refl })
 
-    module _ (z : r.walked.refusal ≡ 0) where
-      abbrev to : Came-to from r (walked was)
-      to = came-pieces came z
+  module _ {was : ℕ} {from r : Standing} (p : MeasuredAgain was from (Ok r)) where
+    abbrev to : Came-to from r (walked was)
+    to = came-pieces (came p)
 
-      pub goes : Goes way n was k (length to.ps)
-      goes =
-          subst (λ (x : ℕ). Goes way n x k (length to.ps)) (sym p.was_is)
-          (subst (λ (x : ℕ). Goes way x (old_count (kind_by way k) x) k (length to.ps)) counted
-          (goes_by 𝓒 bs ledger k way to.ps (ap (named_there (kind_by way k)) counted ∙ fit.there)
-          (ap walked (ap (old_count (kind_by way k)) counted ∙ sym p.was_is) ∙ to.are)))
+    pub goes : Goes way n was k (length to.ps)
+    goes =
+        subst (λ (x : ℕ). Goes way n x k (length to.ps)) (sym p.was_is)
+        (subst (λ (x : ℕ). Goes way x (old_count (kind_by way k) x) k (length to.ps)) counted
+        (goes_by 𝓒 bs ledger k way to.ps (ap (named_there (kind_by way k)) counted ∙ (fit p).there)
+        (ap walked (ap (old_count (kind_by way k)) counted ∙ sym p.was_is) ∙ to.are)))
 
-      abbrev pub change-measured : Measured rules index rows text was n kept from r out ledger
-      change-measured =
-          let c = carry_of from.walked.converter in
-          let ds = carries_on (kept_block (suc from.block) n was) (decode_rows was ledger) in
-          let g = gives-stop (converter_of whole.given) (ltb n was && same_carry c (carry_before (suc from.block) (decode_rows was ledger)))
-          (walk_until (converter_of whole.given) c (row_no from) (listed st.left) ds)
-          (λ qs. walk-gives (converter_of whole.given) true (listed st.left) c (row_no from) ds qs) to.ps (walk_is ∙ to.are) in
-          record {
-            given = whole.given;
-            qs = to.ps;
-            are = g;
-            many = to.block;
-            end = to.place;
-            begins = st.went.next ∙ p.ends was fit.before ∙ ap (λ (i : ℕ). end_before i (decode_rows was ledger)) (sym st.block);
-            within = omega (arith, to.block, st.block, gives-within _ g, count_left w st carried fit.now);
-            near = omega (arith, to.block, st.block, goes.near);
-            later = omega (arith, to.block, st.block, goes.later);
-            most = w.most;
-            old_most = omega (arith, fit.few, w.most);
-            fitting = fit.rows;
-            inside = fit.inside;
-          }
+    abbrev pub change-measured : Measured d was kept from r out ledger
+    change-measured =
+        let c = carry_of from.converter in
+        let ds = carries_on (kept_block (suc from.block) n was) (decode_rows was ledger) in
+        let g = gives-stop (converter_of (whole p).given) (ltb n was && same_carry c (carry_before (suc from.block) (decode_rows was ledger)))
+        (walk_until (converter_of (whole p).given) c (row_no from) (listed (st p).left) ds)
+        (λ qs. walk-gives (converter_of (whole p).given) true (listed (st p).left) c (row_no from) ds qs) to.ps ((walk_is p) ∙ to.are) in
+        record {
+          given = (whole p).given;
+          qs = to.ps;
+          are = g;
+          many = to.block;
+          end = to.place;
+          begins = (st p).next ∙ p.ends was (fit p).before ∙ ap (λ (i : ℕ). end_before i (decode_rows was ledger)) (sym (st p).block);
+          within = omega (arith, to.block, (st p).block, gives-within _ g, count_left d.open (st p) (carried p) (fit p).now);
+          near = omega (arith, to.block, (st p).block, goes.near);
+          later = omega (arith, to.block, (st p).block, goes.later);
+          most = d.open.most;
+          old_most = omega (arith, (fit p).few, d.open.most);
+          fitting = (fit p).rows;
+          inside = (fit p).inside;
+        }
 
-      pub changed-as :
-          {a : Answer} {out' ledger' : List ℕ}
-          → Gives (exchange was kept (decode_rows was ledger) (stretch_of was n from r to.ps ∷ []) out ledger) a out' ledger'
-          → Gives result a out' ledger'
-      changed-as {a} {out'} {ledger'} g =
-          let block : from.block ≡ named_block (kind_by way k) = st.block ∙ sym (named-is way k) in
-          let gone : kept_block r.block n was - from.block ≡ old_count (kind_by way k) (length to.ps)
-          = omega (arith, to.block, st.block, goes.gone) in
-          let same : stretch_of was n from r to.ps ≡ record { block = named_block (kind_by way k); gone = old_count (kind_by way k) (length to.ps); come = to.ps }
-          = λ i. record { block = block i; gone = gone i; come = to.ps } in
-          subst (λ (x : Result). Gives x a out' ledger')
-          (ap (λ (s : Stretch). exchange was kept (decode_rows was ledger) (s ∷ []) out ledger) same ∙ sym (by-walk to.are)) g
+    pub changed-as :
+        {a : Answer} {out' ledger' : List ℕ}
+        → Gives (exchange was kept (decode_rows was ledger) (stretch_of was n from r to.ps ∷ []) out ledger) a out' ledger'
+        → Gives result a out' ledger'
+    changed-as {a} {out'} {ledger'} g =
+        let block : from.block ≡ named_block (kind_by way k) = (st p).block ∙ sym (named-is way k) in
+        let gone : kept_block r.block n was - from.block ≡ old_count (kind_by way k) (length to.ps)
+        = omega (arith, to.block, (st p).block, goes.gone) in
+        let same : stretch_of was n from r to.ps ≡ record { block = named_block (kind_by way k); gone = old_count (kind_by way k) (length to.ps); come = to.ps }
+        = λ i. record { block = block i; gone = gone i; come = to.ps } in
+        subst (λ (x : Result). Gives x a out' ledger')
+        (ap (λ (s : Stretch). exchange was kept (decode_rows was ledger) (s ∷ []) out ledger) same ∙ sym (by-walk p to.are)) g

@@ -3,7 +3,7 @@
 -- the new text has room (`planned-no-room`, `planned-done`).
 use mathlib.Core.Path.{◌≡◌, refl, sym, ap, subst, ◌∙◌}
 use mathlib.Core.Bool.{Bool, true, false, ◌&&◌, cond, and-eq-true_iff}
-use mathlib.Core.List.{List, [], ◌∷◌}
+use mathlib.Core.List.{List}
 use Prim.Native.Nat.{ℕ, ◌+◌, ◌*◌, ◌-◌, ◌≤◌, ◌<◌, min}
 use native.Mathlib.Omega.{arith}
 use borrow.Author.Tests.{leb-true}
@@ -27,27 +27,30 @@ use Rattle.edit_meaning.specs.Changes.Kind.{replace_all}
 use Rattle.edit_meaning.specs.Changes.Remade.{halted, remade}
 use Rattle.manuscript.specs.Manuscript.{listed, blocks_in}
 use Rattle.manuscript.proofs.Manuscript.{listed-count}
+use Rattle.std.specs.Prelude.{Ok, Err}
+use Rattle.refusals.specs.Refusals.{refusal_number}
+use Rattle.refusals.specs.declared.Refusal.{Refusal}
 use Rattle.passes.specs.Passes.{Document, EndsBefore}
+use Rattle.passes.specs.declared.open.OpenDocument.{OpenDocument}
 use Rattle.passes.proofs.Ends.{ends-kept}
 use Rattle.stretches.specs.Plans.{next_block, after_all, place_after, rest_text, rest_rows, LaidOut, PlanComes, Exchangeable, Exchanged}
 use Rattle.stretches.specs.Plans.PlanComes.{plan_halted, plan_made}
+use Rattle.stretches.specs.declared.Note.{Note}
 use Rattle.stretches.specs.declared.Planned.{Planned}
 use Rattle.stretches.proofs.Rising.{rising-below}
-use Rattle.stretches.proofs.Laying.{laid_from}
+use Rattle.stretches.proofs.Laying.{note_in, laid_from}
 use Rattle.stretches.proofs.Whole.{after-within, laid-even, over_first, over-long, whole-text, whole-rows}
 use Rattle.calls.specs.Calls.{PlanMade}
 use Rattle.calls.proofs.Settling.{room_for}
 
 -- ---- what the plan came to
 
-module _ {rules index rows text : List ℕ} {n : ℕ} {w : Document rules index rows text n} {m : LaTeXMode} {ledger : List ℕ} {r : Planned}
-    {plan : List ℕ} where
-  plan-refused : {x : Remade} → PlanComes w m ledger r plan x → (r.refusal ≡ 0 → ⊥) → x ≡ halted r.refusal r.row
-  plan-refused (plan_halted h e f) z = λ i. halted (sym e i) (sym f i)
-  plan-refused (plan_made e l b c a p) z = absurd (z e)
+module _ {rules index rows text : List ℕ} {n : ℕ} {w : Document rules index rows text n} {m : LaTeXMode} {ledger : List ℕ} {plan : List Note} where
+  plan-refused : {e : Refusal} {x : Remade} → PlanComes w m ledger plan (Err e) x → x ≡ halted (refusal_number e.reason) e.row
+  plan-refused (plan_halted f g) = λ i. halted (sym f i) (sym g i)
 
 module _ {rules index rows text : List ℕ} {n : ℕ} (w : Document rules index rows text n) (m : LaTeXMode) (ledger : List ℕ) (r : Planned)
-    (plan : List ℕ) where
+    (plan : List Note) where
   pub record PlanStretches (x : Remade) : Type 0 where
     pub ss : List Stretch
     pub are : x ≡ remade ss
@@ -57,10 +60,8 @@ module _ {rules index rows text : List ℕ} {n : ℕ} (w : Document rules index 
     pub low : r.at ≤ 2 * cap * blocks_most
     pub placed : min cap r.at ≡ min cap (place_after (decode_rows n ledger) 0 0 ss)
 
-  pub plan-stretches : {x : Remade} → PlanComes w m ledger r plan x → r.refusal ≡ 0 → PlanStretches x
-  plan-stretches (plan_halted h e f) z = absurd (omega arith)
-  plan-stretches (plan_made {ss = ss} e l b c a p) z =
-      record { ss = ss; are = refl; laid = l; block = b; count = c; low = a; placed = p }
+  pub plan-stretches : {x : Remade} → PlanComes w m ledger plan (Ok r) x → PlanStretches x
+  plan-stretches (plan_made {ss = ss} l b c a p) = record { ss = ss; are = refl; laid = l; block = b; count = c; low = a; placed = p }
 
 -- ---- refusal 6
 
@@ -85,51 +86,49 @@ replace-fits named n kept out ledger e t =
 
 -- ---- the call over the blocks
 
-module _ {rules index rows text : List ℕ} {n : ℕ} (w : Document rules index rows text n) (m : LaTeXMode) (named : List ℕ) (kept : ℕ)
-    (out ledger : List ℕ) where
+module _ (d : OpenDocument) (named : List ℕ) (kept : ℕ) (out ledger : List ℕ) where
   abbrev 𝓒 : BlockConverter
-  𝓒 = blocks_in m w.rs
+  𝓒 = blocks_in d.mode d.open.rs
 
   abbrev bs : List 𝓒.Block
-  bs = listed w.blocks
+  bs = listed d.open.blocks
 
   abbrev result : Result
   result = change_checked 𝓒 (good bs) (replace_all named) kept out ledger
 
   abbrev each : Remade
-  each = each_from 𝓒 bs (decode_rows n ledger) 0 named
+  each = each_from 𝓒 bs (decode_rows d.blocks ledger) 0 named
 
   abbrev by : Bool → Remade → Result
-  by b x = cond b (exchange_or n kept (decode_rows n ledger) x out ledger) (unchanged 6 0 out ledger)
+  by b x = cond b (exchange_or d.blocks kept (decode_rows d.blocks ledger) x out ledger) (unchanged 6 0 out ledger)
 
-  result_by : {b : Bool} → b ≡ change_fits (replace_all named) n kept out ledger → (c : Bool) → b ≡ c → {x : Remade} → each ≡ x → result ≡ by c x
+  result_by : {b : Bool} → b ≡ change_fits (replace_all named) d.blocks kept out ledger → (c : Bool) → b ≡ c → {x : Remade} → each ≡ x → result ≡ by c x
   unfolding remake
   result_by e c t {x} a =
       ap
       (λ (k : ℕ). cond (change_fits (replace_all named) k kept out ledger)
       (exchange_or k kept (decode_rows k ledger) (each_from 𝓒 bs (decode_rows k ledger) 0 named) out ledger) (unchanged 6 0 out ledger))
-      (listed-count w.blocks ∙ w.many)
+      (listed-count d.open.blocks ∙ d.open.many)
       ∙ (λ i. by ((sym e ∙ t) i) (a i))
 
-  pub replace-unfit : {b : Bool} → b ≡ change_fits (replace_all named) n kept out ledger → b ≡ false → Gives result (refused 6 0) out ledger
+  pub replace-unfit : {b : Bool} → b ≡ change_fits (replace_all named) d.blocks kept out ledger → b ≡ false → Gives result (refused 6 0) out ledger
   replace-unfit e t =
       subst (λ (x : Result). Gives x (refused 6 0) out ledger) (sym (result_by e false t refl))
       (record { answer = refl; bytes = refl; rows = refl })
 
-  module _ {b : Bool} (e : b ≡ change_fits (replace_all named) n kept out ledger) (t : b ≡ true) {r : Planned} {plan : List ℕ}
-      (comes : PlanComes w m ledger r plan each) where
-    pub replace-refused : (r.refusal ≡ 0 → ⊥) → Gives result (refused r.refusal r.row) out ledger
-    replace-refused z =
-        subst (λ (x : Result). Gives x (refused r.refusal r.row) out ledger) (sym (result_by e true t (plan-refused comes z)))
+  module _ {b : Bool} (e : b ≡ change_fits (replace_all named) d.blocks kept out ledger) (t : b ≡ true) {plan : List Note} where
+    pub replace-refused :
+        {x : Refusal} → PlanComes d.open d.mode ledger plan (Err x) each → Gives result (refused (refusal_number x.reason) x.row) out ledger
+    replace-refused {x} comes =
+        subst (λ (y : Result). Gives y (refused (refusal_number x.reason) x.row) out ledger) (sym (result_by e true t (plan-refused comes)))
         (record { answer = refl; bytes = refl; rows = refl })
 
-    module _ (z : r.refusal ≡ 0) where
-      abbrev pub made : PlanMade rules index rows text m n kept plan r out ledger
+    module _ {r : Planned} (comes : PlanComes d.open d.mode ledger plan (Ok r) each) where
+      abbrev pub made : PlanMade d kept plan r out ledger
       made =
-          let s = plan-stretches w m ledger r plan comes z in
-          let f = replace-fits named n kept out ledger e t in
+          let s = plan-stretches d.open d.mode ledger r plan comes in
+          let f = replace-fits named d.blocks kept out ledger e t in
           record {
-            document = w;
             ss = s.ss;
             laid = s.laid;
             block = s.block;
@@ -141,15 +140,17 @@ module _ {rules index rows text : List ℕ} {n : ℕ} (w : Document rules index 
           }
 
       pub replace-as :
-          {a : Answer} {out' ledger' : List ℕ} → Gives (exchange n kept (decode_rows n ledger) made.ss out ledger) a out' ledger'
+          {a : Answer} {out' ledger' : List ℕ} → Gives (exchange d.blocks kept (decode_rows d.blocks ledger) made.ss out ledger) a out' ledger'
           → Gives result a out' ledger'
       replace-as {a} {out'} {ledger'} g =
-          subst (λ (x : Result). Gives x a out' ledger') (sym (result_by e true t (plan-stretches w m ledger r plan comes z).are)) g
+          subst (λ (x : Result). Gives x a out' ledger') (sym (result_by e true t (plan-stretches d.open d.mode ledger r plan comes).are)) g
 
 -- ---- stretches that were planned
 
-module _ {rules index rows text : List ℕ} {m : LaTeXMode} {n kept : ℕ} {plan : List ℕ} {p : Planned} {out ledger : List ℕ}
-    (w : PlanMade rules index rows text m n kept plan p out ledger) where
+module _ {d : OpenDocument} {kept : ℕ} {plan : List Note} {p : Planned} {out ledger : List ℕ} (w : PlanMade d kept plan p out ledger) where
+  abbrev n : ℕ
+  n = d.blocks
+
   abbrev rs : List Row
   rs = decode_rows n ledger
 
@@ -163,7 +164,7 @@ module _ {rules index rows text : List ℕ} {m : LaTeXMode} {n kept : ℕ} {plan
   pub plan-some : 0 < length plan
   plan-some = (laid_from w.laid).some
 
-  pub first-row : 0 < get_or plan 0 0 → HasRow (get_or plan 0 0 - 1) ledger
+  pub first-row : 0 < (note_in plan).block → HasRow ((note_in plan).block - 1) ledger
   first-row h = omega (arith, (laid_from w.laid).says, (laid_from w.laid).within, fits-long n kept ledger w.fitting)
 
   abbrev new_text : List ℕ
@@ -184,7 +185,7 @@ module _ {rules index rows text : List ℕ} {m : LaTeXMode} {n kept : ℕ} {plan
     new = p.at + (kept - old)
 
     capped : min cap new ≡ min cap (length new_text)
-    capped = omega (arith, w.placed, old-is, over-long w.document m ledger kept w.fitting out w.inside w.laid)
+    capped = omega (arith, w.placed, old-is, over-long d.open d.mode ledger kept w.fitting out w.inside w.laid)
 
     -- what the definition gives, with a row for each of n blocks
     abbrev given-at : ℕ → Result
@@ -221,19 +222,19 @@ module _ {rules index rows text : List ℕ} {m : LaTeXMode} {n kept : ℕ} {plan
         new_is = omega (arith, capped, planned-room)
 
         -- the first stretch begins at `at`
-        module _ {at : ℕ} (is_at : EndsBefore ledger (get_or plan 0 0) at) where
+        module _ {at : ℕ} (is_at : EndsBefore ledger ((note_in plan).block) at) where
           at-is : at ≡ end_before (next_block n w.ss) rs
           at-is =
               let f = laid_from w.laid in
               is_at n (omega (arith, f.says, f.within)) ∙ ap (λ k. end_before k rs) f.says
 
           pub long : at + length (rest_text kept rs w.ss out) ≡ length new_text
-          long = omega (arith, at-is, over_first w.document m ledger kept w.fitting out w.inside w.laid)
+          long = omega (arith, at-is, over_first d.open d.mode ledger kept w.fitting out w.inside w.laid)
 
-          abbrev pub exchangeable : Exchangeable rules index rows text m n plan at out ledger
+          abbrev pub exchangeable : Exchangeable d.rules.file.now d.rules.index.now d.rows.now d.text.now d.mode d.blocks plan at out ledger
           exchangeable =
               record {
-                document = w.document;
+                document = d.open;
                 kept = kept;
                 fitting = w.fitting;
                 inside = w.inside;
@@ -249,13 +250,12 @@ module _ {rules index rows text : List ℕ} {m : LaTeXMode} {n kept : ℕ} {plan
               → out₂ ≡ sets out₁ new (replicate (kept - new) 0) → g ≡ pos new -ℤ pos kept → k ≡ p.count
               → Gives exchange-gives (edited new g k) out₂ ledger₁
           planned-done {out₁} {out₂} {ledger₁} {g} {k} x z e c =
-              let d = w.document in
               let text : out₂ ≡ front_over new_text (length new_text) kept out
-              = whole-text d m ledger kept w.fitting out w.inside w.laid (omega (arith, new_is, planned-room))
+              = whole-text d.open d.mode ledger kept w.fitting out w.inside w.laid (omega (arith, new_is, planned-room))
               (x.text ∙ ap (λ i. sets out i (rest_text kept rs w.ss out)) at-is)
               (z ∙ ap (λ i. sets out₁ i (replicate (kept - i) 0)) new_is) in
               let rows : ledger₁ ≡ front_over (ledger_over n rs w.ss ledger) (row_size * n) (row_size * n) ledger
-              = whole-rows d m ledger kept w.fitting out w.inside w.laid (omega (arith, new_is, planned-room))
+              = whole-rows d.open d.mode ledger kept w.fitting out w.inside w.laid (omega (arith, new_is, planned-room))
               (x.rows ∙ ap (λ i. sets ledger (row_size * next_block n w.ss) (rest_rows n rs i w.ss ledger)) at-is) in
               let count : k ≡ come_count w.ss = c ∙ w.count in
               let size : edited new g k ≡ edited (length new_text) (pos (length new_text) -ℤ pos kept) (come_count w.ss)

@@ -6,9 +6,10 @@ use mathlib.Core.List.{List, [], ◌∷◌, ◌++◌}
 use mathlib.Core.Option.Option.{some}
 use Prim.Native.Nat.{ℕ, zero, suc, ◌+◌, ◌*◌, ◌-◌, ◌≤◌, ◌<◌, ◌^◌, min}
 use native.Mathlib.Omega.{arith}
-use borrow.Author.Tests.{leb-true}
+use borrow.Author.Tests.{leb-true, leb-false}
+use borrow.Rule.Slice.PartMut.{put_mid}
 use lib.IntN.{ℤ, pos, negsuc, ◌-ℤ◌}
-use lib.ListN.{length, take, drop, set, replicate, length-append, length-drop, length-replicate, replicate-append-replicate}
+use lib.ListN.{length, take, drop, replicate, length-append, length-take, length-drop, length-replicate}
 use lib.Seq.{sets, length-sets, length-take-le}
 use lib.Dec.{leb, ltb}
 use lib.Signed.{mag}
@@ -16,9 +17,9 @@ use mir.Syntax.{w64}
 use mir.Val.{SFits, to_z, of_z}
 use mir.Facts.{to_z_pos, to_z-of_z}
 use Rattle.text.specs.Writing.{cap}
-use Rattle.text.proofs.Writing.{sets-append}
+use Rattle.text.proofs.Writing.{put_mid-sets}
 use Rattle.mitex_meaning.specs.Parts.{between}
-use Rattle.ledger.specs.Ledger.{row_size, HasRow, decode_rows, encode_rows, fits, Movable, move_rows, written, rows_from}
+use Rattle.ledger.specs.Ledger.{row_size, HasRow, decode_rows, encode_rows, Movable, move_rows, written, rows_from}
 use Rattle.ledger.proofs.Rows.{AllEncodable, encode_rows-length, rows_from-length, rows_from-encodable}
 use Rattle.ledger.proofs.Fitting.{fits-long, fits-movable}
 use Rattle.ledger.proofs.Writing.{front-stored, carry_of-short}
@@ -29,6 +30,7 @@ use Rattle.edit_meaning.specs.Calls.{Gives}
 use Rattle.edit_meaning.specs.Changes.{Stretch, text_over, ledger_over, front_over, exchange}
 use Rattle.edit_meaning.proofs.Bytes.{text_after-stored, text_after-over, over-stored}
 use Rattle.passes.specs.Passes.{Pieced, WrotePieces, kept_block}
+use Rattle.passes.specs.declared.open.OpenDocument.{OpenDocument}
 use Rattle.passes.specs.declared.Standing.{Standing}
 use Rattle.manuscript.proofs.Manuscript.{keeps-short}
 use Rattle.passes.proofs.Ends.{ends-rise, ends-kept, ends-row}
@@ -36,27 +38,24 @@ use Rattle.passes.proofs.Pieces.{gives-short}
 use Rattle.calls.specs.Calls.{Measured, old_end, stretch_of, Overwrote}
 use Rattle.calls.proofs.Settling.{room_for}
 
--- ---- lists
+-- ---- zeros
 
--- zeros stored one after the other
-pub cleared-next : (l : List ℕ) {l' : List ℕ} (from i : ℕ) → from ≤ i → l' ≡ sets l from (replicate (i - from) 0)
-    → set l' i 0 ≡ sets l from (replicate (i + 1 - from) 0)
-cleared-next l from i h e =
-    let z : List ℕ = replicate (i - from) 0 in
-    let k : i ≡ from + length z = omega (arith, length-replicate {A = ℕ} (i - from) 0) in
-    let n : i - from + 1 ≡ i + 1 - from = omega arith in
-    (λ j. set (e j) (k j) 0)
-    ∙ sym (sets-append z (replicate 1 0) l from)
-    ∙ ap (sets l from) (replicate-append-replicate (i - from) 1 0)
-    ∙ ap (λ m. sets l from (replicate m 0)) n
-
-pub cleared-none : (l : List ℕ) (from : ℕ) → l ≡ sets l from (replicate (from - from) 0)
-cleared-none l from = let z : 0 ≡ from - from = omega arith in ap (λ k. sets l from (replicate k 0)) z
-
-pub cleared-all :
-    (l : List ℕ) (from i to : ℕ) → i - from ≤ to - from → to ≤ i
-    → sets l from (replicate (i - from) 0) ≡ sets l from (replicate (to - from) 0)
-cleared-all l from i to h k = let z : i - from ≡ to - from = omega arith in ap (λ n. sets l from (replicate n 0)) z
+-- zeros in a part are zeros stored from where it begins; where it would begin after its end there are none
+pub cleared :
+    (l ys : List ℕ) (low from to : ℕ) → low ≡ min from to → to ≤ length l → ys ≡ replicate (length (take (to - low) (drop low l))) 0
+    → put_mid low (to - low) l ys ≡ sets l from (replicate (to - from) 0)
+cleared l ys low from to e h y =
+    let n : length (take (to - low) (drop low l)) ≡ to - from
+    = omega (arith, length-take (to - low) (drop low l), length-drop low l) in
+    let z : ys ≡ replicate (to - from) 0 = y ∙ ap (λ k. replicate k 0) n in
+    let many : length ys ≡ to - low = omega (arith, ap length z, length-replicate {A = ℕ} (to - from) 0) in
+    put_mid-sets low (to - low) l ys many (omega arith) ∙ ap (sets l low) z ∙ go (leb from to) refl
+  where
+    go : (x : Bool) → leb from to ≡ x → sets l low (replicate (to - from) 0) ≡ sets l from (replicate (to - from) 0)
+    go true q = let k : low ≡ from = omega (arith, leb-true from to q) in ap (λ i. sets l i (replicate (to - from) 0)) k
+    go false q =
+        let k : to - from ≡ 0 = omega (arith, leb-false from to q) in
+        ap (λ i. sets l low (replicate i 0)) k ∙ sym (ap (λ i. sets l from (replicate i 0)) k)
 
 -- ---- the growth: the difference of two numbers below 2 to the power of 63
 
@@ -81,9 +80,11 @@ module _ (a b : ℕ) (h : a < 2 ^ 63) (k : b < 2 ^ 63) where
 -- ---- blocks that were measured
 
 -- q is the first kept block after them, and `old` where it begins
-module _ {rules index rows text : List ℕ} {was n kept : ℕ} {from m : Standing} {out ledger : List ℕ}
-    (w : Measured rules index rows text was n kept from m out ledger) {q old : ℕ} (is-q : q ≡ kept_block m.block n was)
-    (is-old : old ≡ old_end was n m ledger) where
+module _ {d : OpenDocument} {was kept : ℕ} {from m : Standing} {out ledger : List ℕ} (w : Measured d was kept from m out ledger) {q old : ℕ}
+    (is-q : q ≡ kept_block m.block d.blocks was) (is-old : old ≡ old_end was d.blocks m ledger) where
+  abbrev n : ℕ
+  n = d.blocks
+
   old-at : end_before q (decode_rows was ledger) ≡ old
   old-at = ap (λ j. end_before j (decode_rows was ledger)) is-q ∙ sym is-old
 
@@ -97,7 +98,7 @@ module _ {rules index rows text : List ℕ} {was n kept : ℕ} {from m : Standin
   pub old-kept : old ≤ kept
   old-kept = omega (arith, old-at, ends-kept was kept ledger w.fitting q after-within)
 
-  from_old : from.walked.at ≤ old
+  from_old : from.at ≤ old
   from_old =
       omega (arith, w.begins, old-at, ends-rise was kept ledger w.fitting from.block q (omega (arith, w.later)) after-within)
 
@@ -106,9 +107,9 @@ module _ {rules index rows text : List ℕ} {was n kept : ℕ} {from m : Standin
   last_row h = omega (arith, after-within, fits-long was kept ledger w.fitting)
 
   -- the rows after them can be moved as far as the whole text can
-  pub after-movable : m.walked.at + (kept - old) < cap → (j : ℕ) → q ≤ j → j < was → Movable j old m.walked.at ledger
+  pub after-movable : m.at + (kept - old) < cap → (j : ℕ) → q ≤ j → j < was → Movable j old m.at ledger
   after-movable s j h k =
-      fits-movable was kept ledger w.fitting old m.walked.at j k
+      fits-movable was kept ledger w.fitting old m.at j k
       (omega (arith, old-at, ends-row was kept ledger w.fitting q j h k)) s
 
   -- what the definition writes, by the places that the code has
@@ -121,15 +122,15 @@ module _ {rules index rows text : List ℕ} {was n kept : ℕ} {from m : Standin
   abbrev text_as : ℕ → ℕ → List ℕ
   text_as at o = take at out ++ (written w.qs ++ between o kept out)
 
-  text-as : text_over kept (decode_rows was ledger) (stretch_of was n from m w.qs ∷ []) out ≡ text_as from.walked.at old
+  text-as : text_over kept (decode_rows was ledger) (stretch_of was n from m w.qs ∷ []) out ≡ text_as from.at old
   text-as = λ i. text_as (sym w.begins i) (past-old i)
 
   -- the place, where it is no more than a row can say
-  pub measured-place : m.walked.at < cap → m.walked.at ≡ from.walked.at + length (written w.qs)
+  pub measured-place : m.at < cap → m.at ≡ from.at + length (written w.qs)
   measured-place h = omega (arith, w.end)
 
-  module _ (small : m.walked.at < cap) where
-    abbrev pub pieced : (l : List ℕ) → row_size * n ≤ length l → Pieced rules index rows text from m.block l
+  module _ (small : m.at < cap) where
+    abbrev pub pieced : (l : List ℕ) → row_size * n ≤ length l → Pieced d.rules.file.now d.rules.index.now d.rows.now d.text.now from m.block l
     pieced l room =
         record {
           given = w.given;
@@ -141,22 +142,22 @@ module _ {rules index rows text : List ℕ} {was n kept : ℕ} {from m : Standin
           few = omega (arith, w.within, w.most);
         }
 
-    encodable : AllEncodable (rows_from from.walked.at w.qs)
+    encodable : AllEncodable (rows_from from.at w.qs)
     encodable =
-        let c = from.walked.converter in
+        let c = from.converter in
         rows_from-encodable
         (gives-short _ (keeps-short (some c.mode) (some w.given.rs)) (carry_of-short c w.given.outside.label) w.are)
-        from.walked.at (omega (arith, measured-place small))
+        from.at (omega (arith, measured-place small))
 
     abbrev fresh : List ℕ
-    fresh = encode_rows (rows_from from.walked.at w.qs)
+    fresh = encode_rows (rows_from from.at w.qs)
 
     fresh-end : row_size * from.block + length fresh ≡ row_size * m.block
-    fresh-end = omega (arith, encode_rows-length encodable, rows_from-length from.walked.at w.qs, w.many)
+    fresh-end = omega (arith, encode_rows-length encodable, rows_from-length from.at w.qs, w.many)
 
     -- the rows after them, with their new lengths
     abbrev lengthened : List ℕ
-    lengthened = move_rows (was - q) old m.walked.at (drop (row_size * q) ledger)
+    lengthened = move_rows (was - q) old m.at (drop (row_size * q) ledger)
 
     lengthened-end : row_size * q + length lengthened ≡ row_size * was
     lengthened-end =
@@ -164,7 +165,7 @@ module _ {rules index rows text : List ℕ} {was n kept : ℕ} {from m : Standin
           arith,
           after-within,
           fits-long was kept ledger w.fitting,
-          move_rows-length (was - q) old m.walked.at (drop (row_size * q) ledger)
+          move_rows-length (was - q) old m.at (drop (row_size * q) ledger)
               (omega (arith, after-within, fits-long was kept ledger w.fitting, length-drop (row_size * q) ledger)),
         )
 
@@ -175,35 +176,35 @@ module _ {rules index rows text : List ℕ} {was n kept : ℕ} {from m : Standin
 
     ledger-as :
         ledger_over was (decode_rows was ledger) (stretch_of was n from m w.qs ∷ []) ledger
-        ≡ ledger_as from.walked.at q old m.walked.at
+        ≡ ledger_as from.at q old m.at
     ledger-as =
-        let now : end_before from.block (decode_rows was ledger) + length (written w.qs) ≡ m.walked.at
+        let now : end_before from.block (decode_rows was ledger) + length (written w.qs) ≡ m.at
         = omega (arith, measured-place small, w.begins) in
         λ i. ledger_as (sym w.begins i) (past i) (past-old i) (now i)
 
     -- the two buffers, when the tail was moved and the text written, zeros stored after; and the rows after got their lengths and were
     -- moved, theirs written, zeros stored after
-    module _ (room : m.walked.at + (kept - old) ≤ length out) (rows-room : row_size * n ≤ length ledger) where
+    module _ (room : m.at + (kept - old) ≤ length out) (rows-room : row_size * n ≤ length ledger) where
       abbrev new : ℕ
-      new = m.walked.at + (kept - old)
+      new = m.at + (kept - old)
 
       text-stored :
-          {out₁ part out₂ : List ℕ} → out₁ ≡ sets out m.walked.at (between old kept out)
-          → part ≡ sets (take m.walked.at out₁) from.walked.at (written w.qs)
-          → out₂ ≡ sets (part ++ drop m.walked.at out₁) new (replicate (kept - new) 0)
-          → out₂ ≡ front_over (text_as from.walked.at old) new kept out
+          {out₁ part out₂ : List ℕ} → out₁ ≡ sets out m.at (between old kept out)
+          → part ≡ sets (take m.at out₁) from.at (written w.qs)
+          → out₂ ≡ sets (part ++ drop m.at out₁) new (replicate (kept - new) 0)
+          → out₂ ≡ front_over (text_as from.at old) new kept out
       text-stored {out₁} {part} e p z =
-          let at = m.walked.at in
+          let at = m.at in
           let long : length out₁ ≡ length out = ap length e ∙ length-sets out at (between old kept out) in
-          let f : part ++ drop at out₁ ≡ sets (sets out at (between old kept out)) from.walked.at (written w.qs)
+          let f : part ++ drop at out₁ ≡ sets (sets out at (between old kept out)) from.at (written w.qs)
           = ap (λ x. x ++ drop at out₁) p
-          ∙ front-stored out₁ (written w.qs) from.walked.at at (omega (arith, measured-place small)) (omega arith)
-          ∙ ap (λ x. sets x from.walked.at (written w.qs)) e in
+          ∙ front-stored out₁ (written w.qs) from.at at (omega (arith, measured-place small)) (omega arith)
+          ∙ ap (λ x. sets x from.at (written w.qs)) e in
           z
           ∙ ap (λ x. sets x new (replicate (kept - new) 0)) f
           ∙ rw (measured-place small)
-          (text_after-stored from.walked.at old kept (written w.qs) out from_old old-kept w.inside (omega (arith, measured-place small))
-          ∙ text_after-over from.walked.at old kept (from.walked.at + length (written w.qs) + (kept - old)) (written w.qs) out)
+          (text_after-stored from.at old kept (written w.qs) out from_old old-kept w.inside (omega (arith, measured-place small))
+          ∙ text_after-over from.at old kept (from.at + length (written w.qs) + (kept - old)) (written w.qs) out)
 
       -- what `over-stored` says, when the fresh rows end at a and all rows at b
       abbrev StoredTo : ℕ → ℕ → Type 0
@@ -217,7 +218,7 @@ module _ {rules index rows text : List ℕ} {was n kept : ℕ} {from m : Standin
           → ledger₂ ≡ sets ledger₁ (row_size * m.block) (between (row_size * q) (row_size * was) ledger₁)
           → ledger₃ ≡ sets ledger₂ (row_size * from.block) fresh
           → ledger₄ ≡ sets ledger₃ (row_size * n) (replicate (row_size * was - row_size * n) 0)
-          → ledger₄ ≡ front_over (ledger_as from.walked.at q old m.walked.at) (row_size * n) (row_size * was) ledger
+          → ledger₄ ≡ front_over (ledger_as from.at q old m.at) (row_size * n) (row_size * was) ledger
       rows-stored {ledger₁} e₁ e₂ e₃ e₄ =
           let f = row_size * from.block in
           let end : f + length fresh + (row_size * was - row_size * q) ≡ row_size * n = omega (arith, fresh-end, after-many, after-within) in
@@ -230,16 +231,16 @@ module _ {rules index rows text : List ℕ} {was n kept : ℕ} {from m : Standin
           ∙ subst (λ (a : ℕ). StoredTo a (row_size * n)) fresh-end (subst (λ (b : ℕ). StoredTo (f + length fresh) b) end stored)
 
       pub overwrote :
-          {out₁ part out₂ ledger₁ ledger₂ ledger₃ ledger₄ : List ℕ} → out₁ ≡ sets out m.walked.at (between old kept out)
+          {out₁ part out₂ ledger₁ ledger₂ ledger₃ ledger₄ : List ℕ} → out₁ ≡ sets out m.at (between old kept out)
           → ledger₁ ≡ sets ledger (row_size * q) lengthened
           → ledger₂ ≡ sets ledger₁ (row_size * m.block) (between (row_size * q) (row_size * was) ledger₁)
-          → WrotePieces w.qs from (take m.walked.at out₁) ledger₂ part ledger₃
-          → out₂ ≡ sets (part ++ drop m.walked.at out₁) new (replicate (kept - new) 0)
+          → WrotePieces w.qs from (take m.at out₁) ledger₂ part ledger₃
+          → out₂ ≡ sets (part ++ drop m.at out₁) new (replicate (kept - new) 0)
           → ledger₄ ≡ sets ledger₃ (row_size * n) (replicate (row_size * was - row_size * n) 0)
           → Overwrote was n kept from m w.qs out ledger out₂ ledger₄
       overwrote e e₁ e₂ p z e₄ =
           record {
-            text = text-stored e p.text z ∙ (λ i. front_over (sym text-as i) (m.walked.at + (kept - is-old i)) kept out);
+            text = text-stored e p.text z ∙ (λ i. front_over (sym text-as i) (m.at + (kept - is-old i)) kept out);
             rows = rows-stored e₁ e₂ p.rows e₄ ∙ ap (λ x. front_over x (row_size * n) (row_size * was) ledger) (sym ledger-as);
           }
 
@@ -251,14 +252,14 @@ module _ {rules index rows text : List ℕ} {was n kept : ℕ} {from m : Standin
   abbrev new_text : List ℕ
   new_text = text_over kept (decode_rows was ledger) exchanged out
 
-  text_long : length new_text ≡ from.walked.at + length (written w.qs) + (kept - old)
+  text_long : length new_text ≡ from.at + length (written w.qs) + (kept - old)
   text_long =
       omega (
         arith,
         ap length text-as,
-        length-append (take from.walked.at out) (written w.qs ++ between old kept out),
+        length-append (take from.at out) (written w.qs ++ between old kept out),
         length-append (written w.qs) (between old kept out),
-        length-take-le from.walked.at out (omega (arith, from_old, old-kept, w.inside)),
+        length-take-le from.at out (omega (arith, from_old, old-kept, w.inside)),
         length-take-le (kept - old) (drop old out) (omega (arith, length-drop old out, w.inside)),
       )
 
@@ -276,7 +277,7 @@ module _ {rules index rows text : List ℕ} {was n kept : ℕ} {from m : Standin
   abbrev change-gives : Result
   change-gives = exchange was kept (decode_rows was ledger) exchanged out ledger
 
-  exchange-at : change-gives ≡ given-at (from.walked.at + length (written w.qs) + (kept - old)) n (length w.qs)
+  exchange-at : change-gives ≡ given-at (from.at + length (written w.qs) + (kept - old)) n (length w.qs)
   unfolding exchange
   exchange-at =
       let many : (was + (length w.qs + 0)) - (kept_block m.block n was - from.block + 0) ≡ n
@@ -284,11 +285,11 @@ module _ {rules index rows text : List ℕ} {was n kept : ℕ} {from m : Standin
       let count : length w.qs + 0 ≡ length w.qs = omega arith in
       λ i. given-at (text_long i) (many i) (count i)
 
-  module _ {b : Bool} (r : b ≡ room_for_text (m.walked.at + (kept - old)) (length out) && leb (row_size * n) (length ledger)) where
+  module _ {b : Bool} (r : b ≡ room_for_text (m.at + (kept - old)) (length out) && leb (row_size * n) (length ledger)) where
     -- the room that the code asks for is that of the definition: where the place is not the length, neither has room
-    room-same : b ≡ room_for_text (from.walked.at + length (written w.qs) + (kept - old)) (length out) && leb (row_size * n) (length ledger)
+    room-same : b ≡ room_for_text (from.at + length (written w.qs) + (kept - old)) (length out) && leb (row_size * n) (length ledger)
     room-same =
-        let e : min cap (m.walked.at + (kept - old)) ≡ min cap (from.walked.at + length (written w.qs) + (kept - old))
+        let e : min cap (m.at + (kept - old)) ≡ min cap (from.at + length (written w.qs) + (kept - old))
         = omega (arith, w.end) in
         r ∙ ap (λ x. x && leb (row_size * n) (length ledger)) (room_for _ _ (length out) e)
 
@@ -296,17 +297,17 @@ module _ {rules index rows text : List ℕ} {was n kept : ℕ} {from m : Standin
     no_room h = rw (exchange-at, ← room-same, h) (record { answer = refl; bytes = refl; rows = refl })
 
     module _ (h : b ≡ true) where
-      pub has-room : (m.walked.at + (kept - old) ≤ min (length out) text_most) × (row_size * n ≤ length ledger)
+      pub has-room : (m.at + (kept - old) ≤ min (length out) text_most) × (row_size * n ≤ length ledger)
       unfolding room_for_text
       has-room =
-          let x = (and-eq-true_iff (room_for_text (m.walked.at + (kept - old)) (length out)) (leb (row_size * n) (length ledger))).0 (sym r ∙ h) in
-          (leb-true (m.walked.at + (kept - old)) (min (length out) text_most) x.0, leb-true (row_size * n) (length ledger) x.1)
+          let x = (and-eq-true_iff (room_for_text (m.at + (kept - old)) (length out)) (leb (row_size * n) (length ledger))).0 (sym r ∙ h) in
+          (leb-true (m.at + (kept - old)) (min (length out) text_most) x.0, leb-true (row_size * n) (length ledger) x.1)
 
-      pub spliced : {g : ℤ} {k : ℕ} {out' ledger' : List ℕ} → g ≡ pos (m.walked.at + (kept - old)) -ℤ pos kept → k ≡ m.block - from.block
+      pub spliced : {g : ℤ} {k : ℕ} {out' ledger' : List ℕ} → g ≡ pos (m.at + (kept - old)) -ℤ pos kept → k ≡ m.block - from.block
           → Overwrote was n kept from m w.qs out ledger out' ledger'
-          → Gives change-gives (edited (m.walked.at + (kept - old)) g k) out' ledger'
+          → Gives change-gives (edited (m.at + (kept - old)) g k) out' ledger'
       spliced {g} {k} e c v =
-          let a : m.walked.at ≡ from.walked.at + length (written w.qs) = measured-place (omega (arith, has-room.0)) in
+          let a : m.at ≡ from.at + length (written w.qs) = measured-place (omega (arith, has-room.0)) in
           let s : k ≡ length w.qs = omega (arith, w.many) in
           let t : old ≡ old_end was n m ledger = is-old in
           rw (exchange-at, ← room-same, h, ← a) (record { answer = cc; bytes = rw t v.text; rows = v.rows })

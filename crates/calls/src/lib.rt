@@ -2,34 +2,34 @@
 // blocks measured, and only then any lent byte is written.
 #![tactic(auto)]
 
-ghost use Rattle.std.specs.Prelude.{◌≡◌, true, ◌&&◌, ℕ, suc, ◌+◌, ◌*◌, ◌-◌, ◌≤◌, ◌<◌, min, length, take, drop, replicate, leb, ltb};
+ghost use Rattle.std.specs.Prelude.{◌≡◌, true, ◌&&◌, ℕ, suc, ◌+◌, ◌*◌, ◌-◌, ◌≤◌, ◌<◌, min, length, take, drop, replicate, leb, ltb, MatchOption};
+ghost use Rattle.std.proofs.Math.Option.Option.{none as nothing, some};
 ghost use Rattle.std.proofs.lemmas.List.Edits.{sets};
 ghost use Rattle.text.specs.Writing.{cap};
-ghost use Rattle.mitex_spec.specs.RuleFile.{rules_of};
 ghost use Rattle.mitex_spec.specs.Index.{index_size};
 ghost use Rattle.tree_file.specs.Layout.{blocks_most};
-ghost use Rattle.tree_file.specs.Check.{check_tree, checked_answer};
 ghost use Rattle.mitex_meaning.specs.Outcome.{label_most};
 ghost use Rattle.mitex_meaning.specs.State.{carry_of};
-ghost use Rattle.ledger.specs.Ledger.{row_size, HasRow, RowFits, decode_rows, same_carry};
+ghost use Rattle.ledger.specs.Ledger.{row_size, RowFits, decode_rows, same_carry};
 ghost use Rattle.edit_meaning.specs.Edit.{text_most, room_for_text, carry_before};
 ghost use Rattle.edit_meaning.specs.Run.{size_after};
 ghost use Rattle.edit_meaning.specs.Calls.{Converts, Edits};
 ghost use Rattle.edit_meaning.specs.Changes.{named_there, old_count, change_fits};
 ghost use Rattle.edit_meaning.specs.Changes.Kind.{put_in, take_out, replace_all};
 ghost use Rattle.edit_meaning.specs.ChangeCalls.{Alters, RunsChanges, DemandedChanges};
-ghost use Rattle.passes.specs.Passes.{Document, BlocksUpTo};
 ghost use Rattle.manuscript.specs.Manuscript.{mode_of, manuscript};
-ghost use Rattle.calls.specs.Calls.{answer_of_convert, answer_of_edit, open_tree, opened, CallBegins, block_rows, Draft};
+ghost use Rattle.passes.specs.Passes.{BlocksUpTo};
+ghost use Rattle.calls.specs.Calls.{answer_of_convert, answer_of_edit, CallBegins, block_rows, Draft};
 ghost use Rattle.calls.specs.Calls.{Delivers, ConvertsBlocks, kind_by, Measured, Roomy, Overwrites, Splices, MeasuresAgain, ChangesBlocks, PlanMade, ExchangesPlanned};
 ghost use Rattle.calls.specs.Three.{three_changes, three_answers};
 
 use ledger::ROW_SIZE;
 use mitex_meaning::{Converter, LaTeXMode};
-use mitex_spec::INDEX_SIZE;
-use passes::Standing;
-use stretches::{PLAN_SIZE, Planned};
-use tree_file::{BLOCKS_MOST, Checked};
+use mitex_spec::{INDEX_SIZE, Rules};
+use passes::{OpenDocument, Standing};
+use refusals::{Reason, Refusal, no_row};
+use stretches::{Note, PLAN_SIZE, Planned};
+use tree_file::BLOCKS_MOST;
 
 // A text buffer counts as at most so many bytes.
 const TEXT_MOST: usize = 4294967295;
@@ -57,94 +57,49 @@ const MIDDLE_BLOCKS: usize = 128;
 
 const MIDDLE_TEXT: usize = 16384;
 
-// Convert's answer: a refusal's number and row, or the text's length and the count of blocks.
-#[derive(Clone, Copy)]
-pub enum Converted {
-    Refused { number: u8, row: usize },
-    Done { length: usize, blocks: usize },
+// What Convert gives: the text's length and the count of blocks.
+#[derive(Clone, Copy, PartialEq, Eq, Debug)]
+pub struct Converted {
+    pub length: usize,
+    pub blocks: usize,
 }
 
 // What a call does to one block.
-#[derive(Clone, Copy)]
+#[derive(Clone, Copy, PartialEq, Eq, Debug)]
 pub enum Way {
     Replace,
     PutIn,
     TakeOut,
 }
 
-// The answer of a change: a refusal's number and row, or the new length, the growth, and the count of blocks converted again.
-#[derive(Clone, Copy)]
-pub enum Edited {
-    Refused {
-        number: u8,
-        row: usize,
-    },
-    Done {
-        length: usize,
-        growth: i64,
-        count: usize,
-    },
+// What a change gives: the new length, the growth, and the count of blocks converted again.
+#[derive(Clone, Copy, PartialEq, Eq, Debug)]
+pub struct Edited {
+    pub length: usize,
+    pub growth: i64,
+    pub count: usize,
 }
 
 // What three changes in a row answered, and the text's length after them.
 #[derive(Clone, Copy)]
 pub struct Three {
-    pub first: Edited,
-    pub second: Edited,
-    pub third: Edited,
+    pub first: Result<Edited, Refusal>,
+    pub second: Result<Edited, Refusal>,
+    pub third: Result<Edited, Refusal>,
     pub kept: usize,
-}
-
-// What refusals 1 to 5 leave: a mode, where the tree file's rows begin, and how many blocks there are.
-#[derive(Clone, Copy)]
-pub enum Opened {
-    Shut {
-        number: u8,
-        row: usize,
-    },
-    Open {
-        mode: LaTeXMode,
-        start: usize,
-        blocks: usize,
-    },
 }
 
 // ---- the files
 
-// Refusals 3 to 5.
-fn open_tree(mode: LaTeXMode, tree: &[u8]) -> Opened
-    ensures { result ≡ open_tree mode (checked_answer (check_tree tree.now)) }
+// The mode of a number: 0 is text, 1 is math.
+fn mode_of(mode: u8) -> Option<LaTeXMode>
+    ensures { MatchOption result (mode_of mode ≡ nothing) (λ m. mode_of mode ≡ some m) }
 {
-    match tree_file::check_tree(tree) {
-        Checked::Refused { number, row } => Opened::Shut { number, row },
-        Checked::Whole {
-            start,
-            rows: _,
-            blocks,
-        } => Opened::Open {
-            mode,
-            start,
-            blocks,
-        },
+    match mode {
+        0 => Some(LaTeXMode::Text),
+        1 => Some(LaTeXMode::Math),
+        _ => None,
     }
-}
-
-// What every call begins with: refusals 1 to 5; where there is none the index is that of the rules.
-fn open(mode: u8, rules: &[u8], tree: &[u8], index: &mut [u32]) -> Opened
-    requires { length index.old ≡ index_size }
-    ensures answer { result ≡ opened (mode_of mode) (rules_of rules.now) (checked_answer (check_tree tree.now)) }
-    ensures begins { CallBegins mode rules.now tree.now index.new result }
-{
-    if 1 < mode {
-        return Opened::Shut { number: 1, row: 0 };
-    }
-    if !mitex_spec::check_rules(rules, index) {
-        return Opened::Shut { number: 2, row: 0 };
-    }
-    if mode == 0 {
-        return open_tree(LaTeXMode::Text, tree);
-    }
-    open_tree(LaTeXMode::Math, tree)
 }
 
 // The rows of the blocks in a tree file whose rows start there: those after the root's.
@@ -152,9 +107,31 @@ fn block_rows(tree: &[u8], start: usize) -> &[u8]
     requires { start + 16 ≤ length tree.now }
     ensures { result.now ≡ block_rows start tree.now }
 {
-    let from = start + 8;
-    let end = tree.len() - 8;
-    &tree[from..end]
+    &tree[start + 8..tree.len() - 8]
+}
+
+// What every call begins with: refusals 1 to 5, or the document that is open, over the index of its rules.
+fn open<'a>(
+    mode: u8,
+    rules: &'a [u8],
+    tree: &'a [u8],
+    index: &'a mut [u32],
+) -> Result<OpenDocument<'a>, Refusal>
+    requires { length index.old ≡ index_size }
+    ensures { CallBegins mode rules.now tree.now result }
+{
+    let mode = mode_of(mode).ok_or(no_row(Reason::NoMode))?;
+    if !mitex_spec::check_rules(rules, index) {
+        return Err(no_row(Reason::BadRules));
+    }
+    let whole = tree_file::check_tree(tree)?;
+    Ok(OpenDocument {
+        mode,
+        rules: Rules { file: rules, index },
+        rows: block_rows(tree, whole.start),
+        text: &tree[..whole.start],
+        blocks: whole.blocks,
+    })
 }
 
 // ---- what Convert and the changes share
@@ -163,229 +140,120 @@ fn block_rows(tree: &[u8], start: usize) -> &[u8]
 fn text_room(out: &[u8]) -> usize
     ensures { result ≡ min (length out.now) text_most }
 {
-    if TEXT_MOST < out.len() {
-        return TEXT_MOST;
-    }
-    out.len()
+    out.len().min(TEXT_MOST)
 }
 
 // Whether the buffers have room for a text of so many bytes and a row for each of so many blocks.
 fn has_room(out: &[u8], ledger: &[u8], at: usize, blocks: usize) -> bool
     ensures { result ≡ room_for_text at (length out.now) && leb (row_size * blocks) (length ledger.now) }
 {
-    if text_room(out) < at {
-        return false;
-    }
-    if ledger.len() / ROW_SIZE < blocks {
-        return false;
-    }
-    true
+    at <= text_room(out) && blocks <= ledger.len() / ROW_SIZE
 }
 
 // ---- Convert
 
 // The draft's text and rows, where the draft is long enough for the text; else the blocks are converted once more.
-fn deliver<'a>(
+fn deliver(
+    d: OpenDocument,
     draft: &[u8],
     draft_rows: &[u8],
-    rows: &[u8],
-    text: &'a [u8],
-    rules: &'a [u8],
-    index: &[u32],
     from: Standing,
-    blocks: usize,
     out: &mut [u8],
     ledger: &mut [u8],
 )
-    requires { Draft rules.now index.now rows.now text.now from blocks draft.now draft_rows.now out.old ledger.old }
-    ensures { Delivers rules.now index.now rows.now text.now from blocks
-        draft.now draft_rows.now out.old ledger.old out.new ledger.new }
+    requires { Draft d from draft.now draft_rows.now out.old ledger.old }
+    ensures { Delivers d.entry from draft.now draft_rows.now out.old ledger.old out.new ledger.new }
 {
     let at = out.len();
     if draft.len() < at {
-        passes::write_blocks(out, ledger, rows, text, rules, index, from, blocks);
+        passes::write_blocks(d, out, ledger, from, d.blocks);
         return;
     }
-    let end = ROW_SIZE * blocks;
-    text::put(out, 0, &draft[..at]);
-    text::put(&mut ledger[..end], 0, &draft_rows[..end]);
+    let end = ROW_SIZE * d.blocks;
+    out.copy_from_slice(&draft[..at]);
+    ledger[..end].copy_from_slice(&draft_rows[..end]);
 }
 
 // The blocks of a document, drafted and then delivered: the text, and a row for each.
-fn convert_by_draft<'a>(
+fn convert_by_draft(
+    d: OpenDocument,
     draft: &mut [u8],
     draft_rows: &mut [u8],
-    rows: &[u8],
-    text: &'a [u8],
-    rules: &'a [u8],
-    index: &[u32],
-    mode: LaTeXMode,
-    blocks: usize,
     out: &mut [u8],
     ledger: &mut [u8],
-) -> Converted
-    requires document { Document rules.now index.now rows.now text.now blocks }
-    requires draft_len_bound { (length draft.old ≤ cap) × (row_size * blocks ≤ length draft_rows.old) }
-    ensures { ConvertsBlocks rules.now index.now rows.now text.now mode blocks
-        out.old ledger.old result out.new ledger.new }
+) -> Result<Converted, Refusal>
+    requires { (length draft.old ≤ cap) × (row_size * d.blocks ≤ length draft_rows.old) }
+    ensures { ConvertsBlocks d.entry out.old ledger.old result out.new ledger.new }
 {
-    let from = passes::stand_at(rows, 0, 0, Converter::opening(mode));
-    let m = passes::draft_blocks(draft, draft_rows, rows, text, rules, index, from, blocks);
-    let whole = m.walked;
-    let number = whole.refusal;
-    let row = whole.row;
-    let at = whole.at;
-    let room = has_room(out, ledger, at, blocks);
-    if number != 0 {
-        return Converted::Refused { number, row };
+    let from = passes::stand_at(d, 0, 0, Converter::opening(d.mode));
+    let m = passes::draft_blocks(d, draft, draft_rows, from)?;
+    if !has_room(out, ledger, m.at, d.blocks) {
+        return Err(no_row(Reason::TooShort));
     }
-    if !room {
-        return Converted::Refused { number: 15, row: 0 };
-    }
-    deliver(
-        draft,
-        draft_rows,
-        rows,
-        text,
-        rules,
-        index,
-        from,
-        blocks,
-        &mut out[..at],
-        ledger,
-    );
-    Converted::Done { length: at, blocks }
+    deliver(d, draft, draft_rows, from, &mut out[..m.at], ledger);
+    Ok(Converted {
+        length: m.at,
+        blocks: d.blocks,
+    })
+}
+
+// The same over a draft with room for so many bytes of text and of rows.
+fn convert_over<const TEXT: usize, const ROWS: usize>(
+    d: OpenDocument,
+    out: &mut [u8],
+    ledger: &mut [u8],
+) -> Result<Converted, Refusal>
+    requires { (TEXT ≤ cap) × (ROWS ≤ cap) × (row_size * d.blocks ≤ ROWS) }
+    ensures { ConvertsBlocks d.entry out.old ledger.old result out.new ledger.new }
+{
+    let mut draft = [0u8; TEXT];
+    let mut draft_rows = [0u8; ROWS];
+    convert_by_draft(d, &mut draft, &mut draft_rows, out, ledger)
 }
 
 // Whether a document has at most so much text and so many blocks.
-fn is_within(text: &[u8], blocks: usize, longest: usize, most: usize) -> bool
-    ensures { result ≡ true → blocks ≤ most }
+fn is_within(d: OpenDocument, longest: usize, most: usize) -> bool
+    ensures { result ≡ true → d.entry.blocks ≤ most }
 {
-    if longest < text.len() {
-        return false;
-    }
-    blocks <= most
-}
-
-// The blocks of a document that is not short, over a draft.
-fn convert_longer<'a>(
-    rows: &[u8],
-    text: &'a [u8],
-    rules: &'a [u8],
-    index: &[u32],
-    mode: LaTeXMode,
-    blocks: usize,
-    out: &mut [u8],
-    ledger: &mut [u8],
-) -> Converted
-    requires { Document rules.now index.now rows.now text.now blocks }
-    ensures { ConvertsBlocks rules.now index.now rows.now text.now mode blocks
-        out.old ledger.old result out.new ledger.new }
-{
-    if is_within(text, blocks, MIDDLE_TEXT, MIDDLE_BLOCKS) {
-        let mut draft = [0u8; DRAFT];
-        let mut draft_rows = [0u8; MIDDLE_ROWS];
-        return convert_by_draft(
-            &mut draft,
-            &mut draft_rows,
-            rows,
-            text,
-            rules,
-            index,
-            mode,
-            blocks,
-            out,
-            ledger,
-        );
-    }
-    let mut draft = [0u8; DRAFT];
-    let mut draft_rows = [0u8; DRAFT_ROWS];
-    convert_by_draft(
-        &mut draft,
-        &mut draft_rows,
-        rows,
-        text,
-        rules,
-        index,
-        mode,
-        blocks,
-        out,
-        ledger,
-    )
+    d.text.len() <= longest && d.blocks <= most
 }
 
 // The blocks of a document, over a draft: a shorter one for a shorter document, since a draft is cleared before it is used.
-fn convert_blocks<'a>(
-    rows: &[u8],
-    text: &'a [u8],
-    rules: &'a [u8],
-    index: &[u32],
-    mode: LaTeXMode,
-    blocks: usize,
-    out: &mut [u8],
-    ledger: &mut [u8],
-) -> Converted
-    requires { Document rules.now index.now rows.now text.now blocks }
-    ensures { ConvertsBlocks rules.now index.now rows.now text.now mode blocks
-        out.old ledger.old result out.new ledger.new }
+fn convert_blocks(d: OpenDocument, out: &mut [u8], ledger: &mut [u8]) -> Result<Converted, Refusal>
+    ensures { ConvertsBlocks d.entry out.old ledger.old result out.new ledger.new }
 {
-    if is_within(text, blocks, SHORT_TEXT, SHORT_BLOCKS) {
-        let mut draft = [0u8; SHORT_DRAFT];
-        let mut draft_rows = [0u8; SHORT_ROWS];
-        return convert_by_draft(
-            &mut draft,
-            &mut draft_rows,
-            rows,
-            text,
-            rules,
-            index,
-            mode,
-            blocks,
-            out,
-            ledger,
-        );
+    if is_within(d, SHORT_TEXT, SHORT_BLOCKS) {
+        return convert_over::<SHORT_DRAFT, SHORT_ROWS>(d, out, ledger);
     }
-    convert_longer(rows, text, rules, index, mode, blocks, out, ledger)
+    if is_within(d, MIDDLE_TEXT, MIDDLE_BLOCKS) {
+        return convert_over::<DRAFT, MIDDLE_ROWS>(d, out, ledger);
+    }
+    convert_over::<DRAFT, DRAFT_ROWS>(d, out, ledger)
 }
 
 // A tree file converted from its start, for mode 0 (text) or 1 (math): the text and a ledger row for each block are written.
-pub fn convert<'a>(
+pub fn convert(
     mode: u8,
-    rules: &'a [u8],
-    tree: &'a [u8],
+    rules: &[u8],
+    tree: &[u8],
     text: &mut [u8],
     ledger: &mut [u8],
-) -> Converted
+) -> Result<Converted, Refusal>
     ensures { Converts (manuscript mode rules.now) tree.now text.old ledger.old
         (answer_of_convert result) text.new ledger.new }
 {
     let mut index = [0u32; INDEX_SIZE];
-    match open(mode, rules, tree, &mut index) {
-        Opened::Shut { number, row } => Converted::Refused { number, row },
-        Opened::Open {
-            mode: m,
-            start,
-            blocks,
-        } => convert_blocks(
-            block_rows(tree, start),
-            &tree[..start],
-            rules,
-            &index,
-            m,
-            blocks,
-            text,
-            ledger,
-        ),
-    }
+    let d = open(mode, rules, tree, &mut index)?;
+    convert_blocks(d, text, ledger)
 }
 
 // `convert_text` of the Rust.
-pub fn convert_text<'a>(
-    rules: &'a [u8],
-    tree: &'a [u8],
+pub fn convert_text(
+    rules: &[u8],
+    tree: &[u8],
     text: &mut [u8],
     ledger: &mut [u8],
-) -> Converted
+) -> Result<Converted, Refusal>
     ensures { Converts (manuscript 0 rules.now) tree.now text.old ledger.old
         (answer_of_convert result) text.new ledger.new }
 {
@@ -393,12 +261,12 @@ pub fn convert_text<'a>(
 }
 
 // `convert_math` of the Rust.
-pub fn convert_math<'a>(
-    rules: &'a [u8],
-    tree: &'a [u8],
+pub fn convert_math(
+    rules: &[u8],
+    tree: &[u8],
     text: &mut [u8],
     ledger: &mut [u8],
-) -> Converted
+) -> Result<Converted, Refusal>
     ensures { Converts (manuscript 1 rules.now) tree.now text.old ledger.old
         (answer_of_convert result) text.new ledger.new }
 {
@@ -414,12 +282,7 @@ fn old_count(way: Way, blocks: usize) -> usize
 {
     match way {
         Way::Replace => blocks,
-        Way::PutIn => {
-            if blocks == 0 {
-                return 0;
-            }
-            blocks - 1
-        }
+        Way::PutIn => blocks.saturating_sub(1),
         Way::TakeOut => blocks + 1,
     }
 }
@@ -429,8 +292,7 @@ fn named_there(way: Way, blocks: usize, block: usize) -> bool
     ensures { result ≡ named_there (kind_by way block) blocks }
 {
     match way {
-        Way::Replace => block < blocks,
-        Way::PutIn => block < blocks,
+        Way::Replace | Way::PutIn => block < blocks,
         Way::TakeOut => block <= blocks,
     }
 }
@@ -447,13 +309,8 @@ fn change_fits(
     requires { blocks ≤ blocks_most }
     ensures { result ≡ change_fits (kind_by way block) blocks kept text.now ledger.now }
 {
-    if !named_there(way, blocks, block) {
-        return false;
-    }
-    if text.len() < kept {
-        return false;
-    }
-    ledger::ledger_fits(ledger, old_count(way, blocks), kept)
+    let within = named_there(way, blocks, block) && kept <= text.len();
+    within && ledger::ledger_fits(ledger, old_count(way, blocks), kept)
 }
 
 // Zeros from `from` up to `to`, where that is after it.
@@ -461,14 +318,10 @@ fn clear_between(out: &mut [u8], from: usize, to: usize)
     requires { to ≤ length out.old }
     ensures { out.new ≡ sets out.old from (replicate (to - from) 0) }
 {
-    let mut i = from;
-    while i < to {
-        out[i] = 0;
-        i += 1;
-    }
+    out[from.min(to)..to].fill(0);
 }
 
-// The rows from `q` on up to `was`, moved to the place of row `to`.
+// The rows from `q` on up to `was`, moved to the place of row `to`. Where they stand there, as after an edit, nothing is copied.
 fn shift_rows(ledger: &mut [u8], q: usize, to: usize, was: usize)
     requires { (q ≤ was) × (row_size * was ≤ length ledger.old) × (row_size * (to + (was - q)) ≤ length ledger.old) }
     ensures { ledger.new ≡ sets ledger.old (row_size * to)
@@ -483,13 +336,9 @@ fn shift_rows(ledger: &mut [u8], q: usize, to: usize, was: usize)
 
 // Both tails moved: the kept text from `old` on, and the kept rows from `q` on, which get their new lengths. The blocks that were measured
 // are written before them, and zeros where text or rows shrank.
-fn overwrite<'a>(
-    rows: &[u8],
-    text: &'a [u8],
-    rules: &'a [u8],
-    index: &[u32],
+fn overwrite(
+    d: OpenDocument,
     was: usize,
-    blocks: usize,
     kept: usize,
     from: Standing,
     m: Standing,
@@ -498,180 +347,125 @@ fn overwrite<'a>(
     out: &mut [u8],
     ledger: &mut [u8],
 )
-    requires measured { Measured rules.now index.now rows.now text.now was blocks kept from m out.old ledger.old }
-    requires roomy { Roomy was blocks kept m q old out.old ledger.old }
-    ensures { Overwrites rules.now index.now rows.now text.now was blocks kept from m
-        out.old ledger.old out.new ledger.new }
+    requires measured { Measured d was kept from m out.old ledger.old }
+    requires roomy { Roomy was d.blocks kept m q old out.old ledger.old }
+    ensures { Overwrites d.entry was kept from m out.old ledger.old out.new ledger.new }
 {
-    let walked = m.walked;
-    let at = walked.at;
-    let tail = kept - old;
+    let at = m.at;
     let to = m.block;
-    text::move_bytes(out, old, at, tail);
+    text::move_bytes(out, old, at, kept - old);
     ledger::move_rows(ledger, q, was, old, at);
     shift_rows(ledger, q, to, was);
-    passes::write_blocks(&mut out[..at], ledger, rows, text, rules, index, from, to);
-    clear_between(out, at + tail, kept);
-    clear_between(ledger, ROW_SIZE * blocks, ROW_SIZE * was);
+    passes::write_blocks(d, &mut out[..at], ledger, from, to);
+    clear_between(out, at + (kept - old), kept);
+    clear_between(ledger, ROW_SIZE * d.blocks, ROW_SIZE * was);
 }
 
 // The blocks that were measured, in the place of the kept ones, where there is room for the new text and its rows. After both
 // as many kept blocks are left as new ones.
-fn splice<'a>(
-    rows: &[u8],
-    text: &'a [u8],
-    rules: &'a [u8],
-    index: &[u32],
+fn splice(
+    d: OpenDocument,
     was: usize,
-    blocks: usize,
     kept: usize,
     from: Standing,
     m: Standing,
     out: &mut [u8],
     ledger: &mut [u8],
-) -> Edited
-    requires { Measured rules.now index.now rows.now text.now was blocks kept from m out.old ledger.old }
-    ensures { Splices rules.now index.now rows.now text.now was blocks kept from m
-        out.old ledger.old result out.new ledger.new }
+) -> Result<Edited, Refusal>
+    requires { Measured d was kept from m out.old ledger.old }
+    ensures { Splices d.entry was kept from m out.old ledger.old result out.new ledger.new }
 {
-    let q = m.block + was - blocks;
+    let q = m.block + was - d.blocks;
     let old = passes::end_before(ledger, q);
-    let walked = m.walked;
-    let new = walked.at + (kept - old);
-    if !has_room(out, ledger, new, blocks) {
-        return Edited::Refused { number: 15, row: 0 };
+    let new = m.at + (kept - old);
+    if !has_room(out, ledger, new, d.blocks) {
+        return Err(no_row(Reason::TooShort));
     }
-    overwrite(
-        rows, text, rules, index, was, blocks, kept, from, m, q, old, out, ledger,
-    );
-    let growth = new as i64 - kept as i64;
-    let count = m.block - from.block;
-    Edited::Done {
+    overwrite(d, was, kept, from, m, q, old, out, ledger);
+    Ok(Edited {
         length: new,
-        growth,
-        count,
-    }
+        growth: new as i64 - kept as i64,
+        count: m.block - from.block,
+    })
 }
 
 // Whether nothing is to be converted again: a block was taken out, and the carry before it is that of its kept row.
 fn met_at_once(ledger: &[u8], from: Standing, blocks: usize, was: usize) -> bool
     requires block_lt_was { blocks < was → (from.block < was) × RowFits from.block ledger.now }
-    requires label_len_bound { (from.walked.converter.label_len ≤ label_most) × (from.block ≤ blocks_most) }
-    ensures { result ≡ ltb blocks was && same_carry (carry_of from.walked.converter)
+    requires label_len_bound { (from.converter.label_len ≤ label_most) × (from.block ≤ blocks_most) }
+    ensures { result ≡ ltb blocks was && same_carry (carry_of from.converter)
         (carry_before (suc from.block) (decode_rows was ledger.now)) }
 {
-    if was <= blocks {
-        return false;
-    }
-    passes::met(ledger, from.block + 1, from)
+    blocks < was && passes::met(ledger, from.block + 1, from)
 }
 
 // The blocks to convert again, measured.
-fn measure_again<'a>(
-    rows: &[u8],
-    text: &'a [u8],
-    rules: &'a [u8],
-    index: &[u32],
+fn measure_again(
+    d: OpenDocument,
     ledger: &[u8],
     from: Standing,
-    blocks: usize,
     was: usize,
-) -> Standing
-    requires blocks_up_to { BlocksUpTo rules.now index.now rows.now text.now from blocks }
-    requires blocks_bound { (blocks ≤ from.block + 1 + was) × (was ≤ blocks + 1) × ((i : ℕ) → i < was → RowFits i ledger.now) }
-    ensures { MeasuresAgain rules.now index.now rows.now text.now from blocks was
-        ledger.now result }
+) -> Result<Standing, Refusal>
+    requires blocks_up_to { BlocksUpTo d.rules.file.now d.rules.index.now d.rows.now d.text.now from d.blocks }
+    requires blocks_bound { (d.blocks ≤ from.block + 1 + was) × (was ≤ d.blocks + 1) × ((i : ℕ) → i < was → RowFits i ledger.now) }
+    ensures { MeasuresAgain d.entry from was ledger.now result }
 {
-    if met_at_once(ledger, from, blocks, was) {
-        return from;
+    if met_at_once(ledger, from, d.blocks, was) {
+        return Ok(from);
     }
-    passes::measure(rows, text, rules, index, ledger, from, blocks, was)
+    passes::measure(d, ledger, from, was)
 }
 
 // One block changed, and those after it converted again up to the first after which the carry is the kept one.
-fn change_blocks<'a>(
-    rows: &[u8],
-    text: &'a [u8],
-    rules: &'a [u8],
-    index: &[u32],
-    mode: LaTeXMode,
-    blocks: usize,
+fn change_blocks(
+    d: OpenDocument,
     way: Way,
     block: usize,
     kept: usize,
     out: &mut [u8],
     ledger: &mut [u8],
-) -> Edited
-    requires { Document rules.now index.now rows.now text.now blocks }
-    ensures { ChangesBlocks rules.now index.now rows.now
-        text.now mode blocks (kind_by way block) kept out.old ledger.old result out.new ledger.new }
+) -> Result<Edited, Refusal>
+    ensures { ChangesBlocks d.entry (kind_by way block) kept out.old ledger.old result out.new ledger.new }
 {
-    if !change_fits(way, blocks, block, kept, out, ledger) {
-        return Edited::Refused { number: 6, row: 0 };
+    if !change_fits(way, d.blocks, block, kept, out, ledger) {
+        return Err(no_row(Reason::NoFit));
     }
-    let was = old_count(way, blocks);
+    let was = old_count(way, d.blocks);
     let at = passes::end_before(ledger, block);
-    let from = passes::stand_at(rows, block, at, passes::carry_before(ledger, block, mode));
-    let m = measure_again(rows, text, rules, index, ledger, from, blocks, was);
-    let walked = m.walked;
-    if walked.refusal != 0 {
-        return Edited::Refused {
-            number: walked.refusal,
-            row: walked.row,
-        };
-    }
-    splice(
-        rows, text, rules, index, was, blocks, kept, from, m, out, ledger,
-    )
+    let from = passes::stand_at(d, block, at, passes::carry_before(ledger, block, d.mode));
+    let m = measure_again(d, ledger, from, was)?;
+    splice(d, was, kept, from, m, out, ledger)
 }
 
 // A call that changes one block: `tree` is the new tree file, `kept` the text's length before; text and ledger are those that were kept.
-fn change<'a>(
+fn change(
     mode: u8,
-    rules: &'a [u8],
-    tree: &'a [u8],
+    rules: &[u8],
+    tree: &[u8],
     way: Way,
     block: usize,
     kept: usize,
     text: &mut [u8],
     ledger: &mut [u8],
-) -> Edited
+) -> Result<Edited, Refusal>
     ensures { Alters (manuscript mode rules.now) tree.now (kind_by way block) kept text.old
         ledger.old (answer_of_edit result) text.new ledger.new }
 {
     let mut index = [0u32; INDEX_SIZE];
-    match open(mode, rules, tree, &mut index) {
-        Opened::Shut { number, row } => Edited::Refused { number, row },
-        Opened::Open {
-            mode: m,
-            start,
-            blocks,
-        } => change_blocks(
-            block_rows(tree, start),
-            &tree[..start],
-            rules,
-            &index,
-            m,
-            blocks,
-            way,
-            block,
-            kept,
-            text,
-            ledger,
-        ),
-    }
+    let d = open(mode, rules, tree, &mut index)?;
+    change_blocks(d, way, block, kept, text, ledger)
 }
 
 // An edit: block `block` is replaced by that of the new tree file.
-pub fn edit<'a>(
+pub fn edit(
     mode: u8,
-    rules: &'a [u8],
-    tree: &'a [u8],
+    rules: &[u8],
+    tree: &[u8],
     block: usize,
     kept: usize,
     text: &mut [u8],
     ledger: &mut [u8],
-) -> Edited
+) -> Result<Edited, Refusal>
     ensures { Edits (manuscript mode rules.now) tree.now block kept text.old
         ledger.old (answer_of_edit result) text.new ledger.new }
 {
@@ -679,15 +473,15 @@ pub fn edit<'a>(
 }
 
 // An insertion: the new tree file has one block more, which stands at `position`.
-pub fn insert<'a>(
+pub fn insert(
     mode: u8,
-    rules: &'a [u8],
-    tree: &'a [u8],
+    rules: &[u8],
+    tree: &[u8],
     position: usize,
     kept: usize,
     text: &mut [u8],
     ledger: &mut [u8],
-) -> Edited
+) -> Result<Edited, Refusal>
     ensures { Alters (manuscript mode rules.now) tree.now (put_in position) kept text.old
         ledger.old (answer_of_edit result) text.new ledger.new }
 {
@@ -695,15 +489,15 @@ pub fn insert<'a>(
 }
 
 // A removal: the new tree file has one block less, that which was block `block`.
-pub fn remove<'a>(
+pub fn remove(
     mode: u8,
-    rules: &'a [u8],
-    tree: &'a [u8],
+    rules: &[u8],
+    tree: &[u8],
     block: usize,
     kept: usize,
     text: &mut [u8],
     ledger: &mut [u8],
-) -> Edited
+) -> Result<Edited, Refusal>
     ensures { Alters (manuscript mode rules.now) tree.now (take_out block) kept text.old
         ledger.old (answer_of_edit result) text.new ledger.new }
 {
@@ -716,146 +510,98 @@ pub fn remove<'a>(
 fn replace_fits(named: &[usize], blocks: usize, kept: usize, text: &[u8], ledger: &[u8]) -> bool
     ensures { result ≡ change_fits (replace_all named.now) blocks kept text.now ledger.now }
 {
-    if !stretches::all_there(named, blocks) {
-        return false;
-    }
-    if text.len() < kept {
-        return false;
-    }
-    ledger::ledger_fits(ledger, blocks, kept)
+    let within = stretches::all_there(named, blocks) && kept <= text.len();
+    within && ledger::ledger_fits(ledger, blocks, kept)
 }
 
 // The stretches of a plan in the place of the kept blocks, where there is room for the new text.
-fn exchange_planned<'a>(
-    rows: &[u8],
-    text: &'a [u8],
-    rules: &'a [u8],
-    index: &[u32],
-    mode: LaTeXMode,
-    blocks: usize,
+fn exchange_planned(
+    d: OpenDocument,
     kept: usize,
-    plan: &[usize],
+    plan: &[Note],
     p: Planned,
     out: &mut [u8],
     ledger: &mut [u8],
-) -> Edited
-    requires { PlanMade rules.now index.now rows.now text.now mode blocks kept plan.now p out.old ledger.old }
-    ensures { ExchangesPlanned rules.now index.now rows.now text.now mode blocks kept
-        plan.now p out.old ledger.old result out.new ledger.new }
+) -> Result<Edited, Refusal>
+    requires { PlanMade d kept plan.now p out.old ledger.old }
+    ensures { ExchangesPlanned d.entry kept plan.now p out.old ledger.old result out.new ledger.new }
 {
     let new = p.at + (kept - passes::end_before(ledger, p.block));
-    if !has_room(out, ledger, new, blocks) {
-        return Edited::Refused { number: 15, row: 0 };
+    if !has_room(out, ledger, new, d.blocks) {
+        return Err(no_row(Reason::TooShort));
     }
-    let first = passes::end_before(ledger, plan[0]);
-    stretches::exchange_from(
-        rows, text, rules, index, mode, blocks, plan, first, out, ledger,
-    );
+    let first = passes::end_before(ledger, plan[0].block);
+    stretches::exchange_from(&d, plan, first, out, ledger);
     clear_between(out, new, kept);
-    let growth = new as i64 - kept as i64;
-    Edited::Done {
+    Ok(Edited {
         length: new,
-        growth,
+        growth: new as i64 - kept as i64,
         count: p.count,
-    }
+    })
 }
 
 // The blocks that are named, each with those after it up to the first after which the carry is the kept one, converted again.
-fn replace_blocks<'a>(
-    rows: &[u8],
-    text: &'a [u8],
-    rules: &'a [u8],
-    index: &[u32],
-    mode: LaTeXMode,
-    blocks: usize,
+fn replace_blocks(
+    d: OpenDocument,
     named: &[usize],
     kept: usize,
     out: &mut [u8],
     ledger: &mut [u8],
-) -> Edited
-    requires { Document rules.now index.now rows.now text.now blocks }
-    ensures { ChangesBlocks rules.now index.now rows.now text.now mode blocks
-        (replace_all named.now) kept out.old ledger.old result out.new ledger.new }
+) -> Result<Edited, Refusal>
+    ensures { ChangesBlocks d.entry (replace_all named.now) kept out.old ledger.old result out.new ledger.new }
 {
-    if !replace_fits(named, blocks, kept, out, ledger) {
-        return Edited::Refused { number: 6, row: 0 };
+    if !replace_fits(named, d.blocks, kept, out, ledger) {
+        return Err(no_row(Reason::NoFit));
     }
-    let mut plan = [0usize; PLAN_SIZE];
-    let p = stretches::plan_stretches(
-        rows, text, rules, index, ledger, mode, blocks, named, &mut plan,
-    );
-    if p.refusal != 0 {
-        return Edited::Refused {
-            number: p.refusal,
-            row: p.row,
-        };
-    }
-    exchange_planned(
-        rows, text, rules, index, mode, blocks, kept, &plan, p, out, ledger,
-    )
+    let empty = Note {
+        block: 0,
+        after: 0,
+        size: 0,
+        i: 0,
+        j: 0,
+    };
+    let mut plan = [empty; PLAN_SIZE];
+    let p = stretches::plan_stretches(d, ledger, named, &mut plan)?;
+    exchange_planned(d, kept, &plan, p, out, ledger)
 }
 
 // Several blocks replaced together: those that `named` lists are replaced by those of the new tree file.
-pub fn replace_all<'a>(
+pub fn replace_all(
     mode: u8,
-    rules: &'a [u8],
-    tree: &'a [u8],
+    rules: &[u8],
+    tree: &[u8],
     named: &[usize],
     kept: usize,
     text: &mut [u8],
     ledger: &mut [u8],
-) -> Edited
+) -> Result<Edited, Refusal>
     ensures { Alters (manuscript mode rules.now) tree.now (replace_all named.now) kept
         text.old ledger.old (answer_of_edit result) text.new ledger.new }
 {
     let mut index = [0u32; INDEX_SIZE];
-    match open(mode, rules, tree, &mut index) {
-        Opened::Shut { number, row } => Edited::Refused { number, row },
-        Opened::Open {
-            mode: m,
-            start,
-            blocks,
-        } => replace_blocks(
-            block_rows(tree, start),
-            &tree[..start],
-            rules,
-            &index,
-            m,
-            blocks,
-            named,
-            kept,
-            text,
-            ledger,
-        ),
-    }
+    let d = open(mode, rules, tree, &mut index)?;
+    replace_blocks(d, named, kept, text, ledger)
 }
 
 // ---- three calls in a row
 
 // The text's length after a change: a refused one leaves it as it was.
-fn length_after(r: Edited, kept: usize) -> usize
+fn length_after(r: Result<Edited, Refusal>, kept: usize) -> usize
     ensures { result ≡ size_after (answer_of_edit r) kept }
 {
-    match r {
-        Edited::Refused { number: _, row: _ } => kept,
-        Edited::Done {
-            length,
-            growth: _,
-            count: _,
-        } => length,
-    }
+    r.map_or(kept, |edited| edited.length)
 }
 
 // An edit, an insertion and a removal, each with what the call before left: a small example of what a caller does. The calls are a run, so
 // demand 3 holds of them.
-pub fn three_changes<'a>(
+pub fn three_changes(
     mode: u8,
-    rules: &'a [u8],
-    one: &'a [u8],
+    rules: &[u8],
+    one: &[u8],
     i: usize,
-    two: &'a [u8],
+    two: &[u8],
     j: usize,
-    three: &'a [u8],
+    three: &[u8],
     k: usize,
     kept: usize,
     text: &mut [u8],

@@ -1,6 +1,6 @@
 -- A number read digit by digit: what is left to read continues the number that was read so far.
 use mathlib.Core.Path.{◌≡◌, refl, sym, ap, ◌∙◌}
-use mathlib.Core.Bool.{true, false, cond, and-eq-true_iff}
+use mathlib.Core.Bool.{Bool, true, false, cond, and-eq-true_iff}
 use mathlib.Core.List.{List, [], ◌∷◌}
 use Prim.Native.Nat.{ℕ, ◌+◌, ◌≤◌, ◌<◌}
 use native.Mathlib.Numerals.{add-one}
@@ -9,9 +9,9 @@ use lib.Dec.{leb, ltb}
 use borrow.Author.Tests.{ltb-true, ltb-false, leb-true, leb-false, lt-ltb, le-ltb, le-leb, lt-leb}
 use lib.ListN.{length, drop, get_or, drop_of_length-le}
 use lib.Seq.{drop-cons}
+use Rattle.std.specs.Prelude.{Some, None}
 use Rattle.text.proofs.Compare.{by-test}
 use Rattle.console.specs.Request.{number_end, with_digit, digit_fits, number_from, number_spelt}
-use Rattle.console.specs.declared.Spelt.TheVariants.{Nothing as NoNumber, Number}
 
 -- ---- one digit
 
@@ -29,28 +29,15 @@ digit-fits-above n x h = simp (le-leb 48 x (omega arith), lt-leb x 57 h)
 digit-fits-at : (n x : ℕ) → 48 ≤ x → x ≤ 57 → digit_fits n x ≡ ltb (with_digit n x) number_end
 digit-fits-at n x l h = simp (le-leb 48 x l, le-leb x 57 h)
 
--- at the highest number that a digit more may follow, the digit decides; elsewhere the number
-pub digit-fits-last : (n x : ℕ) → 48 ≤ x → x ≤ 57 → n ≡ 1844674407370955161 → leb x 53 ≡ digit_fits n x
-digit-fits-last n x l h e =
-    by-test (leb x 53)
-    (λ t. let s = leb-true x 53 t in t ∙ sym (digit-fits-at n x l h ∙ lt-ltb (with_digit n x) number_end (omega arith)))
-    (λ t. let s = leb-false x 53 t in t ∙ sym (digit-fits-at n x l h ∙ le-ltb (with_digit n x) number_end (omega arith)))
-
-pub digit-fits-else : (n x : ℕ) → 48 ≤ x → x ≤ 57 → (n ≡ 1844674407370955161 → ⊥) → ltb n 1844674407370955161 ≡ digit_fits n x
-digit-fits-else n x l h e =
-    by-test (ltb n 1844674407370955161)
-    (λ t. let s = ltb-true n _ t in t ∙ sym (digit-fits-at n x l h ∙ lt-ltb (with_digit n x) number_end (omega arith)))
-    (λ t. let s = ltb-false n _ t in t ∙ sym (digit-fits-at n x l h ∙ le-ltb (with_digit n x) number_end (omega arith)))
-
 -- ---- along the digits
 
 spelt-at :
     (l : List ℕ) (n i : ℕ) → i < length l
-    → number_from n (drop i l) ≡ cond (digit_fits n (get_or l i 0)) (number_from (with_digit n (get_or l i 0)) (drop (i + 1) l)) NoNumber
+    → number_from n (drop i l) ≡ cond (digit_fits n (get_or l i 0)) (number_from (with_digit n (get_or l i 0)) (drop (i + 1) l)) None
 unfolding number_from
 spelt-at l n i h = rw (add-one, drop-cons l i 0 h)
 
-pub spelt-empty : (l : List ℕ) → length l ≡ 0 → NoNumber ≡ number_spelt l
+pub spelt-empty : (l : List ℕ) → length l ≡ 0 → None ≡ number_spelt l
 spelt-empty [] h = refl
 spelt-empty (x ∷ l) h = absurd (omega arith)
 
@@ -62,14 +49,23 @@ pub spelt-next :
     (l : List ℕ) (n i : ℕ) → i < length l → digit_fits n (get_or l i 0) ≡ true → number_spelt l ≡ number_from n (drop i l)
     → number_spelt l ≡ number_from (with_digit n (get_or l i 0)) (drop (i + 1) l)
 spelt-next l n i h g e =
-    e ∙ spelt-at l n i h ∙ ap (λ t. cond t (number_from (with_digit n (get_or l i 0)) (drop (i + 1) l)) NoNumber) g
+    e ∙ spelt-at l n i h ∙ ap (λ t. cond t (number_from (with_digit n (get_or l i 0)) (drop (i + 1) l)) None) g
 
 pub spelt-stops :
     (l : List ℕ) (n i : ℕ) → i < length l → digit_fits n (get_or l i 0) ≡ false → number_spelt l ≡ number_from n (drop i l)
-    → NoNumber ≡ number_spelt l
+    → None ≡ number_spelt l
 spelt-stops l n i h g e =
-    sym (e ∙ spelt-at l n i h ∙ ap (λ t. cond t (number_from (with_digit n (get_or l i 0)) (drop (i + 1) l)) NoNumber) g)
+    sym (e ∙ spelt-at l n i h ∙ ap (λ t. cond t (number_from (with_digit n (get_or l i 0)) (drop (i + 1) l)) None) g)
 
-pub spelt-ends : (l : List ℕ) (n i : ℕ) → length l ≤ i → number_spelt l ≡ number_from n (drop i l) → Number n ≡ number_spelt l
+-- what is said of a digit more
+pub digit-none : (b : Bool) (m : ℕ) → None ≡ cond b (Some m) None → b ≡ false
+digit-none false m e = refl
+digit-none true m e = search e
+
+pub digit-some : (b : Bool) (m k : ℕ) → Some k ≡ cond b (Some m) None → (b ≡ true) × (k ≡ m)
+digit-some false m k e = search e
+digit-some true m k e = search e
+
+pub spelt-ends : (l : List ℕ) (n i : ℕ) → length l ≤ i → number_spelt l ≡ number_from n (drop i l) → Some n ≡ number_spelt l
 unfolding number_from
 spelt-ends l n i h e = sym (e ∙ ap (number_from n) (drop_of_length-le l h))

@@ -14,9 +14,7 @@ use Rattle.text.proofs.Compare.{by-test}
 use Rattle.text.proofs.Writing.{part-rest}
 use Rattle.console.specs.Mode.{no_mode, mode_by, mode_in}
 use Rattle.console.specs.Request.{number_spelt, part_before, part_after, both, line_request, line_most, request_in}
-use Rattle.console.specs.declared.Spelt.{Spelt}
-use Rattle.console.specs.declared.Spelt.TheVariants.{Nothing as NoNumber, Number}
-use Rattle.console.specs.declared.Request.TheVariants.{Nothing as NoRequest}
+use Rattle.std.specs.Prelude.{Option, Some, None}
 
 pub mode-empty : (l : List ℕ) → length l ≡ 0 → no_mode ≡ mode_in l
 mode-empty [] h = refl
@@ -26,31 +24,31 @@ pub mode-first : (l : List ℕ) → (length l ≡ 0 → ⊥) → {m : ℕ} → m
 mode-first [] h e = absurd (h refl)
 mode-first (x ∷ l) h e = e
 
-both-lacks : (m : ℕ) (s : Spelt) → both m s NoNumber ≡ NoRequest
-both-lacks m NoNumber = refl
-both-lacks m (Number n) = refl
+both-lacks : (m : ℕ) (s : Option ℕ) → both m s None ≡ None
+both-lacks m None = refl
+both-lacks m (Some n) = refl
 
-pub numbers-lack : (m : ℕ) (l : List ℕ) → length l ≤ index_of 32 l → NoRequest ≡ both m (number_spelt (part_before 32 l)) (number_spelt (part_after 32 l))
+pub numbers-lack : (m : ℕ) (l : List ℕ) → length l ≤ index_of 32 l → None ≡ both m (number_spelt (part_before 32 l)) (number_spelt (part_after 32 l))
 numbers-lack m l h =
     let past : length l ≤ index_of 32 l + 1 = omega arith in
     sym (ap (λ r. both m (number_spelt (part_before 32 l)) (number_spelt r)) (drop_of_length-le l past) ∙ both-lacks m (number_spelt (part_before 32 l)))
 
 pub numbers-are :
-    (m : ℕ) (l : List ℕ) {k : ℕ} {a b : Spelt} → k ≡ index_of 32 l → a ≡ number_spelt (take k l)
+    (m : ℕ) (l : List ℕ) {k : ℕ} {a b : Option ℕ} → k ≡ index_of 32 l → a ≡ number_spelt (take k l)
     → b ≡ number_spelt (take (length l - (k + 1)) (drop (k + 1) l))
     → both m a b ≡ both m (number_spelt (part_before 32 l)) (number_spelt (part_after 32 l))
 numbers-are m l {k} {a} {b} ek ea eb = cc (ek, ea, eb, part-rest l (k + 1))
 
-pub line-short : (l : List ℕ) → length l < 2 → NoRequest ≡ line_request l
+pub line-short : (l : List ℕ) → length l < 2 → None ≡ line_request l
 line-short [] h = refl
 line-short (x ∷ []) h = refl
 line-short (x ∷ y ∷ l) h = absurd (omega arith)
 
-pub line_other : (l : List ℕ) → 2 ≤ length l → (get_or l 1 0 ≡ 32 → ⊥) → NoRequest ≡ line_request l
+pub line_other : (l : List ℕ) → 2 ≤ length l → (get_or l 1 0 ≡ 32 → ⊥) → None ≡ line_request l
 line_other [] h q = absurd (omega arith)
 line_other (x ∷ []) h q = absurd (omega arith)
 line_other (x ∷ y ∷ l) h q =
-    sym (ap (λ t. cond t (both (mode_by x) (number_spelt (part_before 32 l)) (number_spelt (part_after 32 l))) NoRequest) (ne_eqb y 32 q))
+    sym (ap (λ t. cond t (both (mode_by x) (number_spelt (part_before 32 l)) (number_spelt (part_after 32 l))) None) (ne_eqb y 32 q))
 
 pub line-numbers :
     (l : List ℕ) → 2 ≤ length l → get_or l 1 0 ≡ 32 → {m : ℕ} → m ≡ mode_by (get_or l 0 0) → {rest : List ℕ} → rest ≡ drop 2 l
@@ -59,9 +57,14 @@ line-numbers [] h q em er = absurd (omega arith)
 line-numbers (x ∷ []) h q em er = absurd (omega arith)
 line-numbers (x ∷ y ∷ l) h q em er =
     cc (em, er)
-    ∙ sym (ap (λ t. cond t (both (mode_by x) (number_spelt (part_before 32 l)) (number_spelt (part_after 32 l))) NoRequest) (eq-eqb y 32 q))
+    ∙ sym (ap (λ t. cond t (both (mode_by x) (number_spelt (part_before 32 l)) (number_spelt (part_after 32 l))) None) (eq-eqb y 32 q))
 
-pub request-long : (l : List ℕ) → line_most ≤ index_of 10 l → NoRequest ≡ request_in l
+pub index-inside : (b : ℕ) (l : List ℕ) → index_of b l ≤ length l
+unfolding index_of
+index-inside b [] = omega arith
+index-inside b (x ∷ l) = by-test (eqb x b) (λ t. rw t (omega arith)) (λ t. let e = index-inside b l in rw t (omega arith))
+
+pub request-long : (l : List ℕ) → line_most ≤ index_of 10 l → None ≡ request_in l
 unfolding request_in
 request-long l h = simp (le-leb line_most (index_of 10 l) h)
 

@@ -1,5 +1,5 @@
 -- Worked lines, which antt computes: a line beside what it asks for, and an answer beside its line.
-use Rattle.std.specs.Prelude.{◌≡◌, refl, List, [], ◌∷◌, map, ℕ}
+use Rattle.std.specs.Prelude.{◌≡◌, refl, List, [], ◌∷◌, map, ℕ, Option, Some, None}
 use Prim.Native.String.{String}
 use Rattle.text.specs.Ascii.{ascii}
 use Rattle.text.specs.Compare.{index_of}
@@ -8,7 +8,6 @@ use Rattle.console.specs.Mode.{mode_in}
 use Rattle.console.specs.Request.{number_from, request_in}
 use Rattle.console.specs.Answers.{refusal_line, edited_line}
 use Rattle.console.specs.declared.Request.{Request}
-use Rattle.console.specs.declared.Request.TheVariants.{Nothing, Edit}
 
 -- ---- what is read
 
@@ -17,33 +16,36 @@ modes = refl
 
 pub record ReadLine : Type 0 where
   pub bytes : String
-  pub request : Request
+  pub request : Option Request
 
-abbrev read_line : String → Request → ReadLine
+abbrev edit : ℕ → ℕ → ℕ → Option Request
+edit mode block kept = Some (record { mode = mode; block = block; kept = kept })
+
+abbrev read_line : String → Option Request → ReadLine
 read_line s r = record { bytes = s; request = r }
 
 abbrev read_lines : List ReadLine
 read_lines =
-    read_line "t 3 120\n" (Edit 0 3 120)
+    read_line "t 3 120\n" (edit 0 3 120)
     -- without an end, with bytes after it, with leading zeros
-    ∷ read_line "m 0 0" (Edit 1 0 0)
-    ∷ read_line "t 3 120\nm" (Edit 0 3 120)
-    ∷ read_line "t 03 0120\n" (Edit 0 3 120)
+    ∷ read_line "m 0 0" (edit 1 0 0)
+    ∷ read_line "t 3 120\nm" (edit 0 3 120)
+    ∷ read_line "t 03 0120\n" (edit 0 3 120)
     -- a letter that names no mode
-    ∷ read_line "x 3 120\n" (Edit 2 3 120)
+    ∷ read_line "x 3 120\n" (edit 2 3 120)
     -- 64 bits, and one number more
-    ∷ read_line "t 18446744073709551615 0\n" (Edit 0 18446744073709551615 0)
-    ∷ read_line "t 18446744073709551616 0\n" Nothing
+    ∷ read_line "t 18446744073709551615 0\n" (edit 0 18446744073709551615 0)
+    ∷ read_line "t 18446744073709551616 0\n" None
     -- other forms
-    ∷ read_line "" Nothing
-    ∷ read_line "t 3\n" Nothing
-    ∷ read_line "t 3 \n" Nothing
-    ∷ read_line "t  3 120\n" Nothing
-    ∷ read_line "t 3 120 \n" Nothing
-    ∷ read_line "t 3 -1\n" Nothing
-    ∷ read_line "t3 120\n" Nothing
+    ∷ read_line "" None
+    ∷ read_line "t 3\n" None
+    ∷ read_line "t 3 \n" None
+    ∷ read_line "t  3 120\n" None
+    ∷ read_line "t 3 120 \n" None
+    ∷ read_line "t 3 -1\n" None
+    ∷ read_line "t3 120\n" None
     -- 64 bytes without an end
-    ∷ read_line "t 0 000000000000000000000000000000000000000000000000000000000000" Nothing
+    ∷ read_line "t 0 000000000000000000000000000000000000000000000000000000000000" None
     ∷ []
 
 read-lines-ask : map (λ x. request_in (ascii x.bytes)) read_lines ≡ map (λ x. x.request) read_lines

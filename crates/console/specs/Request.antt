@@ -1,12 +1,9 @@
 -- The line that asks for an edit: a mode's letter, the block and the kept length, as in `t 3 120`, with one space between them, up to
 -- a line feed or the end of the input.
-use Rattle.std.specs.Prelude.{Bool, ◌&&◌, cond, List, [], ◌∷◌, ℕ, ◌+◌, ◌*◌, ◌-◌, eqb, leb, ltb, take, drop}
+use Rattle.std.specs.Prelude.{Bool, ◌&&◌, cond, List, [], ◌∷◌, ℕ, ◌+◌, ◌*◌, ◌-◌, eqb, leb, ltb, take, drop, Option, Some, None}
 use Rattle.text.specs.Compare.{index_of}
 use Rattle.console.specs.Mode.{mode_by}
-use Rattle.console.specs.declared.Spelt.{Spelt}
-use Rattle.console.specs.declared.Spelt.TheVariants.{Nothing as NoNumber, Number}
 use Rattle.console.specs.declared.Request.{Request}
-use Rattle.console.specs.declared.Request.TheVariants.{Nothing as NoRequest, Edit}
 
 -- ---- a number
 
@@ -23,13 +20,13 @@ abbrev pub digit_fits : ℕ → ℕ → Bool
 digit_fits n x = leb 48 x && (leb x 57 && ltb (with_digit n x) number_end)
 
 -- the number that begins with n and goes on with these digits
-unfoldable pub number_from : ℕ → List ℕ → Spelt
-number_from n [] = Number n
-number_from n (x ∷ l) = cond (digit_fits n x) (number_from (with_digit n x) l) NoNumber
+unfoldable pub number_from : ℕ → List ℕ → Option ℕ
+number_from n [] = Some n
+number_from n (x ∷ l) = cond (digit_fits n x) (number_from (with_digit n x) l) None
 
 -- the number that digits spell, at least one
-abbrev pub number_spelt : List ℕ → Spelt
-number_spelt [] = NoNumber
+abbrev pub number_spelt : List ℕ → Option ℕ
+number_spelt [] = None
 number_spelt (x ∷ l) = number_from 0 (x ∷ l)
 
 -- ---- the line
@@ -41,22 +38,22 @@ part_before b l = take (index_of b l) l
 abbrev pub part_after : ℕ → List ℕ → List ℕ
 part_after b l = drop (index_of b l + 1) l
 
-abbrev pub both : ℕ → Spelt → Spelt → Request
-both mode (Number block) (Number kept) = Edit mode block kept
-both mode (Number block) NoNumber = NoRequest
-both mode NoNumber kept = NoRequest
+abbrev pub both : ℕ → Option ℕ → Option ℕ → Option Request
+both mode (Some block) (Some kept) = Some (record { mode = mode; block = block; kept = kept })
+both mode (Some block) None = None
+both mode None kept = None
 
 -- a line without its end
-abbrev pub line_request : List ℕ → Request
-line_request [] = NoRequest
-line_request (letter ∷ []) = NoRequest
+abbrev pub line_request : List ℕ → Option Request
+line_request [] = None
+line_request (letter ∷ []) = None
 line_request (letter ∷ space ∷ rest) =
-    cond (eqb space 32) (both (mode_by letter) (number_spelt (part_before 32 rest)) (number_spelt (part_after 32 rest))) NoRequest
+    cond (eqb space 32) (both (mode_by letter) (number_spelt (part_before 32 rest)) (number_spelt (part_after 32 rest))) None
 
 -- so many bytes are more than any line of the form needs
 abbrev pub line_most : ℕ
 line_most = 64
 
 -- the first line of the input, if it is shorter
-unfoldable pub request_in : List ℕ → Request
-request_in input = cond (leb line_most (index_of 10 input)) NoRequest (line_request (part_before 10 input))
+unfoldable pub request_in : List ℕ → Option Request
+request_in input = cond (leb line_most (index_of 10 input)) None (line_request (part_before 10 input))

@@ -2,9 +2,10 @@
 // Standard input and output are the programs' own: what is read or printed there is worked out here, over lent bytes.
 #![tactic(auto)]
 
-ghost use Rattle.std.specs.Prelude.{◌≡◌, true, ◌≤◌, length};
+ghost use Rattle.std.specs.Prelude.{◌≡◌, ◌≤◌, cond, Some, None, length};
 ghost use Rattle.console.specs.Counts.{IsPrefixLen};
-ghost use Rattle.text.specs.Writing.{cap, Wrote};
+ghost use Rattle.text.specs.Writing.{Wrote};
+ghost use Rattle.text.specs.Outputs.{Puts};
 ghost use Rattle.console.specs.Mode.{mode_by, mode_in};
 ghost use Rattle.console.specs.Request.{digit_fits, with_digit, number_spelt, part_before, part_after, both, line_request, request_in};
 ghost use Rattle.console.specs.Answers.{difference, refusal_line, edited_line};
@@ -12,22 +13,17 @@ ghost use Rattle.console.specs.Answers.{difference, refusal_line, edited_line};
 use std::fs::File;
 use std::io::Read;
 use std::rt::Files;
+use text::Output;
 
 // What is no mode: it is refused as 1.
 const NO_MODE: u8 = 2;
 
-// A number that digits spell, if they do.
-#[derive(Clone, Copy)]
-pub enum Spelt {
-    Nothing,
-    Number { value: usize },
-}
-
-// What a line asks for, if it has the form `t 3 120`.
-#[derive(Clone, Copy)]
-pub enum Request {
-    Nothing,
-    Edit { mode: u8, block: usize, kept: usize },
+// What the line `t 3 120` asks for: an edit of block 3 in text mode, where the kept text has 120 bytes.
+#[derive(Clone, Copy, PartialEq, Eq, Debug)]
+pub struct Request {
+    pub mode: u8,
+    pub block: usize,
+    pub kept: usize,
 }
 
 // ---- files
@@ -68,133 +64,84 @@ pub fn read_file(rt: &impl Files, name: &[u8], buffer: &mut [u8]) -> usize
 fn mode_by(letter: u8) -> u8
     ensures { result ≡ mode_by letter }
 {
-    if letter == b't' {
-        return 0;
+    match letter {
+        b't' => 0,
+        b'm' => 1,
+        _ => NO_MODE,
     }
-    if letter == b'm' {
-        return 1;
-    }
-    NO_MODE
 }
 
 // The mode that the first byte of the input names.
 pub fn mode_in(input: &[u8]) -> u8
     ensures { result ≡ mode_in input.now }
 {
-    if input.len() == 0 {
-        return NO_MODE;
+    match input.first() {
+        Some(letter) => mode_by(*letter),
+        None => NO_MODE,
     }
-    mode_by(input[0])
 }
 
 // ---- the line that asks for an edit
 
-// The highest number that a digit more may follow, and the highest such digit.
-const TENTH: usize = 1844674407370955161;
-
-// Whether `x` is a digit with which the number still has 64 bits.
-fn digit_fits(n: usize, x: u8) -> bool
-    ensures { result ≡ digit_fits n x }
+// The number with a digit more, where `x` is a digit and 64 bits hold it.
+fn with_digit(n: usize, x: u8) -> Option<usize>
+    ensures { result ≡ cond (digit_fits n x) (Some (with_digit n x)) None }
 {
-    if x < b'0' {
-        return false;
+    if !x.is_ascii_digit() {
+        return None;
     }
-    if b'9' < x {
-        return false;
-    }
-    if n == TENTH {
-        return x <= b'5';
-    }
-    n < TENTH
-}
-
-// The number with a digit more.
-fn with_digit(n: usize, x: u8) -> usize
-    requires { digit_fits n x ≡ true }
-    ensures { result ≡ with_digit n x }
-{
-    n * 10 + text::wide(x - b'0')
+    n.checked_mul(10)?.checked_add(usize::from(x - b'0'))
 }
 
 // The number that digits spell: at least one, and no more than 64 bits hold.
-fn number_spelt(digits: &[u8]) -> Spelt
+fn number_spelt(digits: &[u8]) -> Option<usize>
     ensures { result ≡ number_spelt digits.now }
 {
-    if digits.len() == 0 {
-        return Spelt::Nothing;
+    if digits.is_empty() {
+        return None;
     }
     let mut n = 0;
-    let mut i = 0;
-    while i < digits.len() {
-        let x = digits[i];
-        if !digit_fits(n, x) {
-            return Spelt::Nothing;
-        }
-        n = with_digit(n, x);
-        i += 1;
+    for x in digits {
+        n = with_digit(n, *x)?;
     }
-    Spelt::Number { value: n }
-}
-
-// The request with these two numbers.
-fn both(mode: u8, block: Spelt, kept: Spelt) -> Request
-    ensures { result ≡ both mode block kept }
-{
-    let Spelt::Number { value: b } = block else {
-        return Request::Nothing;
-    };
-    let Spelt::Number { value: k } = kept else {
-        return Request::Nothing;
-    };
-    Request::Edit {
-        mode,
-        block: b,
-        kept: k,
-    }
+    Some(n)
 }
 
 // The request whose numbers are these, with a space between them.
-fn numbers(mode: u8, rest: &[u8]) -> Request
+fn numbers(mode: u8, rest: &[u8]) -> Option<Request>
     ensures { result ≡ both mode (number_spelt (part_before 32 rest.now)) (number_spelt (part_after 32 rest.now)) }
 {
     let space = text::index_of(rest, b' ');
     if rest.len() <= space {
-        return Request::Nothing;
+        return None;
     }
-    let next = space + 1;
-    both(
+    Some(Request {
         mode,
-        number_spelt(&rest[..space]),
-        number_spelt(&rest[next..]),
-    )
+        block: number_spelt(&rest[..space])?,
+        kept: number_spelt(&rest[space + 1..])?,
+    })
 }
 
 // What a line, without its end, asks for.
-fn line_request(line: &[u8]) -> Request
+fn line_request(line: &[u8]) -> Option<Request>
     ensures { result ≡ line_request line.now }
 {
-    if line.len() < 2 {
-        return Request::Nothing;
+    match line {
+        [letter, b' ', rest @ ..] => numbers(mode_by(*letter), rest),
+        _ => None,
     }
-    if line[1] != b' ' {
-        return Request::Nothing;
-    }
-    numbers(mode_by(line[0]), &line[2..])
 }
 
 // Bytes that no line of the form has.
 pub const LINE_MOST: usize = 64;
 
 // What the first line of the input asks for.
-pub fn request_in(input: &[u8]) -> Request
+pub fn request_in(input: &[u8]) -> Option<Request>
     ensures { result ≡ request_in input.now }
 {
     let end = text::index_of(input, b'\n');
     if LINE_MOST <= end {
-        return Request::Nothing;
-    }
-    if input.len() <= end {
-        return line_request(input);
+        return None;
     }
     line_request(&input[..end])
 }
@@ -205,40 +152,49 @@ pub fn request_in(input: &[u8]) -> Request
 pub const ANSWER_MOST: usize = 67;
 
 // The first number less the second.
-fn put_difference(out: &mut [u8], at: usize, a: usize, b: usize) -> usize
-    requires { (at ≤ cap) × (length out.old ≤ cap) }
-    ensures { Wrote at out.old (difference a b) result out.new }
+fn put_difference(out: &mut Output, a: usize, b: usize)
+    ensures { Puts out.old (difference a b) out.new }
 {
     if b <= a {
-        text::put_decimal(out, at, a - b)
+        out.put_decimal(a - b);
     } else {
-        let p = text::put_byte(out, at, b'-');
-        text::put_decimal(out, p, b - a)
+        out.put_byte(b'-');
+        out.put_decimal(b - a);
     }
 }
 
 // `ok 34 -31 2` and a line feed: the text's length, its growth since `kept`, and the count of blocks converted again.
-pub fn put_edited(out: &mut [u8; ANSWER_MOST], size: usize, kept: usize, count: usize) -> usize
-    ensures wrote { Wrote 0 out.old (edited_line size kept count) result out.new }
-    ensures prefix_len { IsPrefixLen result out.new }
+pub fn put_edited(line: &mut [u8; ANSWER_MOST], size: usize, kept: usize, count: usize) -> usize
+    ensures wrote { Wrote 0 line.old (edited_line size kept count) result line.new }
+    ensures prefix_len { IsPrefixLen result line.new }
 {
-    let a = text::put(out, 0, b"ok ");
-    let b = text::put_decimal(out, a, size);
-    let c = text::put_byte(out, b, b' ');
-    let d = put_difference(out, c, size, kept);
-    let e = text::put_byte(out, d, b' ');
-    let f = text::put_decimal(out, e, count);
-    text::put_byte(out, f, b'\n')
+    let mut out = Output {
+        buffer: line,
+        at: 0,
+    };
+    out.put(b"ok ");
+    out.put_decimal(size);
+    out.put_byte(b' ');
+    put_difference(&mut out, size, kept);
+    out.put_byte(b' ');
+    out.put_decimal(count);
+    out.put_byte(b'\n');
+    out.at
 }
 
 // `refused 11 at 1` and a line feed.
-pub fn put_refusal(out: &mut [u8; ANSWER_MOST], number: u8, row: usize) -> usize
-    ensures wrote { Wrote 0 out.old (refusal_line number row) result out.new }
-    ensures prefix_len { IsPrefixLen result out.new }
+pub fn put_refusal(line: &mut [u8; ANSWER_MOST], number: u8, row: usize) -> usize
+    ensures wrote { Wrote 0 line.old (refusal_line number row) result line.new }
+    ensures prefix_len { IsPrefixLen result line.new }
 {
-    let a = text::put(out, 0, b"refused ");
-    let b = text::put_decimal(out, a, text::wide(number));
-    let c = text::put(out, b, b" at ");
-    let d = text::put_decimal(out, c, row);
-    text::put_byte(out, d, b'\n')
+    let mut out = Output {
+        buffer: line,
+        at: 0,
+    };
+    out.put(b"refused ");
+    out.put_decimal(usize::from(number));
+    out.put(b" at ");
+    out.put_decimal(row);
+    out.put_byte(b'\n');
+    out.at
 }

@@ -5,6 +5,7 @@
 
 use calls::Edited;
 use console::{ANSWER_MOST, LINE_MOST, Request};
+use refusals::{Reason, Refusal};
 use std::io;
 use std::rt::Files;
 use text::FILE_MOST;
@@ -16,32 +17,30 @@ const FILE_READ: usize = FILE_MOST + 1;
 const BUFFER_MOST: usize = 65536;
 
 // What the first line of standard input asks for.
-fn read_request(rt: &impl Input) -> Request {
+fn read_request(rt: &impl Input) -> Option<Request> {
     let mut line = [0u8; LINE_MOST];
     let n = console::read_full(&mut rt.reader(), &mut line);
     console::request_in(&line[..n])
 }
 
 // Writes the line of a refusal.
-fn print_refusal(rt: &impl Print, number: u8, row: usize) -> io::Result<()> {
+fn print_refusal(rt: &impl Print, refusal: Refusal) -> io::Result<()> {
     let mut line = [0u8; ANSWER_MOST];
-    let n = console::put_refusal(&mut line, number, row);
+    let n = console::put_refusal(&mut line, u8::from(refusal.reason), refusal.row);
     rt.write_all(&line[..n])
 }
 
 // Writes the line of an edit.
-fn print_edited(rt: &impl Print, length: usize, kept: usize, count: usize) -> io::Result<()> {
+fn print_edited(rt: &impl Print, edited: Edited, kept: usize) -> io::Result<()> {
     let mut line = [0u8; ANSWER_MOST];
-    let n = console::put_edited(&mut line, length, kept, count);
+    let n = console::put_edited(&mut line, edited.length, kept, edited.count);
     rt.write_all(&line[..n])
 }
 
 // Edits, and says what came of it. The growth is the new length less the kept one.
 fn edit_block(
     rt: &(impl Files + Print),
-    mode: u8,
-    block: usize,
-    kept: usize,
+    request: Request,
     text: &mut [u8],
     ledger: &mut [u8],
 ) -> io::Result<()> {
@@ -49,6 +48,7 @@ fn edit_block(
     let rules_size = console::read_file(rt, b"rules.bin", &mut rules);
     let mut tree = [0u8; FILE_READ];
     let tree_size = console::read_file(rt, b"tree.bin", &mut tree);
+    let Request { mode, block, kept } = request;
     match calls::edit(
         mode,
         &rules[..rules_size],
@@ -58,12 +58,8 @@ fn edit_block(
         text,
         ledger,
     ) {
-        Edited::Refused { number, row } => print_refusal(rt, number, row),
-        Edited::Done {
-            length,
-            growth: _,
-            count,
-        } => print_edited(rt, length, kept, count),
+        Ok(edited) => print_edited(rt, edited, kept),
+        Err(refusal) => print_refusal(rt, refusal),
     }
 }
 
@@ -75,11 +71,10 @@ fn print_buffers(rt: &impl Print, text: &[u8], ledger: &[u8]) -> io::Result<()> 
 
 // Does what standard input asks for. A line of another form is refused as if it named no mode.
 fn serve(rt: &(impl Files + Input + Print), text: &mut [u8], ledger: &mut [u8]) -> io::Result<()> {
-    let Request::Edit { mode, block, kept } = read_request(rt) else {
-        print_refusal(rt, 1, 0)?;
-        return print_buffers(rt, text, ledger);
-    };
-    edit_block(rt, mode, block, kept, text, ledger)?;
+    match read_request(rt) {
+        Some(request) => edit_block(rt, request, text, ledger)?,
+        None => print_refusal(rt, refusals::no_row(Reason::NoMode))?,
+    }
     print_buffers(rt, text, ledger)
 }
 

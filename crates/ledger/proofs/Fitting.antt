@@ -8,7 +8,7 @@ use native.Mathlib.Omega.{arith}
 use borrow.Author.Tests.{leb-true, eqb-true, le-leb, lt-leb, not-true, not-false}
 use lib.ListN.{length, drop}
 use lib.Seq.{drop-drop}
-use lib.Dec.{leb, eqb}
+use lib.Dec.{leb}
 use Rattle.text.specs.Numbers.{four_at}
 use Rattle.ledger.specs.Ledger.{row_size, RowFits, row_at, decode_row, row_fits, all_rows_fit, fits, Movable}
 
@@ -65,10 +65,6 @@ module _ (n kept : ℕ) (l : List ℕ) (at i : ℕ) (p : fits n kept l ≡ all_r
       rises h e f
       ∙ ap (λ x. x && all_rows_fit (n - (i + 1)) (row_at i l).end kept (drop (row_size * (i + 1)) l)) (sym q ∙ not-false b t)
       ∙ ap (λ k. all_rows_fit (n - (i + 1)) k kept (drop (row_size * (i + 1)) l)) (sym e)
-
-  pub fits_last : n ≤ i → eqb at kept ≡ fits n kept l
-  fits_last h =
-      let z : n - i ≡ 0 = omega arith in sym (p ∙ ap (λ k. all_rows_fit k at kept (drop (row_size * i) l)) z)
 
 -- ---- what a ledger that fits says
 

@@ -1,7 +1,6 @@
 pub mod Carries
 pub mod Rows
 pub mod Reading
-pub mod Carrying
 pub mod Fitting
 pub mod Writing
 pub mod Moving

@@ -39,15 +39,6 @@ pub record RowsMoved (from old new : ℕ) (l₀ l : List ℕ) (i : ℕ) : Type 0
   pub within : row_size * i ≤ length l₀
   pub are : l ≡ sets l₀ (row_size * from) (move_rows (i - from) old new (drop (row_size * from) l₀))
 
-pub rows-moved-none : (from old new : ℕ) (l : List ℕ) → row_size * from ≤ length l → RowsMoved from old new l l from
-rows-moved-none from old new l h =
-    let e : 0 ≡ from - from = omega arith in
-    record {
-      above = omega arith;
-      within = h;
-      are = ap (λ n. sets l (row_size * from) (move_rows n old new (drop (row_size * from) l))) e;
-    }
-
 module _ {from old new : ℕ} {l₀ l : List ℕ} {i : ℕ} (m : RowsMoved from old new l₀ l i) where
   rows-moved-length : row_size * from + length (move_rows (i - from) old new (drop (row_size * from) l₀)) ≡ row_size * i
   rows-moved-length =
@@ -97,8 +88,3 @@ module _ {from old new : ℕ} {l₀ l : List ℕ} {i : ℕ} (m : RowsMoved from 
             ∙ ap (sets l₀ (row_size * from)) (sym (move_rows-more k old new (drop (row_size * from) l₀)))
             ∙ ap (λ n. sets l₀ (row_size * from) (move_rows n old new (drop (row_size * from) l₀))) q;
       }
-
-  pub rows-moved-all : (to : ℕ) → to ≤ i → i ≤ to → l ≡ sets l₀ (row_size * from) (move_rows (to - from) old new (drop (row_size * from) l₀))
-  rows-moved-all to lo hi =
-      let q : i ≡ to = omega arith in
-      m.are ∙ ap (λ n. sets l₀ (row_size * from) (move_rows (n - from) old new (drop (row_size * from) l₀))) q

@@ -7,7 +7,7 @@ use Prim.Native.Nat.{ℕ, suc, ◌+◌, ◌*◌, ◌-◌, ◌≤◌, ◌<◌}
 use native.Mathlib.Omega.{arith}
 use native.Mathlib.Nat.{zero-add}
 use lib.ListN.{length, take, drop, set, replicate, length-append, length-take, length-drop, length-set, take-append-drop, drop_of_length-le}
-use lib.Seq.{sets, sets-eq, length-sets, take_at, drop_at, drop-drop, length-take-le, set-append_left, set_comm, take-set-le, drop-set-lt}
+use lib.Seq.{sets, sets-eq, length-sets, drop_at, drop-drop, length-take-le, set-append_left, set_comm, take-set-le, drop-set-lt}
 use Rattle.text.specs.Numbers.{four}
 use Rattle.text.proofs.Writing.{sets-append}
 use Rattle.mitex_meaning.specs.Outcome.{label_most}
@@ -92,16 +92,6 @@ rest-written l ys a =
     ∙ ap (λ r. take a l ++ r) (append-nil ys)
 
 -- ---- a row
-
-pub label-filled : (out₀ lab : List ℕ) {out ys : List ℕ} (len : ℕ) → length out₀ ≡ label_most → len ≤ label_most → length lab ≡ len → out ≡ sets out₀ 0 lab
-    → ys ≡ replicate (length (take (length out - len) (drop len out))) 0
-    → take len out ++ (ys ++ drop (length out - len) (drop len out)) ≡ lab ++ replicate (label_most - len) 0
-label-filled out₀ lab {out} {ys} len l h n w y =
-    let lo : length out ≡ label_most = ap length w ∙ length-sets out₀ 0 lab ∙ l in
-    let t : take len out ≡ lab = ap (take len) (w ∙ sets-front out₀ lab (omega arith)) ∙ take_at lab (drop (length lab) out₀) len n in
-    let k : length (take (length out - len) (drop len out)) ≡ label_most - len
-    = length-take-le (length out - len) (drop len out) (omega (arith, length-drop len out)) ∙ ap (λ m. m - len) lo in
-    rest-written out ys len ∙ ap (λ r. r ++ ys) t ∙ ap (λ r. lab ++ r) (y ∙ ap (λ m. replicate m 0) k)
 
 label-counts : (h : Bool) (n : ℕ) (l : List ℕ) → n ≤ length l
     → (length (label_bytes (label_of h n l)) ≡ cond h n 0) × (label_bytes (label_of h n l) ≡ take (cond h n 0) l) × (is_held (label_of h n l) ≡ h)

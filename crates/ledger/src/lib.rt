@@ -1,14 +1,13 @@
 // The ledger: a row for each block, read and written. specs/Ledger.antt has the layout.
 #![tactic(auto)]
 
-ghost use Rattle.std.specs.Prelude.{◌≡◌, true, cond, [], ◌∷◌, ◌++◌, ℕ, ◌+◌, ◌-◌, ◌*◌, ◌≤◌, ◌<◌, length, take, drop, replicate};
+ghost use Rattle.std.specs.Prelude.{◌≡◌, true, cond, [], ◌∷◌, ◌++◌, ℕ, ◌+◌, ◌-◌, ◌*◌, ◌≤◌, ◌<◌, length, take, drop, replicate, MatchOption};
 ghost use Rattle.std.proofs.lemmas.List.Edits.{sets};
-ghost use Rattle.text.specs.Compare.{same};
 ghost use Rattle.mitex_meaning.specs.Outcome.{label_most};
+ghost use Rattle.mitex_meaning.specs.Outcome.Label.{unheld, held};
 ghost use Rattle.mitex_meaning.specs.Conversion.{start_carry};
 ghost use Rattle.mitex_meaning.specs.State.{carry_of, with_carry};
-ghost use Rattle.mitex_meaning.specs.Keeping.{label_bytes};
-ghost use Rattle.ledger.specs.Ledger.{row_size, mark, is_held, encode_row, HasRow, RowFits, row_at, all_zero, marks_fit, row_fits, fits, Movable, move_row, move_rows, same_label, same_carry};
+ghost use Rattle.ledger.specs.Ledger.{row_size, mark, encode_row, HasRow, RowFits, row_at, all_zero, marks_fit, row_fits, fits, Movable, move_row, move_rows, same_label, same_carry};
 
 use mitex_meaning::{Converter, LABEL_MOST};
 
@@ -16,6 +15,15 @@ use mitex_meaning::{Converter, LABEL_MOST};
 pub const ROW_SIZE: usize = 8 + LABEL_MOST;
 
 // ---- reading
+
+// The bytes of row `i`.
+fn row_bytes(ledger: &[u8], i: usize) -> &[u8]
+    requires { HasRow i ledger.now }
+    ensures { result.now ≡ take row_size (drop (row_size * i) ledger.now) }
+{
+    let at = ROW_SIZE * i;
+    &ledger[at..at + ROW_SIZE]
+}
 
 // The text's length after block `i`.
 pub fn row_end(ledger: &[u8], i: usize) -> usize
@@ -30,28 +38,20 @@ fn row_flag(ledger: &[u8], i: usize) -> bool
     requires { HasRow i ledger.now }
     ensures { result ≡ (row_at i ledger.now).carry.flag }
 {
-    let at = ROW_SIZE * i;
-    ledger[at + 4] == 1
+    row_bytes(ledger, i)[4] == 1
 }
 
-// Whether a label is held after block `i`.
-fn row_held(ledger: &[u8], i: usize) -> bool
-    requires { HasRow i ledger.now }
-    ensures { result ≡ is_held (row_at i ledger.now).carry.label }
-{
-    let at = ROW_SIZE * i;
-    ledger[at + 5] == 1
-}
-
-// The label held after block `i`, a part of the ledger; empty where none is held.
-fn row_label(ledger: &[u8], i: usize) -> &[u8]
+// The label held after block `i`, a part of the ledger.
+fn row_label(ledger: &[u8], i: usize) -> Option<&[u8]>
     requires { RowFits i ledger.now }
-    ensures { result.now ≡ label_bytes (row_at i ledger.now).carry.label }
+    ensures { MatchOption result (unheld ≡ (row_at i ledger.now).carry.label) (λ s. held s.now ≡ (row_at i ledger.now).carry.label) }
 {
-    let at = ROW_SIZE * i;
-    let from = at + 8;
-    let to = from + text::wide(ledger[at + 6]);
-    &ledger[from..to]
+    let row = row_bytes(ledger, i);
+    if row[5] != 1 {
+        return None;
+    }
+    let len = usize::from(row[6]);
+    Some(&row[8..8 + len])
 }
 
 // The converter with the carry of row `i`.
@@ -60,21 +60,20 @@ pub fn row_carry(ledger: &[u8], i: usize, converter: Converter) -> Converter
     ensures { result ≡ with_carry (row_at i ledger.now).carry converter }
 {
     let flagged = converter.with_flag(row_flag(ledger, i));
-    if row_held(ledger, i) {
-        flagged.with_label(row_label(ledger, i))
-    } else {
-        flagged.without_label()
+    match row_label(ledger, i) {
+        Some(label) => flagged.with_label(label),
+        None => flagged.without_label(),
     }
 }
 
-// Whether the label bytes of the converter that count are `s`.
-fn label_is(converter: Converter, s: &[u8]) -> bool
+// Whether the converter holds a label and its bytes are `s`.
+fn holds_label(converter: Converter, s: &[u8]) -> bool
     requires { converter.label_len ≤ label_most }
-    ensures { result ≡ same (take converter.label_len converter.label) s.now }
+    ensures { result ≡ same_label (carry_of converter).label (held s.now) }
 {
     let label = converter.label;
     let len = converter.label_len;
-    text::same(&label[..len], s)
+    converter.label_held && &label[..len] == s
 }
 
 // Whether the label that the converter holds is that of row `i`.
@@ -82,13 +81,10 @@ fn same_label(ledger: &[u8], i: usize, converter: Converter) -> bool
     requires { RowFits i ledger.now × (converter.label_len ≤ label_most) }
     ensures { result ≡ same_label (carry_of converter).label (row_at i ledger.now).carry.label }
 {
-    if row_held(ledger, i) != converter.label_held {
-        return false;
+    match row_label(ledger, i) {
+        Some(label) => holds_label(converter, label),
+        None => !converter.label_held,
     }
-    if !converter.label_held {
-        return true;
-    }
-    label_is(converter, row_label(ledger, i))
 }
 
 // Whether the converter's carry is that of row `i`: the flag and the label.
@@ -105,10 +101,7 @@ pub fn same_carry(ledger: &[u8], i: usize, converter: Converter) -> bool
 pub fn opening_carry(converter: Converter) -> bool
     ensures { result ≡ same_carry (carry_of converter) start_carry }
 {
-    if converter.skip_next_space {
-        return false;
-    }
-    !converter.label_held
+    !converter.skip_next_space && !converter.label_held
 }
 
 // ---- fitting
@@ -117,29 +110,14 @@ pub fn opening_carry(converter: Converter) -> bool
 fn all_zero(s: &[u8]) -> bool
     ensures { result ≡ all_zero s.now }
 {
-    let mut zero = true;
-    let mut i = 0;
-    while i < s.len() {
-        zero = s[i] == 0 && zero;
-        i += 1;
-    }
-    zero
+    s.iter().all(|b| *b == 0)
 }
 
 // Whether bytes 4 to 7 of a row fit: both marks, the label's length (0 for an unheld one), zero.
-fn marks_fit(flag: usize, held: usize, len: usize, blank: usize) -> bool
+fn marks_fit(flag: u8, held: u8, len: usize, blank: u8) -> bool
     ensures { result ≡ marks_fit flag held len blank }
 {
-    if 1 < flag {
-        return false;
-    }
-    if 1 < held {
-        return false;
-    }
-    if LABEL_MOST * held < len {
-        return false;
-    }
-    blank == 0
+    flag <= 1 && held <= 1 && len <= LABEL_MOST * usize::from(held) && blank == 0
 }
 
 // Whether row `i` fits by itself.
@@ -147,17 +125,9 @@ fn row_fits(ledger: &[u8], i: usize) -> bool
     requires { HasRow i ledger.now }
     ensures { result ≡ row_fits (drop (row_size * i) ledger.now) }
 {
-    let at = ROW_SIZE * i;
-    let flag = text::wide(ledger[at + 4]);
-    let held = text::wide(ledger[at + 5]);
-    let len = text::wide(ledger[at + 6]);
-    let blank = text::wide(ledger[at + 7]);
-    if !marks_fit(flag, held, len, blank) {
-        return false;
-    }
-    let from = at + 8 + len;
-    let to = at + ROW_SIZE;
-    all_zero(&ledger[from..to])
+    let row = row_bytes(ledger, i);
+    let len = usize::from(row[6]);
+    marks_fit(row[4], row[5], len, row[7]) && all_zero(&row[8 + len..])
 }
 
 // Whether the ledger has a row for each of the blocks and these fit a text of the kept length.
@@ -168,8 +138,7 @@ pub fn ledger_fits(ledger: &[u8], blocks: usize, kept: usize) -> bool
         return false;
     }
     let mut end = 0;
-    let mut i = 0;
-    while i < blocks {
+    for i in 0..blocks {
         let next = row_end(ledger, i);
         if next < end {
             return false;
@@ -178,31 +147,17 @@ pub fn ledger_fits(ledger: &[u8], blocks: usize, kept: usize) -> bool
             return false;
         }
         end = next;
-        i += 1;
     }
     end == kept
 }
 
 // ---- writing
 
-// 1 for true, 0 for false.
-fn bit_of(b: bool) -> u8
-    ensures { result ≡ mark b }
-{
-    if b {
-        return 1;
-    }
-    0
-}
-
 // How many label bytes count: none while no label is held.
 fn held_len(held: bool, len: usize) -> usize
     ensures { (result ≡ cond held len 0) × (result ≤ len) }
 {
-    if held {
-        return len;
-    }
-    0
+    if held { len } else { 0 }
 }
 
 // The label's bytes that count, padded with zeros.
@@ -211,8 +166,8 @@ fn fill_label(out: &mut [u8], converter: Converter, len: usize)
     ensures { out.new ≡ take len converter.label ++ replicate (label_most - len) 0 }
 {
     let label = converter.label;
-    text::put(out, 0, &label[..len]);
-    text::clear(&mut out[len..]);
+    out[..len].copy_from_slice(&label[..len]);
+    out[len..].fill(0);
 }
 
 // Bytes 4 to 7: the two marks, the label's length, zero.
@@ -220,10 +175,7 @@ fn write_marks(row: &mut [u8], flag: bool, held: bool, len: usize)
     requires { (length row.old ≡ row_size) × (len ≤ label_most) }
     ensures { row.new ≡ sets row.old 4 (mark flag ∷ mark held ∷ len ∷ 0 ∷ []) }
 {
-    row[4] = bit_of(flag);
-    row[5] = bit_of(held);
-    row[6] = len as u8;
-    row[7] = 0;
+    row[4..8].copy_from_slice(&[u8::from(flag), u8::from(held), len as u8, 0]);
 }
 
 // A whole row: the text's length and the converter's carry.
@@ -261,9 +213,7 @@ pub fn move_rows(ledger: &mut [u8], from: usize, to: usize, old: usize, new: usi
     requires { (from ≤ to) × (row_size * to ≤ length ledger.old) × ((j : ℕ) → from ≤ j → j < to → Movable j old new ledger.old) }
     ensures { ledger.new ≡ sets ledger.old (row_size * from) (move_rows (to - from) old new (drop (row_size * from) ledger.old)) }
 {
-    let mut i = from;
-    while i < to {
+    for i in from..to {
         move_row(ledger, i, old, new);
-        i += 1;
     }
 }

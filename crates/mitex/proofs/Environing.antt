@@ -3,18 +3,16 @@ use mathlib.Core.Path.{◌≡◌, refl, sym, ap, subst, ◌∙◌}
 use mathlib.Core.Bool.{Bool, true, false, cond}
 use mathlib.Core.Option.{Option}
 use mathlib.Core.Option.Option.{none as nothing, some}
-use mathlib.Core.List.{List, [], ◌∷◌, ◌++◌}
+use mathlib.Core.List.{List, ◌++◌}
 use Prim.Native.Nat.{ℕ, ◌+◌, ◌*◌, ◌-◌, ◌≤◌}
 use native.Mathlib.Omega.{arith}
-use types.Run.{OneOf, miss}
-use denote.Enum.Declared.{tag_of}
 use lib.ListN.{length, drop, length-append, length-drop, length-take}
 use Rattle.utf8.specs.Trim.{trim}
 use Rattle.utf8.proofs.Trimming.{trim-length}
 use Rattle.mitex_spec.specs.Rules.{Rule, get_env, alias_or}
 use Rattle.mitex_spec.specs.LookUp.{alias_of, rule_of}
-use Rattle.mitex_spec.specs.declared.Found.{Found}
-use Rattle.mitex_spec.specs.declared.Found.TheVariants.{Absent, Plain as PlainRule, Aliased}
+use Rattle.std.specs.Prelude.{Option as Maybe, Some, None as Nothing, Result, Ok, Err}
+use Rattle.mitex_spec.specs.declared.rules.Found.{Found}
 use Rattle.mitex_syntax.specs.Syntax.{ClauseArgument, ItemBegin}
 use Rattle.mitex_syntax.specs.Tree.{Tree, Forest, size, sizes, text_of, texts_of}
 use Rattle.mitex_syntax.specs.Tree.Tree.{token, node}
@@ -27,18 +25,15 @@ use Rattle.mitex_meaning.specs.Outcome.Outcome.{refused}
 use Rattle.mitex_meaning.specs.Texts.{left_paren, hash}
 use Rattle.mitex_meaning.specs.Children.{each}
 use Rattle.mitex_meaning.specs.Tables.{letters_fit, table_head}
-use Rattle.mitex_meaning.specs.Environments.{Caption, is_caption, caption_from_row, or_later, last_caption, captioned, figure_env, table_by, table_with, env_of, env_with, env_by, environment, env_body, plain_env, math_env}
+use Rattle.mitex_meaning.specs.Environments.{Caption, is_caption, caption_from_row, or_later, last_caption, captioned, figure_env, table_by, table_with, env_of, env_with, env_by, environment}
 use Rattle.mitex_meaning.specs.Environments.Caption.{absent, bare, caption}
 use Rattle.mitex_meaning.specs.Parts.{CaptionFound}
 use Rattle.mitex_meaning.specs.Parts.CaptionFound.{no_caption, bare_caption, caption_at}
-use Rattle.mitex_meaning.specs.contracts.LaTeXEnv.{the_type as env-type}
 use Rattle.mitex_meaning.specs.declared.LaTeXEnv.{LaTeXEnv}
-use Rattle.mitex_meaning.specs.declared.LaTeXEnv.TheVariants.{None, Figure, Itemize, Enumerate, Math, Matrix, Cases, SubStack, MathCurlyGroup}
+use Rattle.mitex_meaning.specs.declared.LaTeXEnv.TheVariants.{Figure}
 use Rattle.mitex_meaning.specs.declared.LaTeXEnv.TheVariants.{Table as TableEnv}
 use Rattle.mitex_meaning.specs.declared.Loop.TheVariants.{Table}
-use Rattle.mitex_meaning.specs.declared.CaptionPart.{CaptionPart}
-use Rattle.mitex_commands.specs.Leaves.{is_absent, class_of}
-use Rattle.mitex_environments.specs.Captions.{is_bare, bare_row}
+use Rattle.mitex_syntax.specs.declared.Spot.{Spot}
 
 -- ---- by rule
 
@@ -47,24 +42,17 @@ pub env-named : (conv : Conv) (x : Context) (f : Forest) (c : Carry) (name : Lis
 env-named conv x f c name h = ap (λ (s : List ℕ). env_by (get_env x.rules s) s conv x f c) (sym h)
 
 pub env-absent :
-    (o : Option Rule) (name : List ℕ) (conv : Conv) (x : Context) (f : Forest) (c : Carry) (file : List ℕ) (found : Found)
-    → rule_of file name found ≡ o → is_absent found ≡ true → env_by o name conv x f c ≡ refused 10 0
-env-absent o name conv x f c file Absent e h = ap (λ (p : Option Rule). env_by p name conv x f c) (sym e)
-env-absent o name conv x f c file (PlainRule class) e h = let z : ◌≡◌ {A = ℕ} 0 1 = cc in absurd (omega arith)
-env-absent o name conv x f c file (Aliased class at size) e h = let z : ◌≡◌ {A = ℕ} 0 1 = cc in absurd (omega arith)
+    (o : Option Rule) (name : List ℕ) (conv : Conv) (x : Context) (f : Forest) (c : Carry) {found : Maybe Found}
+    → rule_of name found ≡ o → found ≡ Nothing → env_by o name conv x f c ≡ refused 10 0
+env-absent o name conv x f c e h = ap (λ (p : Option Rule). env_by p name conv x f c) (sym e ∙ ap (rule_of name) h)
 
 pub env-found :
-    (o : Option Rule) (name : List ℕ) (conv : Conv) (x : Context) (f : Forest) (c : Carry) (file : List ℕ) (found : Found) (w : List ℕ)
-    (env : LaTeXEnv) → rule_of file name found ≡ o → is_absent found ≡ false → w ≡ alias_or (alias_of file found) name
-    → env ≡ env_of (class_of found) → env_by o name conv x f c ≡ env_with env w conv x f c
-env-found o name conv x f c file Absent w env e h i j = let z : ◌≡◌ {A = ℕ} 0 1 = cc in absurd (omega arith)
-env-found o name conv x f c file (PlainRule class) w env e h i j =
-    ap (λ (p : Option Rule). env_by p name conv x f c) (sym e)
-    ∙ ap (λ (s : List ℕ). env_with (env_of class) s conv x f c) (sym i)
-    ∙ ap (λ (y : LaTeXEnv). env_with y w conv x f c) (sym j)
-env-found o name conv x f c file (Aliased class at size) w env e h i j =
-    ap (λ (p : Option Rule). env_by p name conv x f c) (sym e)
-    ∙ ap (λ (s : List ℕ). env_with (env_of class) s conv x f c) (sym i)
+    (o : Option Rule) (name : List ℕ) (conv : Conv) (x : Context) (f : Forest) (c : Carry) {found : Maybe Found} (r : Found) (w : List ℕ)
+    (env : LaTeXEnv) → rule_of name found ≡ o → found ≡ Some r → w ≡ alias_or (alias_of r) name → env ≡ env_of r.class
+    → env_by o name conv x f c ≡ env_with env w conv x f c
+env-found o name conv x f c r w env e h i j =
+    ap (λ (p : Option Rule). env_by p name conv x f c) (sym e ∙ ap (rule_of name) h)
+    ∙ ap (λ (s : List ℕ). env_with (env_of r.class) s conv x f c) (sym i)
     ∙ ap (λ (y : LaTeXEnv). env_with y w conv x f c) (sym j)
 
 -- ---- tables
@@ -176,49 +164,25 @@ letters-short {f} {rows} {text} {s} sp e i =
       ap length sp.text_is,
     )
 
--- ---- the environments that share an arm, by the tags that the code tells them by
-
-pub plain-by-tag :
-    (e : LaTeXEnv) (w : List ℕ) (conv : Conv) (x : Context) (f : Forest) (c : Carry) → OneOf (0 ∷ 3 ∷ 4 ∷ []) (tag_of env-type e)
-    → env_body e w conv x f c ≡ plain_env e w conv x f c
-plain-by-tag None w conv x f c h = refl
-plain-by-tag Figure w conv x f c h = absurd (miss (0 ∷ 3 ∷ 4 ∷ []) 1 tt h)
-plain-by-tag TableEnv w conv x f c h = absurd (miss (0 ∷ 3 ∷ 4 ∷ []) 2 tt h)
-plain-by-tag Itemize w conv x f c h = refl
-plain-by-tag Enumerate w conv x f c h = refl
-plain-by-tag Math w conv x f c h = absurd (miss (0 ∷ 3 ∷ 4 ∷ []) 5 tt h)
-plain-by-tag Matrix w conv x f c h = absurd (miss (0 ∷ 3 ∷ 4 ∷ []) 6 tt h)
-plain-by-tag Cases w conv x f c h = absurd (miss (0 ∷ 3 ∷ 4 ∷ []) 7 tt h)
-plain-by-tag SubStack w conv x f c h = absurd (miss (0 ∷ 3 ∷ 4 ∷ []) 8 tt h)
-plain-by-tag MathCurlyGroup w conv x f c h = absurd (miss (0 ∷ 3 ∷ 4 ∷ []) 9 tt h)
-
-pub math-by-tag :
-    (e : LaTeXEnv) (w : List ℕ) (conv : Conv) (x : Context) (f : Forest) (c : Carry) → OneOf (5 ∷ 6 ∷ 7 ∷ 8 ∷ 9 ∷ []) (tag_of env-type e)
-    → env_body e w conv x f c ≡ math_env e w conv x f c
-math-by-tag None w conv x f c h = absurd (miss (5 ∷ 6 ∷ 7 ∷ 8 ∷ 9 ∷ []) 0 tt h)
-math-by-tag Figure w conv x f c h = absurd (miss (5 ∷ 6 ∷ 7 ∷ 8 ∷ 9 ∷ []) 1 tt h)
-math-by-tag TableEnv w conv x f c h = absurd (miss (5 ∷ 6 ∷ 7 ∷ 8 ∷ 9 ∷ []) 2 tt h)
-math-by-tag Itemize w conv x f c h = absurd (miss (5 ∷ 6 ∷ 7 ∷ 8 ∷ 9 ∷ []) 3 tt h)
-math-by-tag Enumerate w conv x f c h = absurd (miss (5 ∷ 6 ∷ 7 ∷ 8 ∷ 9 ∷ []) 4 tt h)
-math-by-tag Math w conv x f c h = refl
-math-by-tag Matrix w conv x f c h = refl
-math-by-tag Cases w conv x f c h = refl
-math-by-tag SubStack w conv x f c h = refl
-math-by-tag MathCurlyGroup w conv x f c h = refl
-
 -- ---- captions
+
+-- how many rows below the first child one without an argument stands, and 1; 0 for any other
+abbrev told : Result (Maybe Spot) ℕ → ℕ
+told (Ok o) = 0
+told (Err n) = 1 + n
 
 -- a caption without an argument is refused
 pub figure-bare :
-    (w : List ℕ) (conv : Conv) (x : Context) {f : Forest} {rows text : List ℕ} (c : Carry) {p : CaptionPart} → CaptionFound f rows text p
-    → is_bare p ≡ true → figure_env w conv x f c ≡ refused 12 (1 + bare_row p)
-figure-bare w conv x c (no_caption e) h = let z : ◌≡◌ {A = ℕ} 0 1 = cc in absurd (omega arith)
+    (w : List ℕ) (conv : Conv) (x : Context) {f : Forest} {rows text : List ℕ} (c : Carry) {p : Result (Maybe Spot) ℕ} {n : ℕ}
+    → CaptionFound f rows text p → p ≡ Err n → figure_env w conv x f c ≡ refused 12 (1 + n)
+figure-bare w conv x c (no_caption e) h = absurd (omega (arith, ap told h))
 figure-bare w conv x {f} c (bare_caption e) h =
-    ap (λ (q : Caption). after (hash ++ (w ++ left_paren)) (captioned q conv (in_env Figure x) f c)) e
-figure-bare w conv x c (caption_at s) h = let z : ◌≡◌ {A = ℕ} 0 1 = cc in absurd (omega arith)
+    ap (λ (q : Caption). after (hash ++ (w ++ left_paren)) (captioned q conv (in_env Figure x) f c)) e ∙ ap (refused 12) (ap told h)
+figure-bare w conv x c (caption_at s) h = absurd (omega (arith, ap told h))
 
 pub bare-row-low :
-    {f : Forest} {rows text : List ℕ} {p : CaptionPart} → SpellsAll f rows text → CaptionFound f rows text p → 8 * bare_row p ≤ length rows
-bare-row-low sp (no_caption e) = omega arith
-bare-row-low sp (bare_caption {below} e) = bare-low below sp e
-bare-row-low sp (caption_at s) = omega arith
+    {f : Forest} {rows text : List ℕ} {p : Result (Maybe Spot) ℕ} {n : ℕ} → SpellsAll f rows text → CaptionFound f rows text p → p ≡ Err n
+    → 8 * n ≤ length rows
+bare-row-low sp (no_caption e) h = absurd (omega (arith, ap told h))
+bare-row-low {n = n} sp (bare_caption {below} e) h = omega (arith, bare-low below sp e, ap told h)
+bare-row-low sp (caption_at s) h = absurd (omega (arith, ap told h))

@@ -1,39 +1,30 @@
 -- Laws of the arms of groups and tables: what each comes to, as a text, elements in a place, and a text. And laws of elements that were
 -- walked in another place or further down.
-use mathlib.Core.Path.{◌≡◌, refl, sym, ap, subst, ◌∙◌}
+use mathlib.Core.Path.{◌≡◌, sym, ap, subst, ◌∙◌}
 use mathlib.Core.Bool.{Bool, true, false, cond}
-use mathlib.Core.List.{List, [], ◌++◌}
-use Prim.Native.Nat.{ℕ, ◌+◌, ◌-◌, ◌*◌, ◌/◌, ◌≤◌}
+use mathlib.Core.List.{List, []}
+use Prim.Native.Nat.{ℕ, ◌+◌, ◌*◌, ◌/◌}
 use native.Mathlib.Omega.{arith}
-use lib.ListN.{length}
-use Rattle.text.specs.Writing.{cap}
 use Rattle.text.specs.Compare.{same}
 use Rattle.mitex_syntax.specs.Tree.{Forest, size}
 use Rattle.mitex_syntax.specs.Tree.Forest.{none, more}
 use Rattle.mitex_syntax.specs.Views.{is_valid, is_inline}
-use Rattle.mitex_meaning.specs.Outcome.{Context, Carry, Outcome, Conv, after, closing, shift, in_mode}
+use Rattle.mitex_meaning.specs.Outcome.{Context, Carry, Outcome, Conv, after, closing, shift, in_mode, in_env}
 use Rattle.mitex_meaning.specs.Outcome.Outcome.{refused}
-use Rattle.mitex_meaning.specs.Texts.{formula_begin, formula_end, blank_group, left_paren, hash}
-use Rattle.mitex_meaning.specs.Contract.{Agrees, Takes}
+use Rattle.mitex_meaning.specs.Texts.{formula_begin, formula_end, blank_group}
+use Rattle.mitex_meaning.specs.Contract.{Place, Agrees}
 use Rattle.mitex_meaning.specs.Children.{each}
 use Rattle.mitex_meaning.specs.Groups.{formula, group_env, curly_in, curly_group, lr_begin, lr_end, clause_lr}
 use Rattle.mitex_meaning.specs.Runs.{all_blank}
-use Rattle.mitex_meaning.specs.Tables.{letters_fit, table_head}
-use Rattle.mitex_meaning.specs.Environments.{table_with, take_label}
 use Rattle.mitex_meaning.specs.declared.LaTeXMode.{LaTeXMode}
-use Rattle.mitex_meaning.specs.declared.LaTeXMode.TheVariants.{Text, Math}
+use Rattle.mitex_meaning.specs.declared.LaTeXMode.TheVariants.{Math}
 use Rattle.mitex_meaning.specs.declared.LaTeXEnv.{LaTeXEnv}
-use Rattle.mitex_meaning.specs.declared.LaTeXEnv.TheVariants.{Table as TableEnv}
-use Rattle.mitex_meaning.specs.declared.Loop.TheVariants.{Plain, Curly, Spaced, Table}
-use Rattle.mitex_meaning.specs.declared.Place.{Place}
-use Rattle.mitex_meaning.specs.declared.Walked.{Walked}
-use Rattle.mitex_meaning.proofs.Agreeing.{agrees-shift, agrees-takes}
+use Rattle.mitex_meaning.specs.declared.Loop.TheVariants.{Plain, Curly, Spaced}
+use Rattle.mitex_meaning.specs.Contract.{Walked}
+use Rattle.mitex_meaning.proofs.Agreeing.{agrees-shift}
 use Rattle.mitex_meaning.proofs.Loops.{each_none, each-shift}
 use Rattle.mitex_meaning.proofs.Runs.{curly-blank}
 use Rattle.mitex_loops.specs.FirstChild.{behind_first, first_size, lr_name}
-use Rattle.mitex_loops.proofs.Plainly.{group-step}
-use Rattle.mitex.proofs.Rooms.{env-in}
-use Rattle.mitex.proofs.Environing.{letters-good}
 
 -- ---- what was walked
 
@@ -44,13 +35,6 @@ pub agrees-further :
 agrees-further {a} {x} {at} {out} {out'} {o} row {i} n e m =
     let z : row + i / 8 ≡ row + n = omega arith in
     agrees-shift n (subst (λ (r : ℕ). Agrees a x r at out out' o) z m)
-
--- an environment takes the held label; that it is a list is told by b
-pub agrees-takes-as :
-    {row at : ℕ} {out out₁ out₂ : List ℕ} {a r : Walked} {x : Place} (list : Bool) {b : Bool} → b ≡ list → (m : LaTeXMode) {o : Outcome}
-    → length out ≤ cap → Agrees a x row at out out₁ o → Takes a b m out₁ r out₂ → Agrees r x row at out out₂ (take_label list m o)
-agrees-takes-as {out₁ = out₁} {out₂ = out₂} {a = a} {r = r} list e m h g t =
-    agrees-takes list m h g (subst (λ (y : Bool). Takes a y m out₁ r out₂) e t)
 
 -- ---- formulas
 
@@ -68,25 +52,16 @@ formula-good conv x f c inline e i =
 
 -- ---- curly groups
 
-pub curly-text : (conv : Conv) (x : Context) (f : Forest) (c : Carry) → x.mode ≡ Text → curly_group conv x f c ≡ each (conv x) 1 Plain f c
-curly-text conv x f c e = ap (λ (m : LaTeXMode). curly_in m conv x f c) e
-
 -- in Math the children stand in the environment v, and a mark follows if all of them are blank
 pub curly-math :
     (conv : Conv) (x : Context) (f : Forest) (c : Carry) (v : LaTeXEnv) (blank : Bool) → x.mode ≡ Math → v ≡ group_env x.env
     → blank ≡ all_blank f
-    → curly_group conv x f c
-    ≡ closing (cond blank blank_group []) (each (conv (record { rules = x.rules; mode = x.mode; env = v; indent = x.indent })) 1 Plain f c)
+    → curly_group conv x f c ≡ closing (cond blank blank_group []) (each (conv (in_env v x)) 1 Plain f c)
 curly-math conv x f c v blank e g b =
     ap (λ (m : LaTeXMode). curly_in m conv x f c) e
-    ∙ ap (λ (y : Context). each (conv y) 1 (Curly true) f c) (env-in x (group_env x.env) (group-step x.env))
-    ∙ ap
-    (λ (u : LaTeXEnv). each (conv (record { rules = x.rules; mode = x.mode; env = u; indent = x.indent })) 1 (Curly true) f c) (sym g)
-    ∙ curly-blank (conv (record { rules = x.rules; mode = x.mode; env = v; indent = x.indent })) 1 f c
-    ∙ ap
-    (λ (d : Bool).
-    closing (cond d blank_group []) (each (conv (record { rules = x.rules; mode = x.mode; env = v; indent = x.indent })) 1 Plain f c))
-    (sym b)
+    ∙ ap (λ (u : LaTeXEnv). each (conv (in_env u x)) 1 (Curly true) f c) (sym g)
+    ∙ curly-blank (conv (in_env v x)) 1 f c
+    ∙ ap (λ (d : Bool). closing (cond d blank_group []) (each (conv (in_env v x)) 1 Plain f c)) (sym b)
 
 -- ---- `\left` and `\right`
 
@@ -107,14 +82,3 @@ pub lr-named :
 lr-named conv x f c name e =
     lr-is conv x f c
     ∙ ap (λ (w : List ℕ). after (lr_begin w) (closing (lr_end w) (shift (first_size f) (each (conv x) 1 Spaced (behind_first f) c)))) (sym e)
-
--- ---- tables
-
--- the head by its letters, and the cells in a table, which is not further in
-pub table-good :
-    (w l : List ℕ) (conv : Conv) (x : Context) (f : Forest) (c : Carry) → letters_fit l ≡ true → table_with w l conv x f c
-    ≡ after (hash ++ (w ++ (left_paren ++ table_head l)))
-    (each (conv (record { rules = x.rules; mode = x.mode; env = TableEnv; indent = x.indent })) 1 (Table true) f c)
-table-good w l conv x f c e =
-    letters-good w l conv x f c e
-    ∙ ap (λ (y : Context). after (hash ++ (w ++ (left_paren ++ table_head l))) (each (conv y) 1 (Table true) f c)) (env-in x TableEnv refl)

@@ -5,3 +5,4 @@ pub mod Environing
 pub mod Taking
 pub mod Bodies
 pub mod Grouping
+pub mod Spelt

@@ -4,17 +4,17 @@
 use mathlib.Core.Path.{◌≡◌, refl, sym, ap, subst, ◌∙◌}
 use mathlib.Core.Bool.{Bool, true, false}
 use mathlib.Core.Option.Option.{some}
-use mathlib.Core.List.{List, ◌++◌, append-nil}
+use mathlib.Core.List.{List, [], ◌∷◌, ◌++◌, append-nil}
 use Prim.Native.Nat.{ℕ, zero, suc, ◌+◌, ◌-◌, ◌*◌, ◌/◌, ◌≤◌, ◌<◌}
 use native.Mathlib.Omega.{arith}
 use lib.ListN.{length, take, drop, get_or, length-drop}
-use lib.Seq.{drop-drop, get_or-take, get_or-drop}
+use lib.Seq.{drop-drop, take-nil, get_or-take, get_or-drop}
 use Rattle.text.specs.Writing.{cap, Wrote}
-use Rattle.text.proofs.Writing.{wrote-low, part-rest}
+use Rattle.text.proofs.Writing.{part-rest}
 use Rattle.mitex_spec.specs.Rules.{Rule}
 use Rattle.mitex_spec.specs.RuleFile.{rules_of}
 use Rattle.mitex_spec.specs.Index.{Ready, SomeRules}
-use Rattle.mitex_syntax.specs.Tree.{Tree, Forest, size, sizes, kind_of, text_of, texts_of, rows_ofs}
+use Rattle.mitex_syntax.specs.Tree.{Tree, Forest, size, sizes, kind_of, text_of}
 use Rattle.mitex_syntax.specs.Tree.Tree.{node}
 use Rattle.mitex_syntax.specs.Tree.Forest.{none, more}
 use Rattle.mitex_syntax.specs.Views.{children_of}
@@ -25,36 +25,39 @@ use Rattle.mitex_syntax.proofs.Trees.{ElementAt, element, all-begins, spans, kin
 use Rattle.mitex_meaning.specs.Outcome.{Context, Label, Carry, Outcome, after, and_then, closing, shift, flagged, label_most}
 use Rattle.mitex_meaning.specs.Outcome.Outcome.{refused, done}
 use Rattle.mitex_meaning.specs.State.{context_of, carry_of, label_of, with_flag}
-use Rattle.mitex_meaning.specs.Contract.{place_of, Agrees, went_with, refused_with, reached_at, state_in, walked_in, Closes}
+use Rattle.mitex_meaning.specs.Contract.{Place, place_of, Agrees, went_with}
 use Rattle.mitex_meaning.specs.Contract.Agrees.{declines, accepts}
 use Rattle.mitex_meaning.specs.Children.{act_of, before, converts, behind, next_loop, loop_end, turn, each}
 use Rattle.mitex_meaning.specs.Groups.{children}
 use Rattle.mitex_meaning.specs.Conversion.{element_of, arm_by, step, convert}
 use Rattle.mitex_meaning.specs.Runs.{beside, is_flat}
-use Rattle.mitex_loops.specs.Given.{number_of, ChildGiven, OthersGiven, Decides}
-use Rattle.mitex_loops.specs.Steady.{SteadyGiven, SteadyRun}
-use Rattle.mitex_loops.proofs.Steady.{texts-short, run-first, run-others, run_end, steady-given, run-stop}
+use Rattle.mitex_loops.specs.Given.{number_of}
+use Rattle.mitex_loops.specs.Steady.{SteadyRun}
+use Rattle.mitex_loops.proofs.Steady.{run-first, run-others, run_end, run-stop}
 use Rattle.mitex_loops.proofs.Closing.{passes-alone}
 use Rattle.mitex_loops.proofs.Plainly.{each-one}
 use Rattle.mitex_loops.proofs.Acting.{number-next}
-use Rattle.mitex_colors.proofs.Scans.{drop-take}
-use Rattle.mitex_tokens.specs.Puts.{carrying}
-use Rattle.mitex_tokens.specs.Runs.{RunGiven, RunGoes}
-use Rattle.mitex_tokens.specs.declared.TokenRun.{TokenRun}
+use Rattle.mitex_tokens.specs.Comes.{carrying}
+use Rattle.mitex_tokens.specs.Runs.{RunGiven, Ran, StopsAt}
 use Rattle.mitex_meaning.specs.declared.Loop.{Loop}
 use Rattle.mitex_meaning.specs.declared.Loop.TheVariants.{Plain}
 use Rattle.mitex_meaning.specs.declared.Act.{Act}
 use Rattle.mitex_meaning.specs.declared.Act.TheVariants.{Convert}
-use Rattle.mitex_meaning.specs.declared.Place.{Place}
 use Rattle.mitex_meaning.specs.declared.Converter.{Converter}
-use Rattle.mitex_meaning.specs.declared.Progress.{Progress}
-use Rattle.mitex_meaning.specs.declared.Walked.{Walked}
+use Rattle.mitex_meaning.specs.Contract.{Walked}
 use Rattle.mitex_meaning.proofs.Outcomes.{shift-shift, shift-after, shift-closing}
-use Rattle.mitex_meaning.proofs.Agreeing.{Good, agrees-good, agrees-as, agrees-done, agrees-refused, agrees-reached, agrees_after, agrees-closes, agrees-shift, then-done, then-refused}
+use Rattle.mitex_meaning.proofs.Agreeing.{Good, agrees-good, agrees-as, agrees-done, agrees_after, agrees-shift, then-done, then-refused, number-some}
 use Rattle.mitex_meaning.proofs.Loops.{turn-converts, turn-passes, each_none, each_more, each-shift, each-from-zero}
 use Rattle.mitex_meaning.proofs.Blocks.{turn-plain}
 use Rattle.mitex_meaning.proofs.Runs.{sizes-beside, flat-spells, steady-run, flat_step}
-use Rattle.mitex.specs.Walks.{Room, Siblings, Walks, Turns}
+use Rattle.refusals.specs.declared.Refusal.{Refusal}
+use Rattle.refusals.specs.Refusals.{refusal_number}
+use Rattle.mitex.specs.declared.elements.Elements.{Elements}
+use Rattle.mitex_spec.specs.declared.rules.Rules.{Rules}
+use Rattle.text.specs.declared.output.Output.{Output}
+use Rattle.mitex.proofs.Spelt.{spelt, elements-few}
+use Rattle.mitex.proofs.Rooms.{back-same, closed, handed-on}
+use Rattle.mitex.specs.Walks.{Room, Siblings, Walks, Turns, tail_at}
 
 -- ---- nodes
 
@@ -86,14 +89,21 @@ node-means :
 unfolding convert step
 node-means d x k f c = refl
 
+-- a part of a front
+pub drop-take : (a n : ℕ) (l : List ℕ) → drop a (take n l) ≡ take (n - a) (drop a l)
+drop-take zero n l = let e : n ≡ n - 0 = omega arith in ap (λ (m : ℕ). take m l) e
+drop-take (suc a) zero l = let e : 0 ≡ 0 - suc a = omega arith in ap (λ (m : ℕ). take m (drop (suc a) l)) e
+drop-take (suc a) (suc n) [] = sym (take-nil (suc n - suc a))
+drop-take (suc a) (suc n) (x ∷ l) = let e : n - a ≡ suc n - suc a = omega arith in drop-take a n l ∙ ap (λ (m : ℕ). take m (drop a l)) e
+
 -- ---- where a loop stands
 
 -- the numbers and the converter: c is in the place that c₀ was in
-pub record Stands (rows text out₀ out : List ℕ) (c₀ c : Converter) (i j at : ℕ) : Type 0 where
+pub record Stands (rows text out : List ℕ) (c₀ c : Converter) (i j at : ℕ) : Type 0 where
   pub high : i ≤ length rows
   pub begun : j ≤ length text
   pub place : at ≤ cap
-  pub same : length out ≡ length out₀
+  pub room : length out ≤ cap
   pub short : c.label_len ≤ label_most
   pub placed_so : place_of c ≡ place_of c₀
 
@@ -112,40 +122,114 @@ wholly rs n d l f = each (convert n (context_of rs d)) 1 l f (carry_of d)
 abbrev remains : List Rule → ℕ → Converter → ℕ → Loop → Converter → Forest → Outcome
 remains rs n d₀ i l d g = each (convert n (context_of rs d₀)) (1 + i / 8) l g (carry_of d)
 
+-- plain bounds of what the loop was given: lengths, the place, the row, the indent, the held label
+pub record Bounds (rows text out : List ℕ) (at row : ℕ) (c : Converter) : Type 0 where
+  pub few : length rows < cap
+  pub short : length text < cap
+  pub room : length out ≤ cap
+  pub place : at ≤ cap
+  pub low : row + 8 + length rows ≤ cap
+  pub deep : c.indent + 0 + length rows ≤ cap
+  pub label : c.label_len ≤ label_most
+
 -- what holds at the loop's head: it began with the converter d₀ and the loop l₀ at the place w₀, and stands at i and j
 pub record Looping (rules index rows text : List ℕ) (row : ℕ) (out₀ : List ℕ) (w₀ : ℕ) (d₀ : Converter) (l₀ : Loop) (out : List ℕ) (w : ℕ)
     (d : Converter) (l : Loop) (i j : ℕ) : Type 0 where
-  pub room : Room 0 rows text out₀ w₀ row d₀
+  pub room : Bounds rows text out₀ w₀ row d₀
   pub some_rules : SomeRules rules index
   pub spelt : Siblings rows text
-  pub stands : Stands rows text out₀ out d₀ d i j w
+  pub stands : Stands rows text out d₀ d i j w
   pub counts : number_of l ≤ i
   pub left :
       (rs : List Rule) → Ready rules index rs → (f : Forest) → SpellsAll f rows text → (n : ℕ) → sizes f ≤ n
       → Left (wholly rs n d₀ l₀ f) (place_of d₀) row w₀ out₀ (remains rs n d₀ i l d) n rows text i j w out
 
-pub looping-start :
-    {rules index rows text : List ℕ} {row : ℕ} {out : List ℕ} {w : ℕ} {d : Converter} {l : Loop} → Room 0 rows text out w row d
-    → SomeRules rules index → Siblings rows text → number_of l ≡ 0 → Looping rules index rows text row out w d l out w d l 0 0
-looping-start r s g h =
+-- the same in the terms of the code: the elements that are left, and the output over the same lent buffer
+pub record Head (rules : Rules) (e : Elements) (o₀ : Output) (d₀ : Converter) (l₀ : Loop) (o : Output) (d : Converter) (l : Loop) (rest : Elements)
+    : Type 0 where
+  pub i : ℕ
+  pub j : ℕ
+  pub loop : Looping rules.file.now rules.index.now e.rows.now e.text.now e.row o₀.buffer.now o₀.at d₀ l₀ o.buffer.now o.at d l i j
+  pub rows : rest.rows.now ≡ drop i e.rows.now
+  pub text : rest.text.now ≡ drop j e.text.now
+  pub row : rest.row ≡ e.row + i / 8
+  pub lent : o.buffer.ghost_name ≡ o₀.buffer.ghost_name
+
+pub head-start :
+    {rules : Rules} {e : Elements} {o : Output} {d : Converter} {l : Loop} → Room 0 e.rows.now d → number_of l ≡ 0
+    → Head rules e o d l o d l e
+head-start {rules} {e} {o} {d} {l} r h =
     record {
-      room = r;
-      some_rules = s;
-      spelt = g;
-      stands = record { high = omega arith; begun = omega arith; place = r.place; same = refl; short = r.label; placed_so = refl };
-      counts = omega arith;
-      left = λ rs ready f sp n k. record { forest = f; spells = sp; fits = k; onward = λ a o m. m };
+      i = 0;
+      j = 0;
+      loop = record {
+        room = record { few = elements-few e; short = e.short; room = o.few; place = o.near; low = e.low; deep = r.deep; label = r.label };
+        some_rules = rules.some;
+        spelt = spelt e;
+        stands = record { high = omega arith; begun = omega arith; place = o.near; room = o.few; short = r.label; placed_so = refl };
+        counts = omega arith;
+        left = λ rs ready f sp n k. record { forest = f; spells = sp; fits = k; onward = λ a p m. m };
+      };
+      rows = refl;
+      text = refl;
+      row = omega arith;
+      lent = refl;
     }
+
+-- what is left, and parts of it, in the whole
+module _ (l : List ℕ) (i : ℕ) {r : List ℕ} (is : r ≡ drop i l) where
+  pub rest-is : r ≡ tail_at l i
+  rest-is = is ∙ sym (part-rest l i)
+
+  pub rest-length : length r ≡ length l - i
+  rest-length = ap length is ∙ length-drop i l
+
+  pub front-is : (n : ℕ) → take n r ≡ part l i n
+  front-is n = let z : n ≡ i + n - i = omega arith in ap (take n) is ∙ ap (λ (m : ℕ). take m (drop i l)) z
+
+  pub below-is : (n : ℕ) → take (n - 8) (drop 8 r) ≡ take (i + n - (i + 8)) (drop (i + 8) l)
+  below-is n =
+      let z : n - 8 ≡ i + n - (i + 8) = omega arith in
+      ap (λ (s : List ℕ). take (n - 8) (drop 8 s)) is
+      ∙ ap (take (n - 8)) (drop-drop 8 i l)
+      ∙ ap (λ (m : ℕ). take m (drop (i + 8) l)) z
+
+  pub on-is : {r' : List ℕ} (n : ℕ) → r' ≡ tail_at r n → r' ≡ drop (i + n) l
+  on-is n e = e ∙ part-rest r n ∙ ap (drop n) is ∙ drop-drop n i l
+
+  pub tail-is : (n : ℕ) → tail_at r n ≡ tail_at l (i + n)
+  tail-is n = on-is n refl ∙ sym (part-rest l (i + n))
+
+  pub byte-is : (q : ℕ) → get_or r q 0 ≡ get_or l (i + q) 0
+  byte-is q = ap (λ (s : List ℕ). get_or s q 0) is ∙ get_or-drop i l q 0
+
+  pub kind-is : get_or r 0 0 ≡ get_or l i 0
+  kind-is = let z : i + 0 ≡ i = omega arith in byte-is 0 ∙ ap (λ (q : ℕ). get_or l q 0) z
+
+  pub spans-on : Spans l i → Spans r 0
+  spans-on s =
+      record {
+        some = omega (arith, s.some, rest-length);
+        inside = omega (arith, s.inside, rest-length, ap extent_of is);
+        few = omega (arith, s.few, rest-length);
+        short = subst (λ (t : List ℕ). token_sum (take (extent_of t) t) < cap) (sym is) s.short;
+      }
 
 -- ---- the child at i, as the code has it: e bytes of rows, n bytes of text
 
-pub record Child (rows text out : List ℕ) (c : Converter) (i j e n at row : ℕ) : Type 0 where
+pub record Child (rows text : List ℕ) (c : Converter) (i j e n : ℕ) : Type 0 where
   pub end : i + e ≤ length rows
   pub stop : j + n ≤ length text
   pub some : 8 ≤ e
-  pub room : Room 0 (part rows i e) (part text j n) out at (row + i / 8) c
+  pub room : Room 0 (part rows i e) c
   pub given : SomeTree (part rows i e) (part text j n)
   pub long : length (part rows i e) ≡ e
+
+-- what is left, as the code has it
+pub rest-exact : {g : Forest} (rows text : List ℕ) (i j : ℕ) → SpellsAll g (drop i rows) (drop j text) → SpellsAll g (tail_at rows i) (tail_at text j)
+rest-exact {g} rows text i j sp =
+    subst (λ (r : List ℕ). SpellsAll g r (tail_at text j)) (sym (part-rest rows i))
+    (subst (λ (s : List ℕ). SpellsAll g (drop i rows) s) (sym (part-rest text j)) sp)
 
 module _ {rules index rows text : List ℕ} {row : ℕ} {out₀ : List ℕ} {w₀ : ℕ} {d₀ : Converter} {l₀ : Loop} {out : List ℕ} {w : ℕ}
     {d : Converter} {l : Loop} {i j : ℕ} (k : Looping rules index rows text row out₀ w₀ d₀ l₀ out w d l i j) where
@@ -156,10 +240,13 @@ module _ {rules index rows text : List ℕ} {row : ℕ} {out₀ : List ℕ} {w�
       record { forest = z.forest; spells = z.spells }
 
   pub loop-room : length out ≤ cap
-  loop-room = omega (arith, k.room.room, k.stands.same)
+  loop-room = k.stands.room
+
+  pub left-behind : Siblings (tail_at rows i) (tail_at text j)
+  left-behind = record { forest = left-spelt.forest; spells = rest-exact rows text i j left-spelt.spells }
 
   -- what is left is some rows whole
-  i-eighth : i ≡ 8 * (i / 8)
+  pub i-eighth : i ≡ 8 * (i / 8)
   i-eighth =
       omega (
         arith,
@@ -183,7 +270,7 @@ module _ {rules index rows text : List ℕ} {row : ℕ} {out₀ : List ℕ} {w�
     child-spans = spans (child-element left-spelt.spells) k.room.few k.room.short
 
     module _ (e n : ℕ) (is_e : e ≡ extent_of (drop i rows)) (is_n : n ≡ token_sum (take (extent_of (drop i rows)) (drop i rows))) where
-      pub child : Child rows text out d i j e n w row
+      pub child : Child rows text d i j e n
       child =
           let x = child-element left-spelt.spells in
           let re = rows-e x e n is_e is_n in
@@ -199,34 +286,19 @@ module _ {rules index rows text : List ℕ} {row : ℕ} {out₀ : List ℕ} {w�
             end = omega arith;
             stop = omega arith;
             some = omega arith;
-            room = record {
-              few = omega (arith, r.few);
-              short = omega (arith, r.short);
-              room = loop-room;
-              place = k.stands.place;
-              low = omega (arith, r.low);
-              deep = omega (arith, r.deep);
-              label = k.stands.short;
-            };
+            room = record { deep = omega (arith, r.deep); label = k.stands.short };
             given = record { tree = x.tree; spells = part-spells x e n is_e is_n };
             long = pl;
           }
 
-      pub child-given : ChildGiven (part rows i e) (part text j n)
-      child-given = record { few = child.room.few; short = child.room.short; child = child.given }
-
       -- the elements behind it
-      pub child-behind : OthersGiven (take (length rows - (i + e)) (drop (i + e) rows))
+      pub child-behind : Siblings (tail_at rows (i + e)) (tail_at text (j + n))
       child-behind =
           let x = child-element left-spelt.spells in
-          let q = part-rest rows (i + e) in
-          record {
-            few = omega (arith, k.room.few, ap length q, length-drop (i + e) rows);
-            others = record { forest = x.others; rows_are = q ∙ (past-exact x e n is_e is_n left-spelt.spells).rows_are };
-          }
+          record { forest = x.others; spells = rest-exact rows text (i + e) (j + n) (past-exact x e n is_e is_n left-spelt.spells) }
 
       module _ (act : Act) {a : Walked} {out' : List ℕ} (m : Turns rules index (part rows i e) (part text j n) (row + i / 8) d w out a out' act)
-          (de : Decides l (part rows i e) (part text j n) (take (length rows - (i + e)) (drop (i + e) rows)) act) where
+          (de : (t : Tree) (g : Forest) → Spells t (part rows i e) (part text j n) → SpellsAll g (tail_at rows (i + e)) (tail_at text (j + n)) → act ≡ act_of l t g) where
         module _ (rs : List Rule) (ready : Ready rules index rs) (f : Forest) (sp : SpellsAll f rows text) (level : ℕ) (fit : sizes f ≤ level) where
           abbrev conv : Tree → Carry → Outcome
           conv = convert level (context_of rs d₀)
@@ -244,7 +316,7 @@ module _ {rules index rows text : List ℕ} {row : ℕ} {out₀ : List ℕ} {w�
           spelt-child = part-spells here e n is_e is_n
 
           acted : act ≡ act_of l here.tree here.others
-          acted = de here.tree here.others spelt-child (part-rest rows (i + e) ∙ (past-exact here e n is_e is_n at_head.spells).rows_are)
+          acted = de here.tree here.others spelt-child (rest-exact rows text (i + e) (j + n) (past-exact here e n is_e is_n at_head.spells))
 
           -- what follows the child
           then : Carry → Outcome
@@ -300,7 +372,7 @@ module _ {rules index rows text : List ℕ} {row : ℕ} {out₀ : List ℕ} {w�
 
         -- the child is done, and there is more to do
         pub loop-next :
-            a.refusal ≡ 0 → length out' ≡ length out → {l' : Loop} → l' ≡ next_loop l (get_or rows i 0) act
+            a.refusal ≡ 0 → length out' ≤ cap → {l' : Loop} → l' ≡ next_loop l (get_or rows i 0) act
             → Looping rules index rows text row out₀ w₀ d₀ l₀ out' a.at a.converter l' (i + e) (j + n)
         loop-next z same {l'} next =
             let x = child in
@@ -314,7 +386,7 @@ module _ {rules index rows text : List ℕ} {row : ℕ} {out₀ : List ℕ} {w�
                 high = x.end;
                 begun = x.stop;
                 place = g.place;
-                same = same ∙ k.stands.same;
+                room = same;
                 short = g.short;
                 placed_so = g.placed_so ∙ k.stands.placed_so;
               };
@@ -342,54 +414,79 @@ module _ {rules index rows text : List ℕ} {row : ℕ} (c : Converter) {at : �
 
 -- ---- one child, as the code does it: a text before, the child itself, a text after
 
-module _ {rules index rows text : List ℕ} {row : ℕ} (x : Place) (f h : Bool) (n : ℕ) (label : List ℕ) {w p : ℕ} {out out₁ : List ℕ} (act : Act)
-    (room : length out ≤ cap) (begun : Wrote w out (before act text) p out₁) where
+turn-is :
+    (rows text : List ℕ) (act : Act) → converts act ≡ true → (conv : Tree → Carry → Outcome) {t : Tree} → Spells t rows text → (c : Carry)
+    → shift 1 (turn conv act t c) ≡ after (before act text) (closing (behind act) (shift 1 (conv t c)))
+turn-is rows text act e conv {t} sp c =
+    ap (shift 1)
+    (turn-converts conv act t c e ∙ ap (λ (s : List ℕ). after (before act s) (closing (behind act) (conv t c))) (sym sp.text_is))
+    ∙ shift-after 1 (before act text) (closing (behind act) (conv t c))
+    ∙ ap (after (before act text)) (shift-closing 1 (behind act) (conv t c))
+
+module _ {rules index rows text : List ℕ} {row : ℕ} (start : Converter) {w p : ℕ} {out out₁ : List ℕ} (act : Act) (room : length out ≤ cap)
+    (begun : Wrote w out (before act text) p out₁) where
   -- it is passed over
   pub turned-passed :
-      converts act ≡ false → n ≤ label_most → {r : Progress} → r ≡ reached_at p f h n
-      → Turns rules index rows text row (state_in x f h n label) w out (walked_in x label r) out₁ act
-  turned-passed e short is rs ready t sp d k =
-      let start = state_in x f h n label in
+      converts act ≡ false → start.label_len ≤ label_most → Turns rules index rows text row start w out (went_with start p) out₁ act
+  turned-passed e short rs ready t sp d k =
       agrees-as
       (ap (shift 1)
       (turn-passes (convert d (context_of rs start)) act t (carry_of start) e
       ∙ ap (λ (v : List ℕ). done (carry_of start) (before act (text_of t) ++ v)) (passes-alone act e)
       ∙ ap (done (carry_of start)) (append-nil (before act (text_of t)))
       ∙ ap (λ (s : List ℕ). done (carry_of start) (before act s)) (sym sp.text_is)))
-      (agrees-reached label is refl short begun)
+      (agrees-done start refl refl refl short begun)
 
   -- it is converted
   pub turned :
-      {r q : Progress} {label' out₂ out₃ : List ℕ} → converts act ≡ true → length out₁ ≤ cap
-      → Walks rules index rows text row (state_in x f h n label) p out₁ (walked_in x label' r) out₂ children → Closes r (behind act) out₂ q out₃
-      → Turns rules index rows text row (state_in x f h n label) w out (walked_in x label' q) out₃ act
-  turned e room₁ m closed rs ready t sp d k =
-      let start = state_in x f h n label in
-      let conv = convert d (context_of rs start) in
-      agrees-as
-      (ap (shift 1)
-      (turn-converts conv act t (carry_of start) e
-      ∙ ap (λ (s : List ℕ). after (before act s) (closing (behind act) (conv t (carry_of start)))) (sym sp.text_is))
-      ∙ shift-after 1 (before act text) (closing (behind act) (conv t (carry_of start)))
-      ∙ ap (after (before act text)) (shift-closing 1 (behind act) (conv t (carry_of start))))
-      (agrees_after room begun (agrees-closes room₁ (alone-agrees start m rs ready t sp d k) closed))
+      {c : Converter} {q r : ℕ} {out₂ out₃ : List ℕ} → converts act ≡ true → length out₁ ≤ cap
+      → Walks rules index rows text row start p out₁ (went_with c q) out₂ children → Wrote q out₂ (behind act) r out₃
+      → Turns rules index rows text row start w out (went_with c r) out₃ act
+  turned e room₁ m ended rs ready t sp d k =
+      agrees-as (turn-is rows text act e (convert d (context_of rs start)) sp (carry_of start))
+      (agrees_after room begun (closed room₁ (alone-agrees start m rs ready t sp d k) ended back-same))
+
+  -- it is converted, and was refused
+  pub turned-refused :
+      {a b : Walked} {out₂ out₃ : List ℕ} → converts act ≡ true → Walks rules index rows text row start p out₁ a out₂ children → 0 < a.refusal
+      → b.refusal ≡ a.refusal → b.row ≡ a.row → Turns rules index rows text row start w out b out₃ act
+  turned-refused e m has u v rs ready t sp d k =
+      agrees-as (turn-is rows text act e (convert d (context_of rs start)) sp (carry_of start))
+      (handed-on (λ o. after (before act text) (closing (behind act) o)) (λ _ _. refl) has u v (alone-agrees start m rs ready t sp d k))
 
 -- ---- a run of tokens
 
--- what stands after a place, from which the code goes on
-abbrev pub tail_at : List ℕ → ℕ → List ℕ
-tail_at l n = take (length l - n) (drop n l)
+-- what the code has in another way
+pub siblings-at : {rows text rows' text' : List ℕ} → rows' ≡ rows → text' ≡ text → Siblings rows text → Siblings rows' text'
+siblings-at {rows} {text} {rows'} {text'} er et g = subst (λ (l : List ℕ). Siblings l text') (sym er) (subst (Siblings rows) (sym et) g)
+
+pub spells-at : {t : Tree} {rows text rows' text' : List ℕ} → rows' ≡ rows → text' ≡ text → Spells t rows text → Spells t rows' text'
+spells-at {t} {rows} {text} {rows'} {text'} er et sp = subst (λ (l : List ℕ). Spells t l text') (sym er) (subst (Spells t rows) (sym et) sp)
+
+pub walks-kind :
+    {rules index rows text : List ℕ} {row : ℕ} (c : Converter) {at : ℕ} {out : List ℕ} {a : Walked} {out' : List ℕ} {k k' : ℕ} → k' ≡ k
+    → Walks rules index rows text row c at out a out' (arm_by (element_of k')) → Walks rules index rows text row c at out a out' (arm_by (element_of k))
+walks-kind {rules} {index} {rows} {text} {row} c {at} {out} {a} {out'} e m =
+    subst (λ (q : ℕ). Walks rules index rows text row c at out a out' (arm_by (element_of q))) e m
+
+module _ (rows text : List ℕ) (i j : ℕ) {rows' text' : List ℕ} (er : rows' ≡ tail_at rows i) (et : text' ≡ tail_at text j) where
+  pub run-asked : RunGiven (tail_at rows i) (tail_at text j) → RunGiven rows' text'
+  run-asked g = subst (λ (l : List ℕ). RunGiven l text') (sym er) (subst (RunGiven (tail_at rows i)) (sym et) g)
+
+  pub stops-at : {x : Context} {flag : Bool} {row row' : ℕ} {e : Refusal} → row' ≡ row → StopsAt x flag rows' text' row' e → StopsAt x flag (tail_at rows i) (tail_at text j) row e
+  stops-at {x} {flag} {row} {row'} {e} eo m =
+      subst (λ (l : List ℕ). StopsAt x flag l (tail_at text j) row e) er
+      (subst (λ (s : List ℕ). StopsAt x flag rows' s row e) et (subst (λ (n : ℕ). StopsAt x flag rows' text' n e) eo m))
+
+  pub ran-at : {x : Context} {flag flag' : Bool} {o o' : Output} {s : Span} → Ran x flag rows' text' o flag' o' s → Ran x flag (tail_at rows i) (tail_at text j) o flag' o' s
+  ran-at {x} {flag} {flag'} {o} {o'} {s} m =
+      subst (λ (l : List ℕ). Ran x flag l (tail_at text j) o flag' o' s) er (subst (λ (u : List ℕ). Ran x flag rows' u o flag' o' s) et m)
 
 rest-behind : (l : List ℕ) (n m : ℕ) → drop m (tail_at l n) ≡ drop (n + m) l
 rest-behind l n m = ap (drop m) (part-rest l n) ∙ drop-drop m n l
 
 module _ {rules index rows text : List ℕ} {row : ℕ} {out₀ : List ℕ} {w₀ : ℕ} {d₀ : Converter} {out : List ℕ} {w : ℕ} {d : Converter} {i j : ℕ}
     (k : Looping rules index rows text row out₀ w₀ d₀ Plain out w d Plain i j) where
-  rest-spells : {g : Forest} → SpellsAll g (drop i rows) (drop j text) → SpellsAll g (tail_at rows i) (tail_at text j)
-  rest-spells {g} sp =
-      subst (λ (r : List ℕ). SpellsAll g r (tail_at text j)) (sym (part-rest rows i))
-      (subst (λ (s : List ℕ). SpellsAll g (drop i rows) s) (sym (part-rest text j)) sp)
-
   rest-long : length (tail_at rows i) ≡ length rows - i
   rest-long = ap length (part-rest rows i) ∙ length-drop i rows
 
@@ -398,7 +495,7 @@ module _ {rules index rows text : List ℕ} {row : ℕ} {out₀ : List ℕ} {w�
       let s = left-spelt k in
       record {
         forest = s.forest;
-        spells = rest-spells s.spells;
+        spells = rest-exact rows text i j s.spells;
         few = omega (arith, rest-long, k.room.few);
         short = omega (arith, ap length (part-rest text j), length-drop j text, k.room.short);
         some = omega (arith, rest-long);
@@ -407,14 +504,31 @@ module _ {rules index rows text : List ℕ} {row : ℕ} {out₀ : List ℕ} {w�
   in_place : (rs : List Rule) → context_of rs d₀ ≡ context_of rs d
   in_place rs = ap (λ (p : Place). record { rules = rs; mode = p.mode; env = p.env; indent = p.indent }) (sym k.stands.placed_so)
 
-  module _ {r : TokenRun} {out' : List ℕ}
-      (m : (rs : List Rule) → rules_of rules ≡ some rs
-      → RunGoes (context_of rs d) d.skip_next_space (tail_at rows i) (tail_at text j) w out r out') where
-    abbrev first : RunGoes (context_of k.some_rules.rules d) d.skip_next_space (tail_at rows i) (tail_at text j) w out r out'
-    first = m k.some_rules.rules k.some_rules.ready.decodes
+  abbrev held_so : Label
+  held_so = label_of d.label_held d.label_len d.label
 
-    abbrev held_so : Label
-    held_so = label_of d.label_held d.label_len d.label
+  -- a token of the run was refused
+  module _ {e : Refusal} (m : (rs : List Rule) → rules_of rules ≡ some rs
+      → StopsAt (context_of rs d) d.skip_next_space (tail_at rows i) (tail_at text j) (row + i / 8) e) where
+    pub run-refused :
+        {a : Walked} {o : List ℕ} → a.refusal ≡ refusal_number e.reason → a.row ≡ e.row → (rs : List Rule) → Ready rules index rs → (f : Forest)
+        → SpellsAll f rows text → (level : ℕ) → sizes f ≤ level → Agrees a (place_of d₀) row w₀ out₀ o (wholly rs level d₀ Plain f)
+    run-refused {a} {o} u v rs ready f sp level fit =
+        let z = k.left rs ready f sp level fit in
+        let q = m rs ready.decodes in
+        let at_row : e.row ≡ row + (1 + i / 8 + q.below) = omega (arith, q.is (omega (arith, rest-long, k.room.low))) in
+        z.onward a o
+        (agrees-as
+        (ap (λ (y : Context). each (convert level y) (1 + i / 8) Plain z.forest (carry_of d)) (in_place rs)
+        ∙ q.stops.refuses z.forest level held_so (1 + i / 8) (rest-exact rows text i j z.spells) z.fits)
+        (declines (number-some e.reason) u (v ∙ at_row)))
+
+  -- the run is done
+  module _ {r : Span} {o : Output} {o' : Output} {flag : Bool} (is_at : o.at ≡ w) (is_out : o.buffer.now ≡ out)
+      (m : (rs : List Rule) → rules_of rules ≡ some rs
+      → Ran (context_of rs d) d.skip_next_space (tail_at rows i) (tail_at text j) o flag o' r) where
+    abbrev first : Ran (context_of k.some_rules.rules d) d.skip_next_space (tail_at rows i) (tail_at text j) o flag o' r
+    first = m k.some_rules.rules k.some_rules.ready.decodes
 
     pub tokens-high : i + r.rows ≤ length rows
     tokens-high = omega (arith, first.high, rest-long, k.stands.high)
@@ -422,75 +536,55 @@ module _ {rules index rows text : List ℕ} {row : ℕ} {out₀ : List ℕ} {w�
     pub tokens-stop : j + r.text ≤ length text
     tokens-stop = omega (arith, first.stop, ap length (part-rest text j), length-drop j text, k.stands.begun)
 
-    pub run-some : r.refusal ≡ 0 → 8 ≤ r.rows
-    run-some z = first.some z
-
-    module _ (rs : List Rule) (ready : Ready rules index rs) (f : Forest) (sp : SpellsAll f rows text) (level : ℕ) (fit : sizes f ≤ level) where
-      abbrev head : Left (wholly rs level d₀ Plain f) (place_of d₀) row w₀ out₀ (remains rs level d₀ i Plain d) level rows text i j w out
-      head = k.left rs ready f sp level fit
-
-      abbrev conv-in : Context → Tree → Carry → Outcome
-      conv-in y = convert level y
-
-      -- the token after the run was refused
-      pub run-refused :
-          {a : Walked} {c : Converter} {o : List ℕ} → (r.refusal ≡ 0 → ⊥) → a ≡ refused_with c r.refusal (row + 1 + (i + r.rows) / 8)
-          → Agrees a (place_of d₀) row w₀ out₀ o (wholly rs level d₀ Plain f)
-      run-refused {a} {c} {o} z de =
-          let e8 = i-eighth k in
-          let at_row : row + 1 + (i + r.rows) / 8 ≡ row + (1 + i / 8 + r.rows / 8) = omega arith in
-          head.onward a o
-          (agrees-as
-          (ap (λ (y : Context). each (conv-in y) (1 + i / 8) Plain head.forest (carry_of d)) (in_place rs)
-          ∙ (m rs ready.decodes).refuses z head.forest level held_so (1 + i / 8) (rest-spells head.spells) head.fits)
-          (agrees-refused (1 + i / 8 + r.rows / 8) (omega arith)
-          (de ∙ ap (refused_with c r.refusal) at_row)))
-
-      run-left :
-          r.refusal ≡ 0
-          → Left (wholly rs level d₀ Plain f) (place_of d₀) row w₀ out₀ (remains rs level d₀ (i + r.rows) Plain (with_flag r.flag d)) level rows text
-          (i + r.rows) (j + r.text) r.at out'
-      run-left z =
-          let g = (m rs ready.decodes).goes z head.forest level (rest-spells head.spells) head.fits in
-          let e8 = i-eighth k in
-          let at_next : 1 + i / 8 + r.rows / 8 ≡ 1 + (i + r.rows) / 8 = omega arith in
-          record {
-            forest = g.forest;
-            spells = subst (λ (v : List ℕ). SpellsAll g.forest v (drop (j + r.text) text)) (rest-behind rows i r.rows)
-                (subst (λ (v : List ℕ). SpellsAll g.forest (drop r.rows (tail_at rows i)) v) (rest-behind text j r.text) g.spells);
-            fits = omega (arith, g.fits, head.fits);
-            onward =
-                λ b p mm. head.onward b p
-                (agrees-as
-                (ap (λ (y : Context). each (conv-in y) (1 + i / 8) Plain head.forest (carry_of d)) (in_place rs)
-                ∙ g.is held_so (1 + i / 8)
-                ∙ ap (λ (y : Context). after g.written (each (conv-in y) (1 + i / 8 + r.rows / 8) Plain g.forest (carrying r.flag held_so))) (sym (in_place rs))
-                ∙ ap (λ (q : ℕ). after g.written (each (convert level (context_of rs d₀)) q Plain g.forest (carrying r.flag held_so))) at_next)
-                (agrees_after (loop-room k) g.wrote mm));
-          }
-
-    -- the run is done, and there is more to do
-    pub run-next :
-        r.refusal ≡ 0 → length out' ≡ length out
-        → Looping rules index rows text row out₀ w₀ d₀ Plain out' r.at (with_flag r.flag d) Plain (i + r.rows) (j + r.text)
-    run-next z same =
-        let s = left-spelt k in
-        let g = first.goes z s.forest (sizes s.forest) (rest-spells s.spells) (omega arith) in
+    run-left :
+        (rs : List Rule) → Ready rules index rs → (f : Forest) → SpellsAll f rows text → (level : ℕ) → sizes f ≤ level
+        → Left (wholly rs level d₀ Plain f) (place_of d₀) row w₀ out₀ (remains rs level d₀ (i + r.rows) Plain (with_flag flag d)) level rows text
+        (i + r.rows) (j + r.text) o'.at o'.buffer.now
+    run-left rs ready f sp level fit =
+        let head = k.left rs ready f sp level fit in
+        let g = (m rs ready.decodes).goes head.forest level (rest-exact rows text i j head.spells) head.fits in
+        let e8 = i-eighth k in
+        let wrote : Wrote w out g.written o'.at o'.buffer.now
+        = subst (λ (q : ℕ). Wrote q out g.written o'.at o'.buffer.now) is_at
+        (subst (λ (q : List ℕ). Wrote o.at q g.written o'.at o'.buffer.now) is_out g.wrote.wrote) in
+        let at_next : 1 + i / 8 + r.rows / 8 ≡ 1 + (i + r.rows) / 8 = omega arith in
         record {
+          forest = g.forest;
+          spells = subst (λ (v : List ℕ). SpellsAll g.forest v (drop (j + r.text) text)) (rest-behind rows i r.rows)
+              (subst (λ (v : List ℕ). SpellsAll g.forest (drop r.rows (tail_at rows i)) v) (rest-behind text j r.text) g.spells);
+          fits = omega (arith, g.fits, head.fits);
+          onward =
+              λ b p mm. head.onward b p
+              (agrees-as
+              (ap (λ (y : Context). each (convert level y) (1 + i / 8) Plain head.forest (carry_of d)) (in_place rs)
+              ∙ g.is held_so (1 + i / 8)
+              ∙ ap (λ (y : Context). after g.written (each (convert level y) (1 + i / 8 + r.rows / 8) Plain g.forest (carrying flag held_so))) (sym (in_place rs))
+              ∙ ap (λ (q : ℕ). after g.written (each (convert level (context_of rs d₀)) q Plain g.forest (carrying flag held_so))) at_next)
+              (agrees_after (loop-room k) wrote mm));
+        }
+
+    -- and there is more to do
+    pub run-next :
+        {d' : Converter} → d' ≡ with_flag flag d
+        → Looping rules index rows text row out₀ w₀ d₀ Plain o'.buffer.now o'.at d' Plain (i + r.rows) (j + r.text)
+    run-next e =
+        subst
+        (λ (q : Converter). Looping rules index rows text row out₀ w₀ d₀ Plain o'.buffer.now o'.at q Plain (i + r.rows) (j + r.text)) (sym e)
+        (record {
           room = k.room;
           some_rules = k.some_rules;
           spelt = k.spelt;
           stands = record {
             high = tokens-high;
             begun = tokens-stop;
-            place = wrote-low g.wrote;
-            same = same ∙ k.stands.same;
+            place = o'.near;
+            room = o'.few;
             short = k.stands.short;
             placed_so = k.stands.placed_so;
           };
           counts = omega arith;
-          left = λ rs ready f sp level fit. run-left rs ready f sp level fit z;
-        }
+          left = run-left;
+        })
 
   -- ---- a node that only clears the flag: what is below_row it comes next
 
@@ -544,7 +638,7 @@ module _ {rules index rows text : List ℕ} {row : ℕ} {out₀ : List ℕ} {w�
             high = loop-row k h;
             begun = k.stands.begun;
             place = k.stands.place;
-            same = k.stands.same;
+            room = k.stands.room;
             short = k.stands.short;
             placed_so = k.stands.placed_so;
           };
@@ -556,16 +650,10 @@ module _ {rules index rows text : List ℕ} {row : ℕ} {out₀ : List ℕ} {w�
 
 module _ {rules index rows text : List ℕ} {row : ℕ} {out₀ : List ℕ} {w₀ : ℕ} {d₀ : Converter} {l₀ : Loop} {out : List ℕ} {w : ℕ}
     {d : Converter} {l : Loop} {i j : ℕ} (k : Looping rules index rows text row out₀ w₀ d₀ l₀ out w d l i j) where
-  short-below : {g : Forest} → SpellsAll g (drop i rows) (drop j text) → length (texts_of g) < cap
-  short-below sp = texts-short rows text i j sp k.room.short
-
-  pub loop-steady : SteadyGiven rows i
-  loop-steady = let s = left-spelt k in steady-given rows text i j s.spells k.stands.high k.room.few k.room.short
-
-  module _ {run : Span} (s : (g : Forest) → drop i rows ≡ rows_ofs g → length (texts_of g) < cap → SteadyRun l g run) where
+  module _ {run : Span} (s : (g : Forest) → SpellsAll g (tail_at rows i) (tail_at text j) → SteadyRun l g run) where
     -- the children that go at once, where g is left
     these : {g : Forest} → SpellsAll g (drop i rows) (drop j text) → SteadyRun l g run
-    these {g} sp = s g sp.rows_are (short-below sp)
+    these {g} sp = s g (rest-exact rows text i j sp)
 
     pub steady-end : i + run.rows ≤ length rows
     steady-end = let z = left-spelt k in run_end rows text i j z.spells (these z.spells) k.stands.high
@@ -573,32 +661,8 @@ module _ {rules index rows text : List ℕ} {row : ℕ} {out₀ : List ℕ} {w�
     pub steady-stop : j + run.text ≤ length text
     steady-stop = let z = left-spelt k in run-stop rows text i j z.spells (these z.spells) k.stands.begun
 
-    pub steady-long : length (part rows i run.rows) ≡ run.rows
-    steady-long =
-        let y = (left-spelt k).spells in
-        let q = these y in
-        omega (arith, ap length (run-first rows text i j y q).rows_are, length-rowss q.first, q.rows_are)
-
     pub steady-siblings : Siblings (part rows i run.rows) (part text j run.text)
     steady-siblings = let y = (left-spelt k).spells in record { forest = (these y).first; spells = run-first rows text i j y (these y) }
-
-    pub steady-room : Room 0 (part rows i run.rows) (part text j run.text) out w (row + i / 8) d
-    steady-room =
-        let y = (left-spelt k).spells in
-        let q = these y in
-        let r = k.room in
-        let ind : d.indent ≡ d₀.indent = ap (λ (p : Place). p.indent) k.stands.placed_so in
-        let long = steady-long in
-        let end = steady-end in
-        record {
-          few = omega (arith, r.few);
-          short = omega (arith, ap length (run-first rows text i j y q).text_is, q.text_is, steady-stop, r.short);
-          room = loop-room k;
-          place = k.stands.place;
-          low = omega (arith, r.low);
-          deep = omega (arith, r.deep);
-          label = k.stands.short;
-        }
 
     module _ {a : Walked} {out' : List ℕ}
         (m : Walks rules index (part rows i run.rows) (part text j run.text) (row + i / 8) d w out a out' children) where
@@ -607,7 +671,7 @@ module _ {rules index rows text : List ℕ} {row : ℕ} {out₀ : List ℕ} {w�
         from = k.left rs ready f sp level fit
 
         abbrev those : SteadyRun l from.forest run
-        those = s from.forest from.spells.rows_are (short-below from.spells)
+        those = these from.spells
 
         abbrev means : Tree → Carry → Outcome
         means = convert level (context_of rs d₀)
@@ -662,7 +726,7 @@ module _ {rules index rows text : List ℕ} {row : ℕ} {out₀ : List ℕ} {w�
 
       -- they are done, and there is more to do
       pub children-next :
-          a.refusal ≡ 0 → length out' ≡ length out
+          a.refusal ≡ 0 → length out' ≤ cap
           → Looping rules index rows text row out₀ w₀ d₀ l₀ out' a.at a.converter l (i + run.rows) (j + run.text)
       children-next z same =
           let y = steady-siblings in
@@ -675,7 +739,7 @@ module _ {rules index rows text : List ℕ} {row : ℕ} {out₀ : List ℕ} {w�
               high = steady-end;
               begun = steady-stop;
               place = g.place;
-              same = same ∙ k.stands.same;
+              room = same;
               short = g.short;
               placed_so = g.placed_so ∙ k.stands.placed_so;
             };
@@ -708,7 +772,7 @@ below_row rows i e = take (i + e - (i + 8)) (drop (i + 8) rows)
 module _ {rules index rows text : List ℕ} {row : ℕ} {out₀ : List ℕ} {w₀ : ℕ} {d₀ : Converter} {out : List ℕ} {w : ℕ} {d : Converter} {i j : ℕ}
     (k : Looping rules index rows text row out₀ w₀ d₀ Plain out w d Plain i j) (h : i < length rows) (is-node : get_or rows (i + 1) 0 ≡ 1 → ⊥)
     (e n : ℕ) (is_e : e ≡ extent_of (drop i rows)) (is_n : n ≡ token_sum (take (extent_of (drop i rows)) (drop i rows))) where
-  abbrev here-child : Child rows text out d i j e n w row
+  abbrev here-child : Child rows text d i j e n
   here-child = child k h e n is_e is_n
 
   part_bytes : (q : ℕ) → q < 8 → get_or (part rows i e) q 0 ≡ get_or rows (i + q) 0
@@ -743,20 +807,12 @@ module _ {rules index rows text : List ℕ} {row : ℕ} {out₀ : List ℕ} {w�
       let some = here-child.some in
       omega (arith, ap length under-is, length-drop 8 (part rows i e), here-child.long)
 
-  pub arm-room : Room 8 (below_row rows i e) (part text j n) out w (row + 1 + i / 8) (with_flag false d)
+  pub arm-room : Room 8 (below_row rows i e) (with_flag false d)
   arm-room =
       let r = here-child.room in
       let long = under-long in
       let whole = here-child.long in
-      record {
-        few = omega (arith, r.few);
-        short = r.short;
-        room = r.room;
-        place = r.place;
-        low = omega (arith, r.low);
-        deep = omega (arith, r.deep);
-        label = r.label;
-      }
+      record { deep = omega (arith, r.deep); label = r.label }
 
   -- what the arm promises of the children is the element's turn
   pub arm-turns :

@@ -1,5 +1,5 @@
 -- What the functions of the walk ask, and what they promise: that their answers agree with the meaning of what they were given.
-use Rattle.std.specs.Prelude.{ℕ, ◌+◌, ◌≤◌, ◌<◌, ◌≡◌, List, length}
+use Rattle.std.specs.Prelude.{ℕ, ◌+◌, ◌-◌, ◌≤◌, ◌≡◌, List, length, take, drop}
 use Rattle.text.specs.Writing.{cap}
 use Rattle.mitex_spec.specs.Rules.{Rule, get_cmd}
 use Rattle.mitex_spec.specs.Index.{Ready}
@@ -11,25 +11,19 @@ use Rattle.mitex_meaning.specs.Contract.{place_of, Agrees}
 use Rattle.mitex_meaning.specs.Children.{turn, each}
 use Rattle.mitex_meaning.specs.Colors.{Model, with_model, color_alias}
 use Rattle.mitex_meaning.specs.Conversion.{convert}
-use Rattle.mitex_meaning.specs.Parts.{ModelFound}
 use Rattle.mitex_loops.specs.Given.{number_of}
-use Rattle.mitex_meaning.specs.declared.ModelPart.{ModelPart}
+use Rattle.mitex_colors.specs.Models.{ModelFound}
+use Rattle.mitex_colors.specs.declared.ColorModel.{ColorModel}
 use Rattle.mitex_meaning.specs.declared.Loop.{Loop}
 use Rattle.mitex_meaning.specs.declared.Act.{Act}
 use Rattle.mitex_meaning.specs.declared.Converter.{Converter}
-use Rattle.mitex_meaning.specs.declared.Walked.{Walked}
+use Rattle.mitex_meaning.specs.Contract.{Walked}
 
 -- ---- what is asked
 
--- plain bounds: lengths, the place, the row, the indent, the held label. The row is the one right before these elements: the node's own
--- where they are all its children. `slack` is 8 where the indent was not yet moved for that node: a list is two further in and its
--- children have a row less, so the indent and the rows together stay bounded.
-pub record Room (slack : ℕ) (rows text out : List ℕ) (at row : ℕ) (c : Converter) : Type 0 where
-  pub few : length rows < cap
-  pub short : length text < cap
-  pub room : length out ≤ cap
-  pub place : at ≤ cap
-  pub low : row + 8 + length rows ≤ cap
+-- plain bounds: the indent and the held label. `slack` is 8 where the indent was not yet moved for the node of these elements: a list is
+-- two further in and its children have a row less, so the indent and the rows together stay bounded.
+pub record Room (slack : ℕ) (rows : List ℕ) (c : Converter) : Type 0 where
   pub deep : c.indent + slack + length rows ≤ cap
   pub label : c.label_len ≤ label_most
 
@@ -38,8 +32,12 @@ pub record Siblings (rows text : List ℕ) : Type 0 where
   pub forest : Forest
   pub spells : SpellsAll forest rows text
 
+-- what stands behind so many bytes
+abbrev pub tail_at : List ℕ → ℕ → List ℕ
+tail_at l n = take (length l - n) (drop n l)
+
 -- a colour's model was found in the children, and the loop over its body counts from 0
-pub record ColorGiven (rows text : List ℕ) (p : ModelPart) (l : Loop) : Type 0 where
+pub record ColorGiven (rows text : List ℕ) (p : ColorModel) (l : Loop) : Type 0 where
   pub model : Model
   pub forest : Forest
   pub spells : SpellsAll forest rows text
@@ -72,7 +70,7 @@ module _ (rules index rows text : List ℕ) (row : ℕ) (c : Converter) (at : �
       → Agrees a (place_of c) row at out out' (shift 1 (turn (convert d (context_of rs c)) act t (carry_of c)))
 
   -- of a colour command, by its model and the loop over its body
-  abbrev pub Colors : List ℕ → ModelPart → Loop → Type 0
+  abbrev pub Colors : List ℕ → ColorModel → Loop → Type 0
   Colors name p l =
       (rs : List Rule) → Ready rules index rs → (m : Model) (f : Forest) → SpellsAll f rows text → ModelFound m f rows text p → (d : ℕ)
       → sizes f ≤ d

@@ -1,375 +1,232 @@
-// The walk: `convert` and its helpers, which call each other as in the Rust. The rows of elements and their text come down as parts of
-// the tree file, with the row right before them: the node's own, where they are all its children. What goes along is in four parameters: the label's bytes, which are lent, and
-// the flag (f), whether a label is held (h) and how many bytes it has (n). Where the elements stand (x) goes down and does not come back,
-// so that nothing is left to restore. The text is written to a lent buffer as far as it falls inside.
+// The walk: `convert` and its helpers, which call each other as in the Rust. Each is lent the converter and the output; elements come down
+// as parts of the tree file. The mode and the environment are entered before what stands in them and left behind it.
 #![tactic(auto)]
 
 ghost use Rattle.std.specs.Prelude.{◌≡◌, ◌+◌};
-ghost use Rattle.mitex_spec.specs.Index.{SomeRules};
 ghost use Rattle.mitex_syntax.specs.Spells.{SomeTree};
-ghost use Rattle.mitex_meaning.specs.Contract.{state_in, walked_in};
+ghost use Rattle.mitex_meaning.specs.Contract.{walked_by};
 ghost use Rattle.mitex_meaning.specs.Groups.{children, formula, curly_group, clause_lr};
 ghost use Rattle.mitex_meaning.specs.Commands.{command, arguments_by, normal_command};
 ghost use Rattle.mitex_meaning.specs.Environments.{environment, env_body, math_env, figure_env, table_env};
 ghost use Rattle.mitex_meaning.specs.Conversion.{element_of, arm_by};
 ghost use Rattle.mitex_loops.specs.Given.{number_of};
-ghost use Rattle.mitex.specs.Walks.{Room, Siblings, ColorGiven, looping, ConvertsElement, Walks, Turns, Colors};
+ghost use Rattle.mitex.specs.Walks.{Room, ColorGiven, looping, ConvertsElement, Walks, Turns, Colors};
 
-use mitex_meaning::{
-    Act, Arguments, Command, Converter, Element, GreedyPart, LABEL_MOST, LaTeXEnv, LaTeXMode, Loop,
-    ModelPart, Place, Progress, Walked,
+mod elements;
+
+pub use elements::Elements;
+use mitex_colors::ColorModel;
+use mitex_meaning::{Act, Arguments, Command, Converter, Element, LaTeXEnv, LaTeXMode, Loop};
+use mitex_spec::Rules;
+use mitex_syntax::Spot;
+use refusals::{Reason, Refusal};
+use text::Output;
+
+// The second byte of a token's row.
+const TOKEN_MARK: u8 = 1;
+
+// Where no elements stand.
+const NOTHING: Spot = Spot {
+    row: 0,
+    end: 0,
+    from: 0,
+    to: 0,
 };
 
-// The answer of a walk over a block: the converter with what comes back, in the place where it was.
-fn walked(r: Progress, x: Place, label: [u8; LABEL_MOST]) -> Walked
-    ensures { result ≡ walked_in x label r }
-{
-    let mode = x.mode;
-    let env = x.env;
-    let converter = Converter {
-        mode,
-        env,
-        indent: x.indent,
-        label,
-        label_len: r.len,
-        label_held: r.held,
-        skip_next_space: r.flag,
-    };
-    Walked {
-        converter,
-        at: r.at,
-        refusal: r.refusal,
-        row: r.row,
-    }
-}
-
-// A block, one element, from the converter that the block before left. It stands one row after `row`.
+// A block, one element, from the converter that the block before left. It stands one row after `e.row`.
 pub fn convert_block<'a>(
-    out: &mut [u8],
-    at: usize,
-    rows: &[u8],
-    text: &'a [u8],
-    row: usize,
-    rules: &'a [u8],
-    index: &[u32],
-    c: Converter,
-) -> Walked
-    requires room { Room 0 rows.now text.now out.old at row c }
-    requires some_rules { SomeRules rules.now index.now }
-    requires some_tree { SomeTree rows.now text.now }
-    ensures { ConvertsElement rules.now index.now rows.now text.now (1 + row) c at out.old result
-        out.new }
+    c: &mut Converter,
+    out: &mut Output,
+    e: Elements<'a>,
+    rules: Rules<'a>,
+) -> Result<(), Refusal>
+    requires room { Room 0 e.rows.now c.old }
+    requires some_tree { SomeTree e.rows.now e.text.now }
+    ensures converts { ConvertsElement rules.entry.file.now rules.entry.index.now e.entry.rows.now e.entry.text.now (1 + e.entry.row)
+        c.old out.old.at out.old.buffer.now (walked_by c.new out.new.at result) out.new.buffer.now }
+    ensures lent { out.new.buffer.ghost_name ≡ out.old.buffer.ghost_name }
 {
-    let mut label = c.label;
-    let mode = c.mode;
-    let env = c.env;
-    let indent = c.indent;
-    let x = Place { mode, env, indent };
-    let f = c.skip_next_space;
-    let h = c.label_held;
-    let n = c.label_len;
-    let r = convert(
-        out, at, rows, text, row, rules, index, &mut label, x, f, h, n,
-    );
-    walked(r, x, label)
+    convert(c, out, e, rules)
 }
 
 // Elements side by side. Tokens go in runs; a node that only clears the flag is entered here: its children come next.
 #[cycle(walk)]
 fn convert<'a>(
-    out: &mut [u8],
-    at: usize,
-    rows: &[u8],
-    text: &'a [u8],
-    row: usize,
-    rules: &'a [u8],
-    index: &[u32],
-    label: &mut [u8; LABEL_MOST],
-    x: Place,
-    f: bool,
-    h: bool,
-    n: usize,
-) -> Progress
-    requires room { Room 0 rows.now text.now out.old at row (state_in x f h n label.old) }
-    requires some_rules { SomeRules rules.now index.now }
-    requires siblings { Siblings rows.now text.now }
-    ensures { Walks rules.now index.now rows.now text.now row
-        (state_in x f h n label.old) at out.old (walked_in x label.new result) out.new children }
+    c: &mut Converter,
+    out: &mut Output,
+    e: Elements<'a>,
+    rules: Rules<'a>,
+) -> Result<(), Refusal>
+    requires { Room 0 e.rows.now c.old }
+    ensures walks { Walks rules.entry.file.now rules.entry.index.now e.entry.rows.now e.entry.text.now e.entry.row
+        c.old out.old.at out.old.buffer.now (walked_by c.new out.new.at result) out.new.buffer.now children }
+    ensures lent { out.new.buffer.ghost_name ≡ out.old.buffer.ghost_name }
 {
-    let mode = x.mode;
-    let env = x.env;
-    let indent = x.indent;
-    let mut w = at;
-    let mut g = f;
-    let mut d = h;
-    let mut m = n;
-    let mut i = 0;
-    let mut j = 0;
-    while i < rows.len() {
-        if rows[i + 1] == 1 {
-            let b = &rows[i..];
-            let s = &text[j..];
-            let t = mitex_tokens::convert_tokens(out, w, b, s, rules, index, mode, env, indent, g);
-            i += t.rows;
-            j += t.text;
-            if t.refusal != 0 {
-                return mitex_meaning::halt(t.refusal, row + 1 + i / 8);
-            }
-            w = t.at;
-            g = t.flag;
+    let mut rest = e;
+    while !rest.rows.is_empty() {
+        if rest.rows[1] == TOKEN_MARK {
+            let run = mitex_tokens::convert_tokens(c, out, rest.rows, rest.text, rest.row, rules)?;
+            rest = rest.behind(run.rows, run.text);
             continue;
         }
-        let kind = rows[i];
-        if mitex_loops::is_flat(kind, mode) {
-            g = false;
-            i += 8;
+        let kind = rest.rows[0];
+        c.skip_next_space = false;
+        if mitex_loops::is_flat(kind, c.mode) {
+            rest = rest.behind(8, 0);
             continue;
         }
-        let span = mitex_syntax::span_at(rows, i);
-        let e = i + span.rows;
-        let u = j + span.text;
-        let b = &rows[i + 8..e];
-        let s = &text[j..u];
-        let its = row + 1 + i / 8;
-        let r = arm(out, w, b, s, its, rules, index, label, x, false, d, m, kind);
-        if r.refusal != 0 {
-            return r;
-        }
-        w = r.at;
-        g = r.flag;
-        d = r.held;
-        m = r.len;
-        i = e;
-        j = u;
+        let span = mitex_syntax::span_at(rest.rows, 0);
+        arm(c, out, rest.inside_first(span), rules, kind)?;
+        rest = rest.behind(span.rows, span.text);
     }
-    mitex_meaning::reach(w, g, d, m)
+    Ok(())
 }
 
 // A node, by its kind; the caller has cleared the flag.
 #[cycle(walk)]
 fn arm<'a>(
-    out: &mut [u8],
-    at: usize,
-    rows: &[u8],
-    text: &'a [u8],
-    row: usize,
-    rules: &'a [u8],
-    index: &[u32],
-    label: &mut [u8; LABEL_MOST],
-    x: Place,
-    f: bool,
-    h: bool,
-    n: usize,
+    c: &mut Converter,
+    out: &mut Output,
+    e: Elements<'a>,
+    rules: Rules<'a>,
     kind: u8,
-) -> Progress
-    requires room { Room 8 rows.now text.now out.old at row (state_in x f h n label.old) }
-    requires some_rules { SomeRules rules.now index.now }
-    requires siblings { Siblings rows.now text.now }
-    ensures { Walks rules.now index.now rows.now text.now row
-        (state_in x f h n label.old) at out.old (walked_in x label.new result) out.new (arm_by (element_of kind)) }
+) -> Result<(), Refusal>
+    requires { Room 8 e.rows.now c.old }
+    ensures walks { Walks rules.entry.file.now rules.entry.index.now e.entry.rows.now e.entry.text.now e.entry.row
+        c.old out.old.at out.old.buffer.now (walked_by c.new out.new.at result) out.new.buffer.now (arm_by (element_of kind)) }
+    ensures lent { out.new.buffer.ghost_name ≡ out.old.buffer.ghost_name }
 {
-    let mode = x.mode;
-    let element = mitex_commands::element_of(kind);
-    match element {
-        Element::Unexpected => mitex_meaning::halt(7, row),
-        Element::Children => convert(out, at, rows, text, row, rules, index, label, x, f, h, n),
-        Element::Formula => {
-            convert_formula(out, at, rows, text, row, rules, index, label, x, f, h, n)
-        }
-        Element::CurlyGroup => {
-            convert_curly_group(out, at, rows, text, row, rules, index, label, x, f, h, n)
-        }
-        Element::ClauseLr => {
-            convert_clause_lr(out, at, rows, text, row, rules, index, label, x, f, h, n)
-        }
+    match mitex_commands::element_of(kind) {
+        Element::Unexpected | Element::Token => Err(Refusal {
+            reason: Reason::Misplaced,
+            row: e.row,
+        }),
+        Element::Children => convert(c, out, e, rules),
+        Element::Formula => convert_formula(c, out, e, rules),
+        Element::CurlyGroup => convert_curly_group(c, out, e, rules),
+        Element::ClauseLr => convert_clause_lr(c, out, e, rules),
         Element::AttachComponent => {
-            let l = mitex_loops::attach_loop(mode);
-            each(out, at, rows, text, row, rules, index, label, x, f, h, n, l)
+            let how = mitex_loops::attach_loop(c.mode);
+            each(c, out, e, rules, how)
         }
-        Element::Silent => mitex_meaning::reach(at, f, h, n),
-        Element::Command => cmd(out, at, rows, text, row, rules, index, label, x, f, h, n),
-        Element::Environment => {
-            convert_env(out, at, rows, text, row, rules, index, label, x, f, h, n)
-        }
+        Element::Silent => Ok(()),
+        Element::Command => cmd(c, out, e, rules),
+        Element::Environment => convert_env(c, out, e, rules),
         Element::TypstCode => {
-            let p = text::put(out, at, text);
-            mitex_meaning::reach(p, f, h, n)
+            out.put(e.text);
+            Ok(())
         }
-        Element::Token => mitex_meaning::halt(7, row),
     }
 }
 
 // One child in a loop: what is written before it, the child itself if it is converted, and what is written after.
 #[cycle(walk)]
 fn turn<'a>(
-    out: &mut [u8],
-    at: usize,
-    rows: &[u8],
-    text: &'a [u8],
-    row: usize,
-    rules: &'a [u8],
-    index: &[u32],
-    label: &mut [u8; LABEL_MOST],
-    x: Place,
-    f: bool,
-    h: bool,
-    n: usize,
+    c: &mut Converter,
+    out: &mut Output,
+    e: Elements<'a>,
+    rules: Rules<'a>,
     act: Act,
-) -> Progress
-    requires room { Room 0 rows.now text.now out.old at row (state_in x f h n label.old) }
-    requires some_rules { SomeRules rules.now index.now }
-    requires some_tree { SomeTree rows.now text.now }
-    ensures { Turns rules.now index.now rows.now text.now row
-        (state_in x f h n label.old) at out.old (walked_in x label.new result) out.new act }
+) -> Result<(), Refusal>
+    requires room { Room 0 e.rows.now c.old }
+    requires some_tree { SomeTree e.rows.now e.text.now }
+    ensures walks { Turns rules.entry.file.now rules.entry.index.now e.entry.rows.now e.entry.text.now e.entry.row
+        c.old out.old.at out.old.buffer.now (walked_by c.new out.new.at result) out.new.buffer.now act }
+    ensures lent { out.new.buffer.ghost_name ≡ out.old.buffer.ghost_name }
 {
-    let p = mitex_loops::put_before(out, at, act, text);
+    mitex_loops::put_before(out, act, e.text);
     if !mitex_loops::converts(act) {
-        return mitex_meaning::reach(p, f, h, n);
+        return Ok(());
     }
-    let r = convert(out, p, rows, text, row, rules, index, label, x, f, h, n);
-    mitex_loops::close_act(out, r, act)
+    convert(c, out, e, rules)?;
+    mitex_loops::put_behind(out, act);
+    Ok(())
 }
 
 // Elements side by side, by a loop. Those that the loop converts with nothing around them, and that leave it as it is, go in one call.
 #[cycle(walk)]
 fn each<'a>(
-    out: &mut [u8],
-    at: usize,
-    rows: &[u8],
-    text: &'a [u8],
-    row: usize,
-    rules: &'a [u8],
-    index: &[u32],
-    label: &mut [u8; LABEL_MOST],
-    x: Place,
-    f: bool,
-    h: bool,
-    n: usize,
+    c: &mut Converter,
+    out: &mut Output,
+    e: Elements<'a>,
+    rules: Rules<'a>,
     how: Loop,
-) -> Progress
-    requires room { Room 0 rows.now text.now out.old at row (state_in x f h n label.old) }
-    requires some_rules { SomeRules rules.now index.now }
-    requires siblings { Siblings rows.now text.now }
+) -> Result<(), Refusal>
+    requires room { Room 0 e.rows.now c.old }
     requires how_value { number_of how ≡ 0 }
-    ensures { Walks rules.now index.now rows.now text.now row
-        (state_in x f h n label.old) at out.old (walked_in x label.new result) out.new (looping how) }
+    ensures walks { Walks rules.entry.file.now rules.entry.index.now e.entry.rows.now e.entry.text.now e.entry.row
+        c.old out.old.at out.old.buffer.now (walked_by c.new out.new.at result) out.new.buffer.now (looping how) }
+    ensures lent { out.new.buffer.ghost_name ≡ out.old.buffer.ghost_name }
 {
-    let mut w = at;
-    let mut g = f;
-    let mut d = h;
-    let mut m = n;
     let mut l = how;
-    let mut i = 0;
-    let mut j = 0;
-    while i < rows.len() {
-        let run = mitex_loops::steady_run(l, rows, i);
-        let own = row + i / 8;
+    let mut rest = e;
+    while !rest.rows.is_empty() {
+        let run = mitex_loops::steady_run(l, rest.children());
         if 0 < run.rows {
-            let e = i + run.rows;
-            let u = j + run.text;
-            let b = &rows[i..e];
-            let s = &text[j..u];
-            let r = convert(out, w, b, s, own, rules, index, label, x, g, d, m);
-            if r.refusal != 0 {
-                return r;
-            }
-            w = r.at;
-            g = r.flag;
-            d = r.held;
-            m = r.len;
-            i = e;
-            j = u;
+            convert(c, out, rest.front(run), rules)?;
+            rest = rest.behind(run.rows, run.text);
             continue;
         }
-        let span = mitex_syntax::span_at(rows, i);
-        let e = i + span.rows;
-        let u = j + span.text;
-        let b = &rows[i..e];
-        let s = &text[j..u];
-        let act = mitex_loops::act_of(l, b, s, &rows[e..]);
-        let r = turn(out, w, b, s, own, rules, index, label, x, g, d, m, act);
-        if r.refusal != 0 {
-            return r;
-        }
-        l = mitex_loops::next_loop(l, rows[i], act);
-        w = r.at;
-        g = r.flag;
-        d = r.held;
-        m = r.len;
-        i = e;
-        j = u;
+        let span = mitex_syntax::span_at(rest.rows, 0);
+        let child = rest.first_child(span);
+        let act = mitex_loops::act_of(l, child);
+        turn(c, out, rest.front(span), rules, act)?;
+        l = mitex_loops::next_loop(l, child.kind, act);
+        rest = rest.behind(span.rows, span.text);
     }
-    let p = mitex_loops::put_loop_end(out, w, l);
-    mitex_meaning::reach(p, g, d, m)
+    mitex_loops::put_loop_end(out, l);
+    Ok(())
 }
 
 // A formula like `$x$` or `$$x$$`.
 #[cycle(walk)]
 fn convert_formula<'a>(
-    out: &mut [u8],
-    at: usize,
-    rows: &[u8],
-    text: &'a [u8],
-    row: usize,
-    rules: &'a [u8],
-    index: &[u32],
-    label: &mut [u8; LABEL_MOST],
-    x: Place,
-    f: bool,
-    h: bool,
-    n: usize,
-) -> Progress
-    requires room { Room 8 rows.now text.now out.old at row (state_in x f h n label.old) }
-    requires some_rules { SomeRules rules.now index.now }
-    requires siblings { Siblings rows.now text.now }
-    ensures { Walks rules.now index.now rows.now text.now row
-        (state_in x f h n label.old) at out.old (walked_in x label.new result) out.new formula }
+    c: &mut Converter,
+    out: &mut Output,
+    e: Elements<'a>,
+    rules: Rules<'a>,
+) -> Result<(), Refusal>
+    requires { Room 8 e.rows.now c.old }
+    ensures walks { Walks rules.entry.file.now rules.entry.index.now e.entry.rows.now e.entry.text.now e.entry.row
+        c.old out.old.at out.old.buffer.now (walked_by c.new out.new.at result) out.new.buffer.now formula }
+    ensures lent { out.new.buffer.ghost_name ≡ out.old.buffer.ghost_name }
 {
-    if !mitex_syntax::is_valid(rows, text) {
-        return mitex_meaning::halt(8, row);
+    let children = e.children();
+    if !children.is_valid() {
+        let reason = Reason::UnlikeEnds;
+        return Err(Refusal { reason, row: e.row });
     }
-    let inline = mitex_syntax::is_inline(rows, text);
-    let mode = x.mode;
-    let p = mitex_loops::put_formula_begin(out, at, mode, inline);
-    let y = Place {
-        mode: LaTeXMode::Math,
-        ..x
-    };
-    let r = convert(out, p, rows, text, row, rules, index, label, y, f, h, n);
-    mitex_loops::close_formula(out, r, mode, inline)
+    let inline = children.is_inline();
+    mitex_loops::put_formula_begin(out, c.mode, inline);
+    let prev = c.enter_mode(LaTeXMode::Math);
+    convert(c, out, e, rules)?;
+    c.exit_mode(prev);
+    mitex_loops::put_formula_end(out, c.mode, inline);
+    Ok(())
 }
 
 // A curly group like `{abc}`; only in Math a blank one is marked.
 #[cycle(walk)]
 fn convert_curly_group<'a>(
-    out: &mut [u8],
-    at: usize,
-    rows: &[u8],
-    text: &'a [u8],
-    row: usize,
-    rules: &'a [u8],
-    index: &[u32],
-    label: &mut [u8; LABEL_MOST],
-    x: Place,
-    f: bool,
-    h: bool,
-    n: usize,
-) -> Progress
-    requires room { Room 8 rows.now text.now out.old at row (state_in x f h n label.old) }
-    requires some_rules { SomeRules rules.now index.now }
-    requires siblings { Siblings rows.now text.now }
-    ensures { Walks rules.now index.now rows.now text.now row
-        (state_in x f h n label.old) at out.old (walked_in x label.new result) out.new curly_group }
+    c: &mut Converter,
+    out: &mut Output,
+    e: Elements<'a>,
+    rules: Rules<'a>,
+) -> Result<(), Refusal>
+    requires { Room 8 e.rows.now c.old }
+    ensures walks { Walks rules.entry.file.now rules.entry.index.now e.entry.rows.now e.entry.text.now e.entry.row
+        c.old out.old.at out.old.buffer.now (walked_by c.new out.new.at result) out.new.buffer.now curly_group }
+    ensures lent { out.new.buffer.ghost_name ≡ out.old.buffer.ghost_name }
 {
-    let mode = x.mode;
-    match mode {
-        LaTeXMode::Text => convert(out, at, rows, text, row, rules, index, label, x, f, h, n),
+    match c.mode {
+        LaTeXMode::Text => convert(c, out, e, rules),
         LaTeXMode::Math => {
-            let around = x.env;
-            let env = mitex_loops::group_env(around);
-            let y = Place { env, ..x };
-            let r = convert(out, at, rows, text, row, rules, index, label, y, f, h, n);
-            mitex_loops::close_curly(out, r, mitex_loops::is_blank_group(rows))
+            let group = mitex_loops::group_env(c.env);
+            let prev = c.enter_env(group);
+            convert(c, out, e, rules)?;
+            c.exit_env(prev);
+            mitex_loops::put_curly_end(out, mitex_loops::is_blank_group(e.children()));
+            Ok(())
         }
     }
 }
@@ -377,259 +234,172 @@ fn convert_curly_group<'a>(
 // `\left` and `\right`: the first child is the name.
 #[cycle(walk)]
 fn convert_clause_lr<'a>(
-    out: &mut [u8],
-    at: usize,
-    rows: &[u8],
-    text: &'a [u8],
-    row: usize,
-    rules: &'a [u8],
-    index: &[u32],
-    label: &mut [u8; LABEL_MOST],
-    x: Place,
-    f: bool,
-    h: bool,
-    n: usize,
-) -> Progress
-    requires room { Room 8 rows.now text.now out.old at row (state_in x f h n label.old) }
-    requires some_rules { SomeRules rules.now index.now }
-    requires siblings { Siblings rows.now text.now }
-    ensures { Walks rules.now index.now rows.now text.now row
-        (state_in x f h n label.old) at out.old (walked_in x label.new result) out.new clause_lr }
+    c: &mut Converter,
+    out: &mut Output,
+    e: Elements<'a>,
+    rules: Rules<'a>,
+) -> Result<(), Refusal>
+    requires { Room 8 e.rows.now c.old }
+    ensures walks { Walks rules.entry.file.now rules.entry.index.now e.entry.rows.now e.entry.text.now e.entry.row
+        c.old out.old.at out.old.buffer.now (walked_by c.new out.new.at result) out.new.buffer.now clause_lr }
+    ensures lent { out.new.buffer.ghost_name ≡ out.old.buffer.ghost_name }
 {
-    let first = mitex_loops::first_span(rows, text);
-    let i = first.rows;
-    let j = first.text;
-    let name = mitex_loops::lr_name(rows, text);
-    let p = mitex_loops::put_lr_begin(out, at, name);
-    let b = &rows[i..];
-    let s = &text[j..];
-    let own = row + i / 8;
-    let l = Loop::Spaced;
-    let r = each(out, p, b, s, own, rules, index, label, x, f, h, n, l);
-    mitex_loops::close_lr(out, r, name)
+    let children = e.children();
+    let first = mitex_loops::first_span(children);
+    let name = mitex_loops::lr_name(children);
+    mitex_loops::put_lr_begin(out, name);
+    each(
+        c,
+        out,
+        e.behind(first.rows, first.text),
+        rules,
+        Loop::Spaced,
+    )?;
+    mitex_loops::put_lr_end(out, name);
+    Ok(())
 }
 
 // A command, by its name.
 #[cycle(walk)]
 fn cmd<'a>(
-    out: &mut [u8],
-    at: usize,
-    rows: &[u8],
-    text: &'a [u8],
-    row: usize,
-    rules: &'a [u8],
-    index: &[u32],
-    label: &mut [u8; LABEL_MOST],
-    x: Place,
-    f: bool,
-    h: bool,
-    n: usize,
-) -> Progress
-    requires room { Room 8 rows.now text.now out.old at row (state_in x f h n label.old) }
-    requires some_rules { SomeRules rules.now index.now }
-    requires siblings { Siblings rows.now text.now }
-    ensures { Walks rules.now index.now rows.now text.now row
-        (state_in x f h n label.old) at out.old (walked_in x label.new result) out.new command }
+    c: &mut Converter,
+    out: &mut Output,
+    e: Elements<'a>,
+    rules: Rules<'a>,
+) -> Result<(), Refusal>
+    requires { Room 8 e.rows.now c.old }
+    ensures walks { Walks rules.entry.file.now rules.entry.index.now e.entry.rows.now e.entry.text.now e.entry.row
+        c.old out.old.at out.old.buffer.now (walked_by c.new out.new.at result) out.new.buffer.now command }
+    ensures lent { out.new.buffer.ghost_name ≡ out.old.buffer.ghost_name }
 {
-    let name = mitex_loops::past_first(mitex_syntax::name_tok(rows, text));
-    let mode = x.mode;
-    let env = x.env;
-    let indent = x.indent;
-    let command = mitex_commands::command_of(name);
-    match command {
-        Command::Item => {
-            mitex_commands::convert_command_item(out, at, row, mode, env, indent, f, h, n)
-        }
-        Command::Label => mitex_commands::convert_command_label(
-            out, at, rows, text, row, label, mode, env, indent, f, h, n,
-        ),
+    let children = e.children();
+    let name = mitex_loops::past_first(children.name_tok());
+    match mitex_commands::command_of(name) {
+        Command::Item => mitex_commands::convert_command_item(c, out, e.row),
+        Command::Label => mitex_commands::convert_command_label(c, out, children, e.row),
         Command::IncludeGraphics => {
-            let p = mitex_images::convert_command_includegraphics(out, at, rows, text);
-            mitex_meaning::reach(p, f, h, n)
+            mitex_images::convert_command_includegraphics(out, children);
+            Ok(())
         }
-        Command::Array => mitex_meaning::reach(at, f, h, n),
+        Command::Array => Ok(()),
         Command::Color => {
-            let m = mitex_colors::color_model(rows, text);
-            let l = mitex_loops::body_loop(mode);
-            convert_command_color(
-                out, at, rows, text, row, rules, index, label, x, f, h, n, name, m, l,
-            )
+            let how = mitex_loops::body_loop(c.mode);
+            let model = mitex_colors::color_model(children);
+            convert_command_color(c, out, e, rules, name, model, how)
         }
         Command::ColorArguments => {
-            let m = mitex_colors::argument_model(rows, text);
-            let l = mitex_loops::arguments_loop(mode);
-            convert_command_color(
-                out, at, rows, text, row, rules, index, label, x, f, h, n, name, m, l,
-            )
+            let how = mitex_loops::arguments_loop(c.mode);
+            let model = mitex_colors::argument_model(children);
+            convert_command_color(c, out, e, rules, name, model, how)
         }
-        Command::Normal => convert_normal_command(
-            out, at, rows, text, row, rules, index, label, x, f, h, n, name,
-        ),
+        Command::Normal => convert_normal_command(c, out, e, rules, name),
     }
 }
 
 // A colour command: its model, then the colour and the body; where there is neither, the colour is black.
 #[cycle(walk)]
 fn convert_command_color<'a>(
-    out: &mut [u8],
-    at: usize,
-    rows: &[u8],
-    text: &'a [u8],
-    row: usize,
-    rules: &'a [u8],
-    index: &[u32],
-    label: &mut [u8; LABEL_MOST],
-    x: Place,
-    f: bool,
-    h: bool,
-    n: usize,
+    c: &mut Converter,
+    out: &mut Output,
+    e: Elements<'a>,
+    rules: Rules<'a>,
     name: &'a [u8],
-    m: ModelPart,
+    model: ColorModel<'a>,
     how: Loop,
-) -> Progress
-    requires room { Room 8 rows.now text.now out.old at row (state_in x f h n label.old) }
-    requires some_rules { SomeRules rules.now index.now }
-    requires siblings { Siblings rows.now text.now }
-    requires color_given { ColorGiven rows.now text.now m how }
-    ensures { Colors rules.now index.now rows.now text.now row
-        (state_in x f h n label.old) at out.old (walked_in x label.new result) out.new name.now m how }
+) -> Result<(), Refusal>
+    requires room { Room 8 e.rows.now c.old }
+    requires color_given { ColorGiven e.rows.now e.text.now model how }
+    ensures walks { Colors rules.entry.file.now rules.entry.index.now e.entry.rows.now e.entry.text.now e.entry.row
+        c.old out.old.at out.old.buffer.now (walked_by c.new out.new.at result) out.new.buffer.now name.now model.entry how }
+    ensures lent { out.new.buffer.ghost_name ≡ out.old.buffer.ghost_name }
 {
-    let mode = x.mode;
-    let found = mitex_spec::get_cmd(rules, index, name);
-    let p = mitex_colors::put_color_head(out, at, rules, found, text, m);
-    let rest = m.rest;
-    let i = rest.i;
-    let e = rest.e;
-    let j = rest.j;
-    let u = rest.u;
-    if i == e {
-        let q = mitex_colors::put_black(out, p);
-        return mitex_colors::close_body(out, mitex_meaning::reach(q, f, h, n), mode);
+    mitex_colors::put_color_head(out, rules.get_cmd(name), model);
+    let rest = e.part(model.rest);
+    if rest.rows.is_empty() {
+        mitex_colors::put_black(out);
+        mitex_colors::put_body_end(out, c.mode);
+        return Ok(());
     }
-    let span = mitex_syntax::span_at(&rows[i..e], 0);
-    let k = i + span.rows;
-    let v = j + span.text;
-    let b = &rows[i..k];
-    let s = &text[j..v];
-    let own = row + i / 8;
-    let y = Place {
-        mode: LaTeXMode::Text,
-        ..x
-    };
-    let c = convert(out, p, b, s, own, rules, index, label, y, f, h, n);
-    let a = mitex_colors::close_color(out, c);
-    if a.refusal != 0 {
-        return a;
-    }
-    let w = a.at;
-    let g = a.flag;
-    let d = a.held;
-    let z = a.len;
-    let b = &rows[k..e];
-    let s = &text[v..u];
-    let own = row + k / 8;
-    let r = each(out, w, b, s, own, rules, index, label, x, g, d, z, how);
-    mitex_colors::close_body(out, r, mode)
+    let span = mitex_syntax::span_at(rest.rows, 0);
+    let prev = c.enter_mode(LaTeXMode::Text);
+    convert(c, out, rest.front(span), rules)?;
+    c.exit_mode(prev);
+    mitex_colors::put_color_end(out);
+    each(c, out, rest.behind(span.rows, span.text), rules, how)?;
+    mitex_colors::put_body_end(out, c.mode);
+    Ok(())
 }
 
-// A command by its rule.
+// A command by its rule; the arguments of `\substack` stand in an environment of their own, which is not further in.
 #[cycle(walk)]
 fn convert_normal_command<'a>(
-    out: &mut [u8],
-    at: usize,
-    rows: &[u8],
-    text: &'a [u8],
-    row: usize,
-    rules: &'a [u8],
-    index: &[u32],
-    label: &mut [u8; LABEL_MOST],
-    x: Place,
-    f: bool,
-    h: bool,
-    n: usize,
+    c: &mut Converter,
+    out: &mut Output,
+    e: Elements<'a>,
+    rules: Rules<'a>,
     name: &'a [u8],
-) -> Progress
-    requires room { Room 8 rows.now text.now out.old at row (state_in x f h n label.old) }
-    requires some_rules { SomeRules rules.now index.now }
-    requires siblings { Siblings rows.now text.now }
-    ensures { Walks rules.now index.now rows.now text.now row
-        (state_in x f h n label.old) at out.old (walked_in x label.new result) out.new (normal_command name.now) }
+) -> Result<(), Refusal>
+    requires { Room 8 e.rows.now c.old }
+    ensures walks { Walks rules.entry.file.now rules.entry.index.now e.entry.rows.now e.entry.text.now e.entry.row
+        c.old out.old.at out.old.buffer.now (walked_by c.new out.new.at result) out.new.buffer.now (normal_command name.now) }
+    ensures lent { out.new.buffer.ghost_name ≡ out.old.buffer.ghost_name }
 {
-    let found = mitex_spec::get_cmd(rules, index, name);
-    if mitex_commands::is_absent(found) {
-        return mitex_meaning::halt(9, row);
-    }
-    let mode = x.mode;
-    let around = x.env;
-    let written = mitex_spec::written_name(rules, name, found);
-    let a = mitex_commands::arguments_of(mitex_commands::class_of(found), mode, name, written);
-    let env = mitex_commands::stack_env(around, mitex_commands::is_stack(mode, name, written));
-    let y = Place { env, ..x };
-    let p = mitex_commands::put_typst_name(out, at, mode, name, written);
-    args(out, p, rows, text, row, rules, index, label, y, f, h, n, a)
+    let Some(found) = rules.get_cmd(name) else {
+        let reason = Reason::NoCommand;
+        return Err(Refusal { reason, row: e.row });
+    };
+    let written = mitex_spec::written_name(name, found);
+    let how = mitex_commands::arguments_of(found.class, c.mode, name, written);
+    let stack = mitex_commands::is_stack(c.mode, name, written);
+    mitex_commands::put_typst_name(out, c.mode, name, written);
+    let prev = c.env;
+    c.env = mitex_commands::stack_env(prev, stack);
+    args(c, out, e, rules, how)?;
+    c.env = prev;
+    Ok(())
 }
 
 // The arguments of a command, after its name.
 #[cycle(walk)]
 fn args<'a>(
-    out: &mut [u8],
-    at: usize,
-    rows: &[u8],
-    text: &'a [u8],
-    row: usize,
-    rules: &'a [u8],
-    index: &[u32],
-    label: &mut [u8; LABEL_MOST],
-    x: Place,
-    f: bool,
-    h: bool,
-    n: usize,
+    c: &mut Converter,
+    out: &mut Output,
+    e: Elements<'a>,
+    rules: Rules<'a>,
     how: Arguments,
-) -> Progress
-    requires room { Room 8 rows.now text.now out.old at row (state_in x f h n label.old) }
-    requires some_rules { SomeRules rules.now index.now }
-    requires siblings { Siblings rows.now text.now }
-    ensures { Walks rules.now index.now rows.now text.now row
-        (state_in x f h n label.old) at out.old (walked_in x label.new result) out.new (arguments_by how) }
+) -> Result<(), Refusal>
+    requires { Room 8 e.rows.now c.old }
+    ensures walks { Walks rules.entry.file.now rules.entry.index.now e.entry.rows.now e.entry.text.now e.entry.row
+        c.old out.old.at out.old.buffer.now (walked_by c.new out.new.at result) out.new.buffer.now (arguments_by how) }
+    ensures lent { out.new.buffer.ghost_name ≡ out.old.buffer.ghost_name }
 {
     match how {
         Arguments::NoArguments => {
-            let p = text::put(out, at, b" ");
-            mitex_meaning::reach(p, f, h, n)
+            out.put(b" ");
+            Ok(())
         }
         Arguments::GreedyArgument => {
-            let found = mitex_colors::greedy_node(rows, text);
-            match found {
-                GreedyPart::NoGreedy => mitex_meaning::halt(12, row),
-                GreedyPart::GreedyAt(part) => {
-                    let i = part.i;
-                    let e = part.e;
-                    let j = part.j;
-                    let u = part.u;
-                    let p = text::put(out, at, b"(");
-                    let b = &rows[i..e];
-                    let s = &text[j..u];
-                    let own = row + i / 8;
-                    let l = Loop::Greedy;
-                    let r = each(out, p, b, s, own, rules, index, label, x, f, h, n, l);
-                    mitex_meaning::close(out, r, b")")
-                }
-            }
+            let Some(node) = mitex_colors::greedy_node(e.children()) else {
+                let reason = Reason::NoArgument;
+                return Err(Refusal { reason, row: e.row });
+            };
+            out.put(b"(");
+            each(c, out, e.inside(node), rules, Loop::Greedy)?;
+            out.put(b")");
+            Ok(())
         }
         Arguments::MathArguments => {
-            let p = text::put(out, at, b"(");
-            let l = Loop::Separated;
-            let r = each(out, p, rows, text, row, rules, index, label, x, f, h, n, l);
-            mitex_meaning::close(out, r, b")")
+            out.put(b"(");
+            each(c, out, e, rules, Loop::Separated)?;
+            out.put(b")");
+            Ok(())
         }
         Arguments::TextArguments => {
-            let y = Place {
-                mode: LaTeXMode::Text,
-                ..x
-            };
-            let l = Loop::Bracketed;
-            let r = each(out, at, rows, text, row, rules, index, label, y, f, h, n, l);
-            mitex_meaning::close(out, r, b";")
+            let prev = c.enter_mode(LaTeXMode::Text);
+            each(c, out, e, rules, Loop::Bracketed)?;
+            c.exit_mode(prev);
+            out.put(b";");
+            Ok(())
         }
     }
 }
@@ -637,234 +407,152 @@ fn args<'a>(
 // An environment, by its rule; where it ends in Text, any but a list takes the held label.
 #[cycle(walk)]
 fn convert_env<'a>(
-    out: &mut [u8],
-    at: usize,
-    rows: &[u8],
-    text: &'a [u8],
-    row: usize,
-    rules: &'a [u8],
-    index: &[u32],
-    label: &mut [u8; LABEL_MOST],
-    x: Place,
-    f: bool,
-    h: bool,
-    n: usize,
-) -> Progress
-    requires room { Room 8 rows.now text.now out.old at row (state_in x f h n label.old) }
-    requires some_rules { SomeRules rules.now index.now }
-    requires siblings { Siblings rows.now text.now }
-    ensures { Walks rules.now index.now rows.now text.now row
-        (state_in x f h n label.old) at out.old (walked_in x label.new result) out.new environment }
+    c: &mut Converter,
+    out: &mut Output,
+    e: Elements<'a>,
+    rules: Rules<'a>,
+) -> Result<(), Refusal>
+    requires { Room 8 e.rows.now c.old }
+    ensures walks { Walks rules.entry.file.now rules.entry.index.now e.entry.rows.now e.entry.text.now e.entry.row
+        c.old out.old.at out.old.buffer.now (walked_by c.new out.new.at result) out.new.buffer.now environment }
+    ensures lent { out.new.buffer.ghost_name ≡ out.old.buffer.ghost_name }
 {
-    let name = utf8::trim(mitex_syntax::env_name(rows, text));
-    let found = mitex_spec::get_env(rules, index, name);
-    if mitex_commands::is_absent(found) {
-        return mitex_meaning::halt(10, row);
-    }
-    let env = mitex_environments::env_of(mitex_commands::class_of(found));
-    let name = mitex_spec::written_name(rules, name, found);
-    let r = body(
-        out, at, rows, text, row, rules, index, label, x, f, h, n, name, env,
-    );
-    let mode = x.mode;
-    mitex_environments::take_label(out, r, label, mitex_environments::is_list(env), mode)
+    let name = utf8::trim(e.children().env_name());
+    let Some(found) = rules.get_env(name) else {
+        let reason = Reason::NoEnvironment;
+        return Err(Refusal { reason, row: e.row });
+    };
+    let env = mitex_environments::env_of(found.class);
+    body(c, out, e, rules, mitex_spec::written_name(name, found), env)?;
+    mitex_environments::take_label(c, out, mitex_environments::is_list(env));
+    Ok(())
 }
 
 // What stands in an environment.
 #[cycle(walk)]
 fn body<'a>(
-    out: &mut [u8],
-    at: usize,
-    rows: &[u8],
-    text: &'a [u8],
-    row: usize,
-    rules: &'a [u8],
-    index: &[u32],
-    label: &mut [u8; LABEL_MOST],
-    x: Place,
-    f: bool,
-    h: bool,
-    n: usize,
+    c: &mut Converter,
+    out: &mut Output,
+    e: Elements<'a>,
+    rules: Rules<'a>,
     name: &'a [u8],
     env: LaTeXEnv,
-) -> Progress
-    requires room { Room 8 rows.now text.now out.old at row (state_in x f h n label.old) }
-    requires some_rules { SomeRules rules.now index.now }
-    requires siblings { Siblings rows.now text.now }
-    ensures { Walks rules.now index.now rows.now text.now row
-        (state_in x f h n label.old) at out.old (walked_in x label.new result) out.new (env_body env name.now) }
+) -> Result<(), Refusal>
+    requires { Room 8 e.rows.now c.old }
+    ensures walks { Walks rules.entry.file.now rules.entry.index.now e.entry.rows.now e.entry.text.now e.entry.row
+        c.old out.old.at out.old.buffer.now (walked_by c.new out.new.at result) out.new.buffer.now (env_body env name.now) }
+    ensures lent { out.new.buffer.ghost_name ≡ out.old.buffer.ghost_name }
 {
     match env {
         LaTeXEnv::None | LaTeXEnv::Itemize | LaTeXEnv::Enumerate => {
-            let p = mitex_environments::put_env_begin(out, at, env, name);
-            let step = mitex_meaning::step_of(env);
-            let indent = x.indent + step;
-            let y = Place { env, indent, ..x };
-            let l = Loop::Inside;
-            let r = each(out, p, rows, text, row, rules, index, label, y, f, h, n, l);
-            mitex_environments::close_env(out, r, env)
+            mitex_environments::put_env_begin(out, env, name);
+            let prev = c.enter_env(env);
+            each(c, out, e, rules, Loop::Inside)?;
+            c.exit_env(prev);
+            mitex_environments::put_env_end(out, env);
+            Ok(())
         }
-        LaTeXEnv::Figure => convert_env_figure(
-            out, at, rows, text, row, rules, index, label, x, f, h, n, name,
-        ),
-        LaTeXEnv::Table => convert_env_table(
-            out, at, rows, text, row, rules, index, label, x, f, h, n, name,
-        ),
+        LaTeXEnv::Figure => convert_env_figure(c, out, e, rules, name),
+        LaTeXEnv::Table => convert_env_table(c, out, e, rules, name),
         LaTeXEnv::Math
         | LaTeXEnv::Matrix
         | LaTeXEnv::Cases
         | LaTeXEnv::SubStack
-        | LaTeXEnv::MathCurlyGroup => math(
-            out, at, rows, text, row, rules, index, label, x, f, h, n, name, env,
-        ),
+        | LaTeXEnv::MathCurlyGroup => math(c, out, e, rules, name, env),
     }
 }
 
 // An environment for Math: a function like `mat(a, b; c, d)`, its arguments first.
 #[cycle(walk)]
 fn math<'a>(
-    out: &mut [u8],
-    at: usize,
-    rows: &[u8],
-    text: &'a [u8],
-    row: usize,
-    rules: &'a [u8],
-    index: &[u32],
-    label: &mut [u8; LABEL_MOST],
-    x: Place,
-    f: bool,
-    h: bool,
-    n: usize,
+    c: &mut Converter,
+    out: &mut Output,
+    e: Elements<'a>,
+    rules: Rules<'a>,
     name: &'a [u8],
     env: LaTeXEnv,
-) -> Progress
-    requires room { Room 8 rows.now text.now out.old at row (state_in x f h n label.old) }
-    requires some_rules { SomeRules rules.now index.now }
-    requires siblings { Siblings rows.now text.now }
-    ensures { Walks rules.now index.now rows.now text.now row
-        (state_in x f h n label.old) at out.old (walked_in x label.new result) out.new (math_env env name.now) }
+) -> Result<(), Refusal>
+    requires { Room 8 e.rows.now c.old }
+    ensures walks { Walks rules.entry.file.now rules.entry.index.now e.entry.rows.now e.entry.text.now e.entry.row
+        c.old out.old.at out.old.buffer.now (walked_by c.new out.new.at result) out.new.buffer.now (math_env env name.now) }
+    ensures lent { out.new.buffer.ghost_name ≡ out.old.buffer.ghost_name }
 {
-    let mode = x.mode;
-    let p = mitex_environments::put_math_begin(out, at, mode, name);
-    let part = mitex_environments::begin_part(rows, text);
-    let i = part.i;
-    let e = part.e;
-    let j = part.j;
-    let u = part.u;
-    let step = mitex_meaning::step_of(env);
-    let indent = x.indent + step;
-    let math = LaTeXMode::Math;
-    let y = Place {
-        mode: math,
-        env,
-        indent,
+    let begin = mitex_environments::begin_part(e.children());
+    let arguments = Elements {
+        rows: begin.children.rows,
+        text: begin.children.text,
+        row: e.row + begin.row / 8,
     };
-    let b = &rows[i..e];
-    let s = &text[j..u];
-    let own = row + i / 8;
-    let l = Loop::Named(0);
-    let a = each(out, p, b, s, own, rules, index, label, y, f, h, n, l);
-    if a.refusal != 0 {
-        return a;
-    }
-    let w = a.at;
-    let g = a.flag;
-    let d = a.held;
-    let m = a.len;
-    let l = Loop::Inside;
-    let r = each(out, w, rows, text, row, rules, index, label, y, g, d, m, l);
-    mitex_environments::close_math(out, r, mode)
+    mitex_environments::put_math_begin(out, c.mode, name);
+    let prev_mode = c.enter_mode(LaTeXMode::Math);
+    let prev = c.enter_env(env);
+    each(c, out, arguments, rules, Loop::Named(0))?;
+    each(c, out, e, rules, Loop::Inside)?;
+    c.exit_env(prev);
+    c.exit_mode(prev_mode);
+    mitex_environments::put_math_end(out, c.mode);
+    Ok(())
 }
 
 // A figure: its last caption, then the children.
 #[cycle(walk)]
 fn convert_env_figure<'a>(
-    out: &mut [u8],
-    at: usize,
-    rows: &[u8],
-    text: &'a [u8],
-    row: usize,
-    rules: &'a [u8],
-    index: &[u32],
-    label: &mut [u8; LABEL_MOST],
-    x: Place,
-    f: bool,
-    h: bool,
-    n: usize,
+    c: &mut Converter,
+    out: &mut Output,
+    e: Elements<'a>,
+    rules: Rules<'a>,
     name: &'a [u8],
-) -> Progress
-    requires room { Room 8 rows.now text.now out.old at row (state_in x f h n label.old) }
-    requires some_rules { SomeRules rules.now index.now }
-    requires siblings { Siblings rows.now text.now }
-    ensures { Walks rules.now index.now rows.now text.now row
-        (state_in x f h n label.old) at out.old (walked_in x label.new result) out.new (figure_env name.now) }
+) -> Result<(), Refusal>
+    requires { Room 8 e.rows.now c.old }
+    ensures walks { Walks rules.entry.file.now rules.entry.index.now e.entry.rows.now e.entry.text.now e.entry.row
+        c.old out.old.at out.old.buffer.now (walked_by c.new out.new.at result) out.new.buffer.now (figure_env name.now) }
+    ensures lent { out.new.buffer.ghost_name ≡ out.old.buffer.ghost_name }
 {
-    let caption = mitex_environments::last_caption(rows, text);
-    if mitex_environments::is_bare(caption) {
-        return mitex_meaning::halt(12, row + 1 + mitex_environments::bare_row(caption));
-    }
-    let p = mitex_environments::put_figure_begin(out, at, name, caption);
-    let part = mitex_environments::caption_part(caption);
-    let i = part.i;
-    let e = part.e;
-    let j = part.j;
-    let u = part.u;
-    let y = Place {
-        env: LaTeXEnv::Figure,
-        ..x
+    let caption = match mitex_environments::last_caption(e.children()) {
+        Ok(caption) => caption,
+        Err(below) => {
+            let reason = Reason::NoArgument;
+            let row = e.row + 1 + below;
+            return Err(Refusal { reason, row });
+        }
     };
-    let b = &rows[i..e];
-    let s = &text[j..u];
-    let own = row + i / 8;
-    let a = convert(out, p, b, s, own, rules, index, label, y, f, h, n);
-    if a.refusal != 0 {
-        return a;
-    }
-    let w = mitex_environments::put_caption_end(out, a.at, caption);
-    let g = a.flag;
-    let d = a.held;
-    let m = a.len;
-    let l = Loop::Figure;
-    let r = each(out, w, rows, text, row, rules, index, label, y, g, d, m, l);
-    mitex_meaning::close(out, r, b"];")
+    mitex_environments::put_figure_begin(out, name, caption.is_some());
+    let prev = c.enter_env(LaTeXEnv::Figure);
+    convert(c, out, e.part(caption.unwrap_or(NOTHING)), rules)?;
+    mitex_environments::put_caption_end(out, caption.is_some());
+    each(c, out, e, rules, Loop::Figure)?;
+    c.exit_env(prev);
+    out.put(b"];");
+    Ok(())
 }
 
 // A table: the head by its column letters, then the cells.
 #[cycle(walk)]
 fn convert_env_table<'a>(
-    out: &mut [u8],
-    at: usize,
-    rows: &[u8],
-    text: &'a [u8],
-    row: usize,
-    rules: &'a [u8],
-    index: &[u32],
-    label: &mut [u8; LABEL_MOST],
-    x: Place,
-    f: bool,
-    h: bool,
-    n: usize,
+    c: &mut Converter,
+    out: &mut Output,
+    e: Elements<'a>,
+    rules: Rules<'a>,
     name: &'a [u8],
-) -> Progress
-    requires room { Room 8 rows.now text.now out.old at row (state_in x f h n label.old) }
-    requires some_rules { SomeRules rules.now index.now }
-    requires siblings { Siblings rows.now text.now }
-    ensures { Walks rules.now index.now rows.now text.now row
-        (state_in x f h n label.old) at out.old (walked_in x label.new result) out.new (table_env name.now) }
+) -> Result<(), Refusal>
+    requires { Room 8 e.rows.now c.old }
+    ensures walks { Walks rules.entry.file.now rules.entry.index.now e.entry.rows.now e.entry.text.now e.entry.row
+        c.old out.old.at out.old.buffer.now (walked_by c.new out.new.at result) out.new.buffer.now (table_env name.now) }
+    ensures lent { out.new.buffer.ghost_name ≡ out.old.buffer.ghost_name }
 {
-    let s = mitex_environments::table_argument(rows, text);
-    if !mitex_tables::has_ends(s) {
-        return mitex_meaning::halt(12, row);
+    let argument = mitex_environments::table_argument(e.children());
+    if !mitex_tables::has_ends(argument) {
+        let reason = Reason::NoArgument;
+        return Err(Refusal { reason, row: e.row });
     }
-    let letters = utf8::trim(mitex_syntax::inner(s));
+    let letters = mitex_syntax::trimmed_inner(argument);
     if !mitex_tables::letters_fit(letters) {
-        return mitex_meaning::halt(13, row);
+        let reason = Reason::BadColumn;
+        return Err(Refusal { reason, row: e.row });
     }
-    let p = mitex_environments::put_table_begin(out, at, name, letters);
-    let y = Place {
-        env: LaTeXEnv::Table,
-        ..x
-    };
-    let l = Loop::Table(true);
-    each(out, p, rows, text, row, rules, index, label, y, f, h, n, l)
+    mitex_environments::put_table_begin(out, name, letters);
+    let prev = c.enter_env(LaTeXEnv::Table);
+    each(c, out, e, rules, Loop::Table(true))?;
+    c.exit_env(prev);
+    Ok(())
 }

@@ -2,167 +2,197 @@
 -- `now` finds from there what it finds from its start (`Scans`).
 use mathlib.Core.Path.{◌≡◌, refl, sym, ap, subst, ◌∙◌}
 use mathlib.Core.Bool.{Bool, true, false, cond}
-use mathlib.Core.List.{List, [], ◌∷◌, ◌++◌, append_assoc, append-nil}
+use mathlib.Core.List.{List, [], ◌++◌, append_assoc, append-nil}
 use Prim.Native.Nat.{ℕ, zero, suc, ◌+◌, ◌*◌, ◌-◌, ◌≤◌, ◌<◌}
 use native.Mathlib.Omega.{arith}
-use lib.ListN.{length, take, drop, get_or, length-append, length-drop}
-use lib.Seq.{take_at, take-add, take-nil, take-take, drop_at, drop-drop}
+use borrow.Author.Tests.{eqb-true}
+use lib.Dec.{eqb}
+use lib.ListN.{length, take, drop, get_or, length-append, take-append-drop}
+use lib.Seq.{take_at, drop_at, length-take-le}
 use Rattle.text.specs.Writing.{cap}
+use Rattle.text.proofs.Writing.{part-rest}
 use Rattle.mitex_syntax.specs.Tree.{Tree, Forest, size, sizes, kind_of, rows_of, rows_ofs, text_of, texts_of}
 use Rattle.mitex_syntax.specs.Tree.Forest.{none, more}
 use Rattle.mitex_syntax.specs.Rows.{extent_of, token_sum, Spans}
 use Rattle.mitex_syntax.specs.Views.{offset_by, before_by, from_by}
 use Rattle.mitex_syntax.specs.Spells.{Sound, SpellsAll, Begins, SomeForest}
-use Rattle.mitex_syntax.specs.declared.Cursor.{Cursor}
 use Rattle.mitex_syntax.proofs.Trees.{ElementAt, element, spans, rows-e, text-n, left, no-left, length-rows, size-more, size-some}
-use Rattle.mitex_syntax.proofs.Seeking.{kind-here}
+use Rattle.mitex_syntax.proofs.Seeking.{kind-first}
+use Rattle.mitex_syntax.proofs.Places.{some-forest}
 use Rattle.mitex_meaning.specs.Colors.{Rest, rest, seek, past, past_first}
-use Rattle.mitex_meaning.specs.Parts.{between}
-use Rattle.mitex_colors.specs.Scanning.{stops_at, picks, ElementsLeft, CursorMoved, Sought, FirstPassed}
+use Rattle.mitex_colors.specs.Scanning.{stops_at, picks, Left, ScanMoved, Sought, FirstPassed}
 use Rattle.mitex_colors.specs.declared.Stop.{Stop}
 use Rattle.mitex_colors.specs.declared.Stop.TheVariants.{Solid, Kind}
 
--- ---- parts of a list
+-- what stands before the last of a list
+pub before-last : (a b : List ℕ) {l : List ℕ} → l ≡ a ++ b → take (length l - length b) l ≡ a
+before-last a b {l} e =
+    let n : length l - length b ≡ length a = omega (arith, ap length e, length-append a b) in
+    ap (λ (m : ℕ). take m l) n ∙ ap (take (length a)) e ∙ take_at a b (length a) refl
 
-pub between_none : (j : ℕ) (l : List ℕ) → between j j l ≡ []
-between_none j l = let e : j - j ≡ 0 = omega arith in ap (λ (n : ℕ). take n (drop j l)) e
+-- the test for no bytes
+pub is-none : {n : ℕ} → eqb n 0 ≡ true → n ≡ 0
+is-none {n} e = eqb-true n 0 e
 
-pub between-then : (a b c : ℕ) (l : List ℕ) → a ≤ b → b ≤ c → between a c l ≡ between a b l ++ between b c l
-between-then a b c l h k =
-    let e : c - a ≡ (b - a) + (c - b) = omega arith in
-    let d : a + (b - a) ≡ b = omega arith in
-    ap (λ (n : ℕ). take n (drop a l)) e ∙ take-add (b - a) (c - b) (drop a l)
-    ∙ ap (λ (m : List ℕ). between a b l ++ take (c - b) m) (drop-drop (b - a) a l ∙ ap (λ (n : ℕ). drop n l) d)
-
-pub drop-take : (a n : ℕ) (l : List ℕ) → drop a (take n l) ≡ take (n - a) (drop a l)
-drop-take zero n l = let e : n ≡ n - 0 = omega arith in ap (λ (m : ℕ). take m l) e
-drop-take (suc a) zero l = let e : 0 ≡ 0 - suc a = omega arith in ap (λ (m : ℕ). take m (drop (suc a) l)) e
-drop-take (suc a) (suc n) [] = sym (take-nil (suc n - suc a))
-drop-take (suc a) (suc n) (x ∷ l) = let e : n - a ≡ suc n - suc a = omega arith in drop-take a n l ∙ ap (λ (m : ℕ). take m (drop a l)) e
-
-pub between-take : (a b n : ℕ) (l : List ℕ) → b ≤ n → between a b (take n l) ≡ between a b l
-between-take a b n l h = ap (take (b - a)) (drop-take a n l) ∙ take-take (b - a) (n - a) (drop a l) (omega arith)
+pub is-some : {n : ℕ} → eqb n 0 ≡ false → 0 < n
+is-some {n} e = on n e
+  where
+    on : (k : ℕ) → eqb k 0 ≡ false → 0 < k
+    on zero e = cc
+    on (suc k) e = omega arith
 
 -- ---- elements that are left
 
-module _ {rows text : List ℕ} {i j : ℕ} where
-  pub some_left : (s : SomeForest rows text i j) → ElementsLeft rows text s.begins.rest i j s.forest
-  some_left s =
-      let b = s.begins in
-      record { low = s.low; begun = s.begun; rows_are = b.rows_are; text_is = b.text_is; sound = b.sound }
+module _ {rows text : List ℕ} where
+  pub some_left : (s : SomeForest rows text 0 0) → Left rows text s.begins.rest s.forest
+  some_left s = let b = s.begins in record { rows_are = b.rows_are; text_is = b.text_is; sound = b.sound }
 
-  pub exact-left : {f : Forest} → i ≤ length rows → j ≤ length text → SpellsAll f (drop i rows) (drop j text) → ElementsLeft rows text [] i j f
-  exact-left {f} h k sp =
-      record { low = h; begun = k; rows_are = sp.rows_are; text_is = sp.text_is ∙ sym (append-nil (texts_of f)); sound = sp.sound }
+  pub exact-left : {f : Forest} → SpellsAll f rows text → Left rows text [] f
+  exact-left {f} sp = record { rows_are = sp.rows_are; text_is = sp.text_is ∙ sym (append-nil (texts_of f)); sound = sp.sound }
 
-  pub left-exact : {f : Forest} → ElementsLeft rows text [] i j f → SpellsAll f (drop i rows) (drop j text)
+  pub left-exact : {f : Forest} → Left rows text [] f → SpellsAll f rows text
   left-exact {f} l = record { rows_are = l.rows_are; text_is = l.text_is ∙ append-nil (texts_of f); sound = l.sound }
 
-  module _ {tail : List ℕ} {f : Forest} (l : ElementsLeft rows text tail i j f) where
-    pub left-begins : Begins f (drop i rows) (drop j text)
+  module _ {tail : List ℕ} {f : Forest} (l : Left rows text tail f) where
+    pub left-begins : Begins f rows text
     left-begins = record { rows_are = l.rows_are; rest = tail; text_is = l.text_is; sound = l.sound }
 
-    pub left-some : length rows < cap → length text < cap → SomeForest rows text i j
-    left-some few short = record { few = few; short = short; low = l.low; begun = l.begun; forest = f; begins = left-begins }
+    pub left-some : length rows < cap → length text < cap → SomeForest rows text 0 0
+    left-some few short = some-forest left-begins few short
 
     -- at the end there is no element, and before it there is one
-    pub left-none : length rows ≤ i → f ≡ none
-    left-none h = no-left f l.rows_are (simp length-drop (omega arith))
+    pub left-none : length rows ≡ 0 → f ≡ none
+    left-none h = no-left f l.rows_are h
 
-    pub left-first : i < length rows → (t : Tree) × ((g : Forest) × (f ≡ more t g))
-    left-first h = left f l.rows_are (simp length-drop (omega arith))
+    pub left-first : 0 < length rows → (t : Tree) × ((g : Forest) × (f ≡ more t g))
+    left-first h = left f l.rows_are h
 
-    pub left-kind : (t : Tree) (g : Forest) → f ≡ more t g → get_or rows i 0 ≡ kind_of t
+    pub left-kind : (t : Tree) (g : Forest) → f ≡ more t g → get_or rows 0 0 ≡ kind_of t
     unfolding rows_of
-    left-kind t g e = kind-here rows i t (rows_ofs g) (l.rows_are ∙ ap rows_ofs e)
+    left-kind t g e = ap (λ (r : List ℕ). get_or r 0 0) (l.rows_are ∙ ap rows_ofs e) ∙ kind-first t (rows_ofs g)
 
 -- past the first of them
-module _ {rows text tail : List ℕ} {i j : ℕ} {t : Tree} {f : Forest} (l : ElementsLeft rows text tail i j (more t f)) where
-  left-past : ElementsLeft rows text tail (i + 8 * size t) (j + length (text_of t)) f
+module _ {rows text tail : List ℕ} {t : Tree} {f : Forest} (l : Left rows text tail (more t f)) where
+  left-past : Left (drop (8 * size t) rows) (drop (length (text_of t)) text) tail f
   unfolding rows_of text_of Sound
   left-past =
-      let er = l.rows_are in
       let et = l.text_is ∙ append_assoc (text_of t) (texts_of f) tail in
-      let lr = length-drop i rows in
-      let lt = length-drop j text in
-      let h = l.low in
-      let k = l.begun in
       record {
-        low = omega (arith, ap length er, length-append (rows_of t) (rows_ofs f), length-rows t);
-        begun = omega (arith, ap length et, length-append (text_of t) (texts_of f ++ tail));
-        rows_are = sym (drop-drop (8 * size t) i rows) ∙ ap (drop (8 * size t)) er ∙ drop_at (rows_of t) (rows_ofs f) (8 * size t) (length-rows t);
-        text_is = sym (drop-drop (length (text_of t)) j text) ∙ ap (drop (length (text_of t))) et ∙ drop_at (text_of t) (texts_of f ++ tail) (length (text_of t)) refl;
+        rows_are = ap (drop (8 * size t)) l.rows_are ∙ drop_at (rows_of t) (rows_ofs f) (8 * size t) (length-rows t);
+        text_is = ap (drop (length (text_of t))) et ∙ drop_at (text_of t) (texts_of f ++ tail) (length (text_of t)) refl;
         sound = l.sound.1;
       }
 
-  left-text : text_of t ≡ between j (j + length (text_of t)) text
+  left-text : text_of t ≡ take (length (text_of t)) text
   unfolding text_of
   left-text =
       let n = length (text_of t) in
-      let e : j + n - j ≡ n = omega arith in
-      sym (ap (λ (m : ℕ). take m (drop j text)) e ∙ ap (take n) (l.text_is ∙ append_assoc (text_of t) (texts_of f) tail) ∙ take_at (text_of t) (texts_of f ++ tail) n refl)
+      sym (ap (take n) (l.text_is ∙ append_assoc (text_of t) (texts_of f) tail) ∙ take_at (text_of t) (texts_of f ++ tail) n refl)
 
 -- ---- a step
 
-module _ {rows text tail : List ℕ} {i j : ℕ} (s : Rest) (l : ElementsLeft rows text tail i j s.elements) where
-  pub first-passed-none : length rows ≤ i → FirstPassed rows text tail i j s (record { row = i; text = j })
+-- what is left is no more than there was
+module _ {rows text tail a v rows' text' : List ℕ} {r s : Rest} (p : ScanMoved rows text tail r s a v rows' text') where
+  pub moved-rows : length rows' ≤ length rows
+  moved-rows = omega (arith, ap length p.rows_are, length-append a rows')
+
+  pub moved-text : length text' ≤ length text
+  moved-text = omega (arith, ap length p.text_is, length-append v text')
+
+module _ {rows text tail : List ℕ} (s : Rest) (l : Left rows text tail s.elements) where
+  pub first-passed-none : length rows ≡ 0 → FirstPassed rows text tail s rows text
   first-passed-none h =
       let e = left-none l h in
       record {
+        over_rows = [];
+        over_text = [];
         moved =
-            subst (λ (r : Rest). CursorMoved rows text tail i j s r (record { row = i; text = j })) (sym (ap (past s.rows) e))
-            (record { there = subst (ElementsLeft rows text tail i j) e l; row = refl; onward = omega arith; fits = let z = ap sizes e in omega arith });
+            subst (λ (r : Rest). ScanMoved rows text tail s r [] [] rows text) (sym (ap (past s.rows) e))
+            (record {
+              there = subst (Left rows text tail) e l;
+              rows_are = refl;
+              text_is = refl;
+              row = omega arith;
+              fits = let z = ap sizes e in omega arith;
+            });
         over = λ t f q. let z : ◌≡◌ {A = ℕ} 0 1 = cc in absurd (omega arith);
       }
 
-  module _ (h : i < length rows) (few : length rows < cap) (short : length text < cap) where
-    first : ElementAt s.elements rows text i j
-    first = element (left-begins l) h l.begun few short
+  module _ (h : 0 < length rows) (few : length rows < cap) (short : length text < cap) where
+    first : ElementAt s.elements rows text 0 0
+    first = element (left-begins l) h (omega arith) few short
 
-    pub first-passed-spans : Spans rows i
+    pub first-passed-spans : Spans rows 0
     first-passed-spans = spans first few short
 
-    pub first-passed :
-        (e n : ℕ) → e ≡ extent_of (drop i rows) → n ≡ token_sum (take (extent_of (drop i rows)) (drop i rows))
-        → FirstPassed rows text tail i j s (record { row = i + e; text = j + n })
-    first-passed e n is_e is_n =
-        let t = first.tree in
-        let g = first.others in
-        let q : s.elements ≡ more t g = first.is in
-        let m : ElementsLeft rows text tail i j (more t g) = subst (ElementsLeft rows text tail i j) q l in
-        let re = rows-e first e n is_e is_n in
-        let tn = text-n first e n is_e is_n in
-        record {
-          moved =
-              subst (λ (r : Rest). CursorMoved rows text tail i j s r (record { row = i + e; text = j + n })) (sym (ap (past s.rows) q))
-              (record {
-                there =
-                    subst (λ (k : ℕ). ElementsLeft rows text tail (i + k) (j + n) g) (sym re)
-                    (subst (λ (k : ℕ). ElementsLeft rows text tail (i + 8 * size t) (j + k) g) (sym tn) (left-past m));
-                row = omega arith;
-                onward = omega arith;
-                fits = omega (arith, ap sizes q, size-more t g);
-              });
-          over = λ u f z.
-              let w : u ≡ t = cc in
-              ap text_of w ∙ left-text m ∙ ap (λ (k : ℕ). between j (j + k) text) (sym tn);
-        }
+    module _ (e n : ℕ) (is_e : e ≡ extent_of rows) (is_n : n ≡ token_sum (take (extent_of rows) rows)) where
+      pub first-high : e ≤ length rows
+      first-high = let z = first.end in let re = rows-e first e n is_e is_n in omega arith
+
+      pub first-stop : n ≤ length text
+      first-stop = let z = first.stop in let tn = text-n first e n is_e is_n in omega arith
+
+      passed : FirstPassed rows text tail s (drop e rows) (drop n text)
+      passed =
+          let t = first.tree in
+          let g = first.others in
+          let q : s.elements ≡ more t g = first.is in
+          let m : Left rows text tail (more t g) = subst (Left rows text tail) q l in
+          let re = rows-e first e n is_e is_n in
+          let tn = text-n first e n is_e is_n in
+          record {
+            over_rows = take e rows;
+            over_text = take n text;
+            moved =
+                subst (λ (r : Rest). ScanMoved rows text tail s r (take e rows) (take n text) (drop e rows) (drop n text)) (sym (ap (past s.rows) q))
+                (record {
+                  there =
+                      subst (λ (k : ℕ). Left (drop k rows) (drop n text) tail g) (sym re)
+                      (subst (λ (k : ℕ). Left (drop (8 * size t) rows) (drop k text) tail g) (sym tn) (left-past m));
+                  rows_are = sym (take-append-drop e rows);
+                  text_is = sym (take-append-drop n text);
+                  row = omega (arith, length-take-le e rows first-high);
+                  fits = omega (arith, ap sizes q, size-more t g);
+                });
+            over = λ u f z.
+                let w : u ≡ t = cc in
+                ap text_of w ∙ left-text m ∙ ap (λ (k : ℕ). take k text) (sym tn);
+          }
+
+      -- by the parts that the code has
+      pub first-passed : FirstPassed rows text tail s (take (length rows - e) (drop e rows)) (take (length text - n) (drop n text))
+      first-passed =
+          subst (λ (r : List ℕ). FirstPassed rows text tail s r (take (length text - n) (drop n text))) (sym (part-rest rows e))
+          (subst (λ (v : List ℕ). FirstPassed rows text tail s (drop e rows) v) (sym (part-rest text n)) passed)
+
+      pub past-some : SomeForest (take (length rows - e) (drop e rows)) (take (length text - n) (drop n text)) 0 0
+      past-some =
+          let m = first-passed.moved in
+          left-some m.there (let z = moved-rows m in omega arith) (let z = moved-text m in omega arith)
 
     -- a step goes on
-    pub first-passed-far : (at : Cursor) → FirstPassed rows text tail i j s at → i < at.row
-    first-passed-far at w =
+    pub first-passed-far : {rows' text' : List ℕ} → FirstPassed rows text tail s rows' text' → length rows' < length rows
+    first-passed-far {rows'} w =
         let q = first.is in
-        omega (arith, w.moved.row, ap (λ (f : Forest). (past s.rows f).rows) q, size-some first.tree)
+        omega (
+          arith,
+          w.moved.row,
+          ap (λ (f : Forest). (past s.rows f).rows) q,
+          size-some first.tree,
+          ap length w.moved.rows_are,
+          length-append w.over_rows rows',
+        )
 
 -- one step after another
 pub moved_then :
-    {rows text tail : List ℕ} {i j : ℕ} {r s u : Rest} {a b : Cursor} → CursorMoved rows text tail i j r s a
-    → CursorMoved rows text tail a.row a.text s u b → CursorMoved rows text tail i j r u b
-moved_then p q =
+    {rows text tail a v rows₁ text₁ b w rows₂ text₂ : List ℕ} {r s u : Rest} → ScanMoved rows text tail r s a v rows₁ text₁
+    → ScanMoved rows₁ text₁ tail s u b w rows₂ text₂ → ScanMoved rows text tail r u (a ++ b) (v ++ w) rows₂ text₂
+moved_then {a = a} {v = v} {b = b} {w = w} {rows₂ = rows₂} {text₂ = text₂} p q =
     record {
       there = q.there;
-      row = omega (arith, p.row, q.row);
-      onward = omega (arith, p.onward, q.onward);
+      rows_are = p.rows_are ∙ ap (λ (x : List ℕ). a ++ x) q.rows_are ∙ sym (append_assoc a b rows₂);
+      text_is = p.text_is ∙ ap (λ (x : List ℕ). v ++ x) q.text_is ∙ sym (append_assoc v w text₂);
+      row = omega (arith, p.row, q.row, length-append a b);
       fits = omega (arith, p.fits, q.fits);
     }
 
@@ -203,49 +233,47 @@ module _ (p : Tree → Bool) where
   pub stopped-here : (s : Rest) (t : Tree) (f : Forest) → s.elements ≡ more t f → p t ≡ true → Stopped s
   stopped-here s t f q e = subst (λ (g : Forest). Stopped (rest s.rows g)) (sym q) (stopped-at s.rows t f e)
 
-  -- from r, at i₀ and j₀, a scan has come to `now`, at i and j
-  pub record Scans (rows text tail : List ℕ) (i₀ j₀ : ℕ) (r : Rest) (i j : ℕ) : Type 0 where
+  -- from r, with these rows and this text, a scan has come to `now`, which has the last of them
+  pub record Scans (rows text tail : List ℕ) (r : Rest) (rows' text' : List ℕ) : Type 0 where
     pub now : Rest
-    pub moved : CursorMoved rows text tail i₀ j₀ r now (record { row = i; text = j })
+    pub over_rows : List ℕ
+    pub over_text : List ℕ
+    pub moved : ScanMoved rows text tail r now over_rows over_text rows' text'
     pub still : seek p r ≡ seek p now
-    pub before : texts_of (before_by p r.elements) ≡ between j₀ j text ++ texts_of (before_by p now.elements)
+    pub before : texts_of (before_by p r.elements) ≡ over_text ++ texts_of (before_by p now.elements)
 
-  pub scan-start :
-      {rows text tail : List ℕ} {i j : ℕ} (r : Rest) → ElementsLeft rows text tail i j r.elements → Scans rows text tail i j r i j
-  scan-start {rows} {text} {tail} {i} {j} r l =
-      record {
-        now = r;
-        moved = record { there = l; row = refl; onward = omega arith; fits = omega arith };
-        still = refl;
-        before = ap (λ (b : List ℕ). b ++ texts_of (before_by p r.elements)) (sym (between_none j text));
-      }
-
-  module _ {rows text tail : List ℕ} {i₀ j₀ : ℕ} {r : Rest} {i j : ℕ} (s : Scans rows text tail i₀ j₀ r i j) where
-    pub scan-stop : Stopped s.now → Sought p rows text tail i₀ j₀ r (record { row = i; text = j })
+  module _ {rows text tail : List ℕ} {r : Rest} {rows' text' : List ℕ} (s : Scans rows text tail r rows' text') where
+    pub scan-stop : Stopped s.now → Sought p rows text tail r rows' text'
     scan-stop z =
+        let m = s.moved in
+        let e : s.now ≡ seek p r = sym (s.still ∙ z.here) in
         record {
-          moved = subst (λ (u : Rest). CursorMoved rows text tail i₀ j₀ r u (record { row = i; text = j })) (sym (s.still ∙ z.here)) s.moved;
-          before = s.before ∙ ap (λ (w : List ℕ). between j₀ j text ++ w) z.nothing_before ∙ append-nil (between j₀ j text);
+          over_rows = s.over_rows;
+          over_text = s.over_text;
+          moved = subst (λ (u : Rest). ScanMoved rows text tail r u s.over_rows s.over_text rows' text') e m;
+          before = s.before ∙ ap (λ (w : List ℕ). s.over_text ++ w) z.nothing_before ∙ append-nil s.over_text;
         }
 
     pub scan-next :
-        (at : Cursor) → FirstPassed rows text tail i j s.now at → (t : Tree) (f : Forest) → s.now.elements ≡ more t f → p t ≡ false
-        → Scans rows text tail i₀ j₀ r at.row at.text
-    scan-next at w t f q e =
+        {rows'' text'' : List ℕ} → FirstPassed rows' text' tail s.now rows'' text'' → (t : Tree) (f : Forest) → s.now.elements ≡ more t f
+        → p t ≡ false → Scans rows text tail r rows'' text''
+    scan-next w t f q e =
         let o = s.now.rows in
+        let m = s.moved in
         let n : past_first s.now ≡ rest (o + size t) f = ap (past o) q in
         record {
           now = past_first s.now;
-          moved = moved_then s.moved w.moved;
+          over_rows = s.over_rows ++ w.over_rows;
+          over_text = s.over_text ++ w.over_text;
+          moved = moved_then m w.moved;
           still = s.still ∙ ap (λ (g : Forest). seek p (rest o g)) q ∙ seek-over o t f e ∙ ap (seek p) (sym n);
           before =
               s.before
-              ∙ ap (λ (g : Forest). between j₀ j text ++ texts_of (before_by p g)) q
-              ∙ ap (λ (x : List ℕ). between j₀ j text ++ x) (before-over t f e)
-              ∙ sym (append_assoc (between j₀ j text) (text_of t) (texts_of (before_by p f)))
-              ∙ ap (λ (x : List ℕ). (between j₀ j text ++ x) ++ texts_of (before_by p f)) (w.over t f q)
-              ∙ ap (λ (x : List ℕ). x ++ texts_of (before_by p f)) (sym (between-then j₀ j at.text text s.moved.onward w.moved.onward))
-              ∙ ap (λ (u : Rest). between j₀ at.text text ++ texts_of (before_by p u.elements)) (sym n);
+              ∙ ap (λ (g : Forest). s.over_text ++ texts_of (before_by p g)) q
+              ∙ ap (λ (x : List ℕ). s.over_text ++ x) (before-over t f e)
+              ∙ sym (append_assoc s.over_text (text_of t) (texts_of (before_by p f)))
+              ∙ ap (λ (x : List ℕ). (s.over_text ++ x) ++ texts_of (before_by p f)) (w.over t f q)
+              ∙ ap (λ (u : Rest). (s.over_text ++ w.over_text) ++ texts_of (before_by p u.elements)) (sym n);
         }
 
 -- ---- the loop of a scan, which tests kinds
@@ -254,20 +282,22 @@ picks-kind : (s : Stop) (t : Tree) → stops_at s (kind_of t) ≡ picks s t
 picks-kind Solid t = refl
 picks-kind (Kind k) t = refl
 
-module _ (stop : Stop) {rows text tail : List ℕ} {i₀ j₀ : ℕ} {r : Rest} {i j : ℕ} (s : Scans (picks stop) rows text tail i₀ j₀ r i j) where
-  pub scan-end : length rows ≤ i → Sought (picks stop) rows text tail i₀ j₀ r (record { row = i; text = j })
+module _ (stop : Stop) {rows text tail : List ℕ} {r : Rest} {rows' text' : List ℕ} (s : Scans (picks stop) rows text tail r rows' text') where
+  pub scan-end : length rows' ≡ 0 → Sought (picks stop) rows text tail r rows' text'
   scan-end h = scan-stop (picks stop) s (stopped-end (picks stop) s.now (left-none s.moved.there h))
 
-  module _ (h : i < length rows) {b : Bool} (told : b ≡ stops_at stop (get_or rows i 0)) where
+  module _ (h : 0 < length rows') {b : Bool} (told : b ≡ stops_at stop (get_or rows' 0 0)) where
     picked : (t : Tree) (f : Forest) → s.now.elements ≡ more t f → picks stop t ≡ b
     picked t f q = sym (told ∙ ap (stops_at stop) (left-kind s.moved.there t f q) ∙ picks-kind stop t)
 
-    pub scan-found : b ≡ true → Sought (picks stop) rows text tail i₀ j₀ r (record { row = i; text = j })
+    pub scan-found : b ≡ true → Sought (picks stop) rows text tail r rows' text'
     scan-found e =
         let x = left-first s.moved.there h in
         scan-stop (picks stop) s (stopped-here (picks stop) s.now x.0 x.1.0 x.1.1 (picked x.0 x.1.0 x.1.1 ∙ e))
 
-    pub scan-again : b ≡ false → (at : Cursor) → FirstPassed rows text tail i j s.now at → Scans (picks stop) rows text tail i₀ j₀ r at.row at.text
-    scan-again e at w =
+    pub scan-again :
+        b ≡ false → {rows'' text'' : List ℕ} → FirstPassed rows' text' tail s.now rows'' text''
+        → Scans (picks stop) rows text tail r rows'' text''
+    scan-again e w =
         let x = left-first s.moved.there h in
-        scan-next (picks stop) s at w x.0 x.1.0 x.1.1 (picked x.0 x.1.0 x.1.1 ∙ e)
+        scan-next (picks stop) s w x.0 x.1.0 x.1.1 (picked x.0 x.1.0 x.1.1 ∙ e)

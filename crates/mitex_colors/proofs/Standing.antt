@@ -1,29 +1,28 @@
 -- The children of an element that was found: where they stand, and what a Greedy command makes of them.
 use mathlib.Core.Path.{◌≡◌, sym, ap, subst, ◌∙◌}
 use mathlib.Core.Bool.{Bool, false}
-use mathlib.Core.Option.{Option}
+use mathlib.Core.Option.{Option as Maybe}
 use mathlib.Core.Option.Option.{none as nothing, some}
-use mathlib.Core.List.{List, []}
+use mathlib.Core.List.{List}
 use Prim.Native.Nat.{ℕ, ◌+◌, ◌-◌, ◌<◌}
 use native.Mathlib.Omega.{arith}
-use lib.ListN.{length, take, drop, get_or}
-use lib.Seq.{drop-drop, get_or-drop, get_or-take, length-take-le}
+use lib.ListN.{take, drop, get_or}
+use lib.Seq.{drop-drop, get_or-drop, get_or-take}
+use Rattle.std.specs.Prelude.{Some, None}
+use Rattle.std.proofs.lemmas.List.{drop-take}
 use Rattle.mitex_syntax.proofs.Seeking.{first-picked}
 use borrow.Author.Tests.{eqb-true}
-use Rattle.text.specs.Writing.{cap}
 use Rattle.mitex_syntax.specs.Syntax.{is_token}
 use Rattle.mitex_syntax.specs.Tree.{Tree, Forest, size, sizes, kind_of}
 use Rattle.mitex_syntax.specs.Tree.Tree.{node}
 use Rattle.mitex_syntax.specs.Views.{first_by, is_of, children_of}
-use Rattle.mitex_syntax.specs.Spells.{Spells, SpellsAll, SomeForest}
+use Rattle.mitex_syntax.specs.Spells.{Spells, SpellsAll}
 use Rattle.mitex_syntax.specs.Places.{FirstAt}
+use Rattle.mitex_syntax.specs.declared.Spot.{Spot}
 use Rattle.mitex_syntax.proofs.Trees.{kind-spelt, token-spelt, node-spelt, as-node, spells-under, size-node}
 use Rattle.mitex_meaning.specs.Commands.{is_argument, greedy_in}
 use Rattle.mitex_meaning.specs.Parts.{between, GreedyFound}
 use Rattle.mitex_meaning.specs.Parts.GreedyFound.{no_greedy, greedy_at}
-use Rattle.mitex_meaning.specs.declared.GreedyPart.TheVariants.{NoGreedy, GreedyAt}
-use Rattle.mitex_colors.specs.Scanning.{ElementsLeft}
-use Rattle.mitex_colors.proofs.Scans.{drop-take, exact-left, left-some}
 
 module _ {p : Tree → Bool} {f : Forest} {rows text : List ℕ} {a b c d : ℕ} (s : FirstAt p f rows text 0 a b c d) where
   -- the second byte of its rows
@@ -33,22 +32,14 @@ module _ {p : Tree → Bool} {f : Forest} {rows text : List ℕ} {a b c d : ℕ}
   -- the children of a node
   pub children-there : {k : ℕ} {g : Forest} → s.tree ≡ node k g → SpellsAll g (between (a + 8) b rows) (between c d text)
   children-there {k} {g} e =
-      let n : b - a - 8 ≡ b - (a + 8) = omega arith in
+      let some = s.some_rows in
+      let n : b - a ≡ 8 + (b - (a + 8)) = omega arith in
       subst (λ (l : List ℕ). SpellsAll g l (between c d text))
-      (drop-take 8 (b - a) (drop a rows) ∙ ap (λ (m : ℕ). take m (drop 8 (drop a rows))) n ∙ ap (take (b - (a + 8))) (drop-drop 8 a rows))
+      (ap (λ (m : ℕ). drop 8 (take m (drop a rows))) n ∙ drop-take 8 (b - (a + 8)) (drop a rows) ∙ ap (take (b - (a + 8))) (drop-drop 8 a rows))
       (spells-under (subst (λ (t : Tree). Spells t (between a b rows) (between c d text)) e s.spells))
 
   pub smaller : {k : ℕ} {g : Forest} → s.tree ≡ node k g → sizes g < sizes f
   smaller {k} {g} e = omega (arith, s.fits, ap size e, size-node k g)
-
-  -- the same in the rows and the text up to its end
-  pub children-left : {k : ℕ} {g : Forest} → s.tree ≡ node k g → ElementsLeft (take b rows) (take d text) [] (a + 8) c g
-  children-left {k} {g} e =
-      let h = s.some_rows in
-      let r = s.some_text in
-      exact-left (omega (arith, length-take-le b rows s.end)) (omega (arith, length-take-le d text s.stop))
-      (subst (λ (l : List ℕ). SpellsAll g l (drop c (take d text))) (sym (drop-take (a + 8) b rows))
-      (subst (λ (l : List ℕ). SpellsAll g (between (a + 8) b rows) l) (sym (drop-take c d text)) (children-there e)))
 
 -- what is of a kind that no token has is a node
 pub node-there :
@@ -57,35 +48,29 @@ pub node-there :
 node-there {k} {f} s h =
     as-node s.tree k s.spells (kind-spelt s.tree s.spells ∙ eqb-true _ k (first-picked (is_of k) f s.is)) h
 
--- what looking among its children asks
-pub children-ask :
-    (k : ℕ) {f : Forest} {rows text : List ℕ} {a b c d : ℕ} → FirstAt (is_of k) f rows text 0 a b c d → is_token k ≡ false → length rows < cap
-    → length text < cap → SomeForest (take b rows) (take d text) (a + 8) c
-children-ask k {rows = rows} {text = text} {b = b} {d = d} s h few short =
-    left-some (children-left s (node-there s h).1) (omega (arith, length-take-le b rows s.end, s.end))
-    (omega (arith, length-take-le d text s.stop, s.stop))
-
 -- ---- the Greedy argument
 
-pub greedy-missing : {f : Forest} {rows text : List ℕ} → first_by is_argument f ≡ nothing → GreedyFound f rows text NoGreedy
-greedy-missing e = no_greedy (λ conv o c. ap (λ (x : Option Tree). greedy_in conv o x c) e)
+pub greedy-missing : {f : Forest} {rows text : List ℕ} → first_by is_argument f ≡ nothing → GreedyFound f rows text None
+greedy-missing e = no_greedy (λ conv o c. ap (λ (x : Maybe Tree). greedy_in conv o x c) e)
 
-module _ {f : Forest} {rows text : List ℕ} {a b c d : ℕ} (s : FirstAt is_argument f rows text 0 a b c d) where
-  pub greedy-token : get_or rows (a + 1) 0 ≡ 1 → GreedyFound f rows text NoGreedy
+module _ {f : Forest} {rows text : List ℕ} {p : Spot} (s : FirstAt is_argument f rows text 0 p.row p.end p.from p.to) where
+  pub greedy-token : get_or rows (p.row + 1) 0 ≡ 1 → GreedyFound f rows text None
   greedy-token h =
       let e = token-spelt s.tree s.spells (mark-there s ∙ h) in
-      no_greedy (λ conv o c. ap (λ (x : Option Tree). greedy_in conv o x c) (s.is ∙ ap some e))
+      no_greedy (λ conv o c. ap (λ (x : Maybe Tree). greedy_in conv o x c) (s.is ∙ ap some e))
 
-  pub greedy-node : (get_or rows (a + 1) 0 ≡ 1 → ⊥) → GreedyFound f rows text (GreedyAt (record { i = a + 8; e = b; j = c; u = d }))
+  pub greedy-node : (get_or rows (p.row + 1) 0 ≡ 1 → ⊥) → GreedyFound f rows text (Some p)
   greedy-node h =
       let e : s.tree ≡ node (kind_of s.tree) (children_of s.tree) = node-spelt s.tree s.spells (λ q. h (sym (mark-there s) ∙ q)) in
+      let some_rows = s.some_rows in
       greedy_at
       (record {
         kind = kind_of s.tree;
         forest = children_of s.tree;
         is = s.is ∙ ap some e;
         spells = children-there s e;
-        inside = record { low = s.some_rows; high = s.end; begun = s.some_text; stop = s.stop };
+        inside = record { low = omega arith; high = s.end; begun = s.some_text; stop = s.stop };
         row = let r = s.row in omega arith;
+        some_rows = some_rows;
         fits = smaller s e;
       })

@@ -1,22 +1,19 @@
 -- What a command comes to once its name and its rule are known.
 use mathlib.Core.Path.{◌≡◌, sym, ap, ◌∙◌}
-use mathlib.Core.Bool.{true, false}
 use mathlib.Core.Option.{Option}
 use mathlib.Core.List.{List}
 use Prim.Native.Nat.{ℕ}
-use native.Mathlib.Omega.{arith}
 use lib.ListN.{drop}
+use Rattle.std.specs.Prelude.{Option as Maybe, Some, None}
 use Rattle.mitex_spec.specs.Rules.{Rule, alias_or}
 use Rattle.mitex_spec.specs.LookUp.{alias_of, rule_of}
-use Rattle.mitex_spec.specs.declared.Found.{Found}
-use Rattle.mitex_spec.specs.declared.Found.TheVariants.{Absent, Plain, Aliased}
+use Rattle.mitex_spec.specs.declared.rules.Found.{Found}
 use Rattle.mitex_syntax.specs.Tree.{Forest}
 use Rattle.mitex_syntax.specs.Views.{cmd_name}
 use Rattle.mitex_meaning.specs.Outcome.{Context, Carry, Conv}
 use Rattle.mitex_meaning.specs.Outcome.Outcome.{refused}
 use Rattle.mitex_meaning.specs.Commands.{typst_name, written_as, normal_by, command_of, command_by, command}
 use Rattle.mitex_meaning.specs.declared.Command.{Command}
-use Rattle.mitex_commands.specs.Leaves.{is_absent, class_of}
 
 -- ---- by name
 
@@ -28,21 +25,15 @@ command-is conv x f c name k h e =
 
 -- ---- by rule
 
-pub normal-absent :
-    (o : Option Rule) (name : List ℕ) (conv : Conv) (x : Context) (f : Forest) (c : Carry) (file : List ℕ) (found : Found)
-    → rule_of file name found ≡ o → is_absent found ≡ true → normal_by o name conv x f c ≡ refused 9 0
-normal-absent o name conv x f c file Absent e h = ap (λ (p : Option Rule). normal_by p name conv x f c) (sym e)
-normal-absent o name conv x f c file (Plain class) e h = let z : ◌≡◌ {A = ℕ} 0 1 = cc in absurd (omega arith)
-normal-absent o name conv x f c file (Aliased class at size) e h = let z : ◌≡◌ {A = ℕ} 0 1 = cc in absurd (omega arith)
+module _ (o : Option Rule) (name : List ℕ) (conv : Conv) (x : Context) (f : Forest) (c : Carry) {r : Maybe Found} where
+  pub normal-absent : rule_of name r ≡ o → r ≡ None → normal_by o name conv x f c ≡ refused 9 0
+  normal-absent e h =
+      ap (λ (p : Option Rule). normal_by p name conv x f c) (sym e) ∙ ap (λ (q : Maybe Found). normal_by (rule_of name q) name conv x f c) h
 
-pub normal-found :
-    (o : Option Rule) (name : List ℕ) (conv : Conv) (x : Context) (f : Forest) (c : Carry) (file : List ℕ) (found : Found) (w : List ℕ)
-    → rule_of file name found ≡ o → is_absent found ≡ false → w ≡ alias_or (alias_of file found) name
-    → normal_by o name conv x f c ≡ written_as (class_of found) (typst_name x.mode name w) conv x f c
-normal-found o name conv x f c file Absent w e h i = let z : ◌≡◌ {A = ℕ} 0 1 = cc in absurd (omega arith)
-normal-found o name conv x f c file (Plain class) w e h i =
-    ap (λ (p : Option Rule). normal_by p name conv x f c) (sym e)
-    ∙ ap (λ (s : List ℕ). written_as class (typst_name x.mode name s) conv x f c) (sym i)
-normal-found o name conv x f c file (Aliased class at size) w e h i =
-    ap (λ (p : Option Rule). normal_by p name conv x f c) (sym e)
-    ∙ ap (λ (s : List ℕ). written_as class (typst_name x.mode name s) conv x f c) (sym i)
+  pub normal-found :
+      (found : Found) (w : List ℕ) → rule_of name r ≡ o → r ≡ Some found → w ≡ alias_or (alias_of found) name
+      → normal_by o name conv x f c ≡ written_as found.class (typst_name x.mode name w) conv x f c
+  normal-found found w e h i =
+      ap (λ (p : Option Rule). normal_by p name conv x f c) (sym e)
+      ∙ ap (λ (q : Maybe Found). normal_by (rule_of name q) name conv x f c) h
+      ∙ ap (λ (s : List ℕ). written_as found.class (typst_name x.mode name s) conv x f c) (sym i)

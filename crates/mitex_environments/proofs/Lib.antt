@@ -1,4 +1,2 @@
-pub mod Ends
-pub mod Taking
 pub mod Beginning
 pub mod Captioning

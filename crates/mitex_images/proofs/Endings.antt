@@ -5,10 +5,12 @@ use mathlib.Core.List.{List, ◌++◌}
 use Prim.Native.Nat.{ℕ, zero, suc, ◌-◌, ◌≤◌, ◌<◌}
 use native.Mathlib.Decide.{dec_le}
 use native.Mathlib.Omega.{arith}
-use lib.ListN.{length, take}
+use lib.Dec.{eqb}
+use lib.ListN.{length, take, drop}
 use lib.Seq.{length-take-le}
 use Rattle.text.specs.Compare.{ends_with}
-use Rattle.text.proofs.Compare.{by-test, ends-short}
+use Rattle.std.specs.Cmp.Lexicographic.{pointwise}
+use Rattle.text.proofs.Compare.{by-test, ends-short, ends-is, same-is, same-sym}
 use Rattle.mitex_meaning.specs.Texts.{of_page, textwidth, textheight}
 use Rattle.mitex_meaning.specs.Images.{stripped, without_end, length_text}
 
@@ -22,6 +24,10 @@ module _ (p : List ℕ) (q : 0 < length p) where
         | yes le ↦ le
         | no gt ↦ absurd (false≢true (sym (ends-short v p (omega arith)) ∙ e))
       ]
+
+  -- the test as it is made of the bytes at the end
+  pub ends-so : (v : List ℕ) → pointwise eqb (drop (length v - length p) v) p ≡ ends_with v p
+  ends-so v = same-is (drop (length v - length p) v) p ∙ same-sym (drop (length v - length p) v) p ∙ sym (same-is p (drop (length v - length p) v)) ∙ ends-is v p
 
   strip-done : (n : ℕ) (v : List ℕ) → ends_with v p ≡ false → v ≡ stripped n p v
   unfolding stripped

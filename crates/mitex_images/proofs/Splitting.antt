@@ -1,75 +1,50 @@
--- How a text splits at the first of the bytes that part it, and what the parts of an option and of the options say.
-use mathlib.Core.Path.{◌≡◌, refl, sym, ap, ◌∙◌}
-use mathlib.Core.Bool.{Bool, true, false, ◌||◌, cond}
+-- How a text splits at bytes, and what the parts of an option and of the options say.
+use mathlib.Core.Path.{◌≡◌, refl, sym, ap, subst, ◌∙◌}
+use mathlib.Core.Bool.{Bool, true, false, cond}
 use mathlib.Core.Option.{Option}
 use mathlib.Core.Option.Option.{none as nothing, some}
-use mathlib.Core.List.{List, [], ◌∷◌, ◌++◌, append_assoc}
-use Prim.Native.Nat.{ℕ, suc, ◌+◌, ◌-◌, ◌≤◌, ◌<◌, min}
-use native.Mathlib.Decide.{dec_le}
+use mathlib.Core.List.{List, [], ◌∷◌, ◌++◌, map, append_assoc, append-nil}
+use Prim.Native.Nat.{ℕ, ◌≤◌}
 use native.Mathlib.Omega.{arith}
-use lib.ListN.{length, take, drop, drop_of_length-le}
-use lib.Seq.{take_all}
+use lib.ListN.{length}
 use lib.Dec.{eqb}
-use Rattle.text.specs.Compare.{same, index_of}
-use Rattle.text.proofs.Writing.{part-rest}
+use denote.Ref.{Bor}
+use Rattle.std.specs.Prelude.{Option as Maybe, Some, None}
+use Rattle.std.specs.List.{slice_split, onto_first}
+use Rattle.std.specs.Option.{unwrap_or}
+use Rattle.std.specs.Iterator.{AlwaysYields}
+use Rattle.std.proofs.lemmas.Iterator.{YieldsList}
+use Rattle.text.specs.Compare.{same}
 use Rattle.utf8.specs.Trim.{trim}
 use Rattle.utf8.proofs.Trimming.{trim-length}
-use Rattle.mitex_syntax.specs.Syntax.{ItemCurly, ItemBracket}
+use Rattle.mitex_syntax.specs.Syntax.{ItemBracket}
 use Rattle.mitex_syntax.specs.Tree.{Tree, Forest}
 use Rattle.mitex_syntax.specs.Views.{inner, text_in, argument_with}
-use Rattle.mitex_meaning.specs.Texts.{quote, comma_space, colon_space, image_begin, image_end, width_name, height_name}
-use Rattle.mitex_meaning.specs.Images.{extend, cut_at, comma_byte, equals_byte, length_text, key_of, value_of, key_text, pair_text}
-use Rattle.mitex_meaning.specs.Images.{option_text, options_text, inner_text, option_argument, image}
+use Rattle.mitex_meaning.specs.Images.{extend, cut_at, comma_byte, equals_byte, key_of, value_of, key_text, pair_text}
+use Rattle.mitex_meaning.specs.Images.{option_text, options_text, inner_text, option_argument}
 
--- ---- the first part
+-- ---- the parts, as std splits a text
 
--- the byte stands at a place of the text, or the length is given
-pub index-most : (b : ℕ) (s : List ℕ) → index_of b s ≤ length s
-unfolding index_of
-index-most b [] = omega arith
-index-most b (x ∷ s) = go (eqb x b) (index-most b s) where
-  go : (t : Bool) → index_of b s ≤ length s → cond t 0 (1 + index_of b s) ≤ length (x ∷ s)
-  go true h = omega arith
-  go false h = omega arith
+onto-extend : (x : ℕ) (l : List (List ℕ)) → onto_first x l ≡ extend x l
+onto-extend x [] = refl
+onto-extend x (p ∷ ps) = refl
 
--- none: the text is the only part
-split-none : (b : ℕ) (s : List ℕ) → length s ≤ index_of b s → cut_at b s ≡ s ∷ []
-unfolding cut_at index_of
-split-none b [] h = refl
-split-none b (x ∷ s) h = go (eqb x b) h (split-none b s) where
-  go :
-      (t : Bool) → length (x ∷ s) ≤ cond t 0 (1 + index_of b s) → (length s ≤ index_of b s → cut_at b s ≡ s ∷ [])
-      → cond t ([] ∷ cut_at b s) (extend x (cut_at b s)) ≡ (x ∷ s) ∷ []
-  go true h r = absurd (omega arith)
-  go false h r = ap (extend x) (r (omega arith))
+pub cut-split : (b : ℕ) (s : List ℕ) → slice_split (λ x. eqb x b) s ≡ cut_at b s
+unfolding cut_at
+cut-split b [] = refl
+cut-split b (x ∷ s) =
+    ap (λ l. cond (eqb x b) ([] ∷ l) (onto_first x l)) (cut-split b s) ∙ ap (cond (eqb x b) ([] ∷ cut_at b s)) (onto-extend x (cut_at b s))
 
--- some: the part before it, and those of what stands after it
-split-some : (b : ℕ) (s : List ℕ) → index_of b s < length s → cut_at b s ≡ take (index_of b s) s ∷ cut_at b (drop (index_of b s + 1) s)
-unfolding cut_at index_of
-split-some b [] h = absurd (omega arith)
-split-some b (x ∷ s) h = go (eqb x b) h (split-some b s) where
-  go :
-      (t : Bool) → cond t 0 (1 + index_of b s) < length (x ∷ s)
-      → (index_of b s < length s → cut_at b s ≡ take (index_of b s) s ∷ cut_at b (drop (index_of b s + 1) s))
-      → cond t ([] ∷ cut_at b s) (extend x (cut_at b s))
-      ≡ take (cond t 0 (1 + index_of b s)) (x ∷ s) ∷ cut_at b (drop (cond t 0 (1 + index_of b s) + 1) (x ∷ s))
-  go true h r = refl
-  go false h r =
-      let k = index_of b s in
-      let e : suc k ≡ 1 + k = omega arith in
-      let e' : suc (k + 1) ≡ 1 + k + 1 = omega arith in
-      ap (extend x) (r (omega arith))
-      ∙ ap (λ n. take n (x ∷ s) ∷ cut_at b (drop (suc (k + 1)) (x ∷ s))) e
-      ∙ ap (λ n. take (1 + k) (x ∷ s) ∷ cut_at b (drop n (x ∷ s))) e'
-
--- what stands after a byte, as code has it that goes no further than the end
-pub part-past : (s : List ℕ) (n k : ℕ) → k ≡ min (length s) (n + 1) → take (length s - k) (drop k s) ≡ drop (n + 1) s
-part-past s n k e =
-    part-rest s k
-    ∙ elim (dec_le (n + 1) (length s)) [
-      | yes le ↦ ap (λ m. drop m s) (let z : k ≡ n + 1 = omega arith in z)
-      | no gt ↦ drop_of_length-le s {i = k} (omega arith) ∙ sym (drop_of_length-le s {i = n + 1} (omega arith))
-    ]
+-- there is a first part
+cut-some : (b : ℕ) (s : List ℕ) → (p : List ℕ) × ((ps : List (List ℕ)) × (cut_at b s ≡ p ∷ ps))
+unfolding cut_at
+cut-some b [] = ([], ([], refl))
+cut-some b (x ∷ s) = by (eqb x b) (cut_at b s)
+  where
+    by : (t : Bool) (l : List (List ℕ)) → (p : List ℕ) × ((ps : List (List ℕ)) × (cond t ([] ∷ l) (extend x l) ≡ p ∷ ps))
+    by true l = ([], (l, refl))
+    by false [] = (x ∷ [], ([], refl))
+    by false (p ∷ ps) = (x ∷ p, (ps, refl))
 
 -- ---- no bytes
 
@@ -82,62 +57,46 @@ trim-none = none (trim []) (trim-length [])
 
 -- ---- an option
 
-pub key-first : (b : ℕ) (s : List ℕ) → trim (take (index_of b s) s) ≡ key_of (cut_at b s)
-key-first b s =
-    elim (dec_le (length s) (index_of b s)) [
-      | yes le ↦ ap trim (take_all (index_of b s) s le) ∙ sym (ap key_of (split-none b s le))
-      | no gt ↦ sym (ap key_of (split-some b s (omega arith)))
-    ]
+-- what two further parts give for a value: only one alone is one
+abbrev pub picked : Maybe (Bor (List ℕ)) → Maybe (Bor (List ℕ)) → List ℕ
+picked (Some v) None = v.now
+picked (Some v) (Some w) = []
+picked None w = []
 
--- v stands after the first such byte, or there is nothing after
-module _ (b : ℕ) (s v : List ℕ) (e : v ≡ drop (index_of b s + 1) s) where
-  split-first : index_of b s < length s → cut_at b s ≡ take (index_of b s) s ∷ cut_at b v
-  split-first h = split-some b s h ∙ ap (λ r. take (index_of b s) s ∷ cut_at b r) (sym e)
+abbrev pub first_or_none : Maybe (Bor (List ℕ)) → List ℕ
+first_or_none (Some k) = k.now
+first_or_none None = []
 
-  -- none or one: v is the value
-  pub value-one : length v ≤ index_of b v → trim v ≡ value_of (cut_at b s)
-  value-one h =
-      elim (dec_le (length s) (index_of b s)) [
-        | yes le ↦
-            ap trim (e ∙ drop_of_length-le s {i = index_of b s + 1} (omega arith)) ∙ trim-none ∙ sym (ap value_of (split-none b s le))
-        | no gt ↦ sym (ap value_of (split-first (omega arith) ∙ ap (λ ps. take (index_of b s) s ∷ ps) (split-none b v h)))
-      ]
+pub unwrapped : (o : Maybe (Bor (List ℕ))) (d r : Bor (List ℕ)) → r ≡ unwrap_or o d → d.now ≡ [] → r.now ≡ first_or_none o
+unwrapped (Some k) d r e n = ap (λ x. x.now) e
+unwrapped None d r e n = ap (λ x. x.now) e ∙ n
 
-  -- more: nothing
-  pub value-more : index_of b v < length v → [] ≡ value_of (cut_at b s)
-  value-more h =
-      let w = drop (index_of b v + 1) v in
-      elim (dec_le (length s) (index_of b s)) [
-        | yes le ↦ sym (ap value_of (split-none b s le))
-        | no gt ↦
-            sym
-            (ap value_of (split-first (omega arith) ∙ ap (λ ps. take (index_of b s) s ∷ ps) (split-some b v h))
-            ∙ elim (dec_le (length w) (index_of b w)) [
-              | yes le ↦ ap (λ ps. value_of (take (index_of b s) s ∷ take (index_of b v) v ∷ ps)) (split-none b w le)
-              | no gt' ↦ ap (λ ps. value_of (take (index_of b s) s ∷ take (index_of b v) v ∷ ps)) (split-some b w (omega arith))
-            ])
-      ]
+module _ {S : Type 0} (steps : S → Maybe (Bor (List ℕ)) → S → Type 0) {s0 s1 s2 s3 : S} where
+  -- what the first three parts say that are asked for
+  three :
+      (a b c : Maybe (Bor (List ℕ))) (p : List ℕ) (ps : List (List ℕ)) → AlwaysYields steps (λ x. x.now) s0 (p ∷ ps) → steps s0 a s1
+      → steps s1 b s2 → steps s2 c s3 → (trim (first_or_none a) ≡ key_of (p ∷ ps)) × (trim (picked b c) ≡ value_of (p ∷ ps))
+  three None b c p ps r x y z = absurd (r.0 _ x)
+  three (Some k) None c p [] r x y z = (ap trim (r.1 k _ x).0, trim-none)
+  three (Some k) None c p (v ∷ ps) r x y z = absurd ((r.1 k _ x).1.0 _ y)
+  three (Some k) (Some w) c p [] r x y z = absurd ((r.1 k _ x).1 w _ y)
+  three (Some k) (Some w) None p (v ∷ []) r x y z = (ap trim (r.1 k _ x).0, ap trim ((r.1 k _ x).1.1 w _ y).0)
+  three (Some k) (Some w) None p (v ∷ u ∷ ps) r x y z = absurd (((r.1 k _ x).1.1 w _ y).1.0 _ z)
+  three (Some k) (Some w) (Some m) p (v ∷ []) r x y z = absurd (((r.1 k _ x).1.1 w _ y).1 m _ z)
+  three (Some k) (Some w) (Some m) p (v ∷ u ∷ ps) r x y z = (ap trim (r.1 k _ x).0, trim-none)
 
--- key and value, as code has found them
-pub option_is :
-    (o s : List ℕ) (n : ℕ) (k v : List ℕ) → s ≡ trim o → n ≡ index_of equals_byte s → k ≡ trim (take n s) → v ≡ value_of (cut_at equals_byte s)
-    → key_text k v ≡ option_text o
-option_is o s n k v e i ek ev =
-    ap (λ x. key_text x v) (ek ∙ ap (λ m. trim (take m s)) i ∙ key-first equals_byte s)
-    ∙ ap (key_text (key_of (cut_at equals_byte s))) ev
-    ∙ ap (λ x. pair_text (cut_at equals_byte x)) e
-
-module _ (key value : List ℕ) where
-  pub key-size :
-      (same key width_name || same key height_name) ≡ true
-      → ((key ++ colon_space) ++ length_text value) ++ comma_space ≡ key_text key value
-  key-size e =
-      let parts : (a b c d : List ℕ) → ((a ++ b) ++ c) ++ d ≡ a ++ (b ++ (c ++ d)) = λ a b c d. simp append_assoc in
-      parts key colon_space (length_text value) comma_space
-      ∙ sym (ap (λ t. cond t (key ++ (colon_space ++ (length_text value ++ comma_space))) []) e)
-
-  pub key-other : (same key width_name || same key height_name) ≡ false → [] ≡ key_text key value
-  key-other e = sym (ap (λ t. cond t (key ++ (colon_space ++ (length_text value ++ comma_space))) []) e)
+  -- an option by its parts
+  pub option-says :
+      (o s : List ℕ) (a b c : Maybe (Bor (List ℕ))) → s ≡ trim o
+      → YieldsList steps (λ x. x.now) s0 (slice_split (λ x. eqb x equals_byte) s) → steps s0 a s1 → steps s1 b s2 → steps s2 c s3
+      → key_text (trim (first_or_none a)) (trim (picked b c)) ≡ option_text o
+  option-says o s a b c e road x y z =
+      let parts = cut-some equals_byte s in
+      let is = cut-split equals_byte s ∙ parts.1.1 in
+      let t = three a b c parts.0 parts.1.0 (subst (AlwaysYields steps (λ x. x.now) s0) is road.runs) x y z in
+      ap (λ k. key_text k (trim (picked b c))) (t.0 ∙ ap key_of (sym parts.1.1))
+      ∙ ap (key_text (key_of (cut_at equals_byte s))) (t.1 ∙ ap value_of (sym parts.1.1))
+      ∙ ap (λ v. pair_text (cut_at equals_byte v)) e
 
 -- ---- options
 
@@ -145,33 +104,15 @@ options-none : options_text (cut_at comma_byte []) ≡ []
 unfolding cut_at options_text same
 options-none = ap (λ s. pair_text (cut_at equals_byte s) ++ []) trim-none ∙ ap (λ k. key_text k [] ++ []) trim-none
 
-pub options-end : (s : List ℕ) → length s ≤ 0 → [] ≡ options_text (cut_at comma_byte s)
-options-end s h = sym (ap (λ r. options_text (cut_at comma_byte r)) (none s h) ∙ options-none)
-
--- the first option, and those after it
-options-first :
-    (s : List ℕ)
-    → option_text (take (index_of comma_byte s) s) ++ options_text (cut_at comma_byte (drop (index_of comma_byte s + 1) s))
-    ≡ options_text (cut_at comma_byte s)
+-- one option more
+pub options-more :
+    (xs : List (Bor (List ℕ))) (x : Bor (List ℕ))
+    → options_text (map (λ y. y.now) (xs ++ (x ∷ []))) ≡ options_text (map (λ y. y.now) xs) ++ option_text x.now
 unfolding options_text
-options-first s =
-    elim (dec_le (length s) (index_of comma_byte s)) [
-      | yes le ↦
-          ap (λ r. option_text (take (index_of comma_byte s) s) ++ options_text (cut_at comma_byte r))
-          (drop_of_length-le s {i = index_of comma_byte s + 1} (omega arith))
-          ∙ ap (λ r. option_text (take (index_of comma_byte s) s) ++ r) options-none
-          ∙ ap (λ r. option_text r ++ []) (take_all (index_of comma_byte s) s le)
-          ∙ sym (ap options_text (split-none comma_byte s le))
-      | no gt ↦ sym (ap options_text (split-some comma_byte s (omega arith)))
-    ]
-
-pub options-next :
-    (s : List ℕ) (n k : ℕ) → n ≡ index_of comma_byte s → k ≡ min (length s) (n + 1)
-    → option_text (take n s) ++ options_text (cut_at comma_byte (take (length s - k) (drop k s))) ≡ options_text (cut_at comma_byte s)
-options-next s n k e i =
-    ap (λ r. option_text (take n s) ++ options_text (cut_at comma_byte r)) (part-past s n k i)
-    ∙ ap (λ m. option_text (take m s) ++ options_text (cut_at comma_byte (drop (m + 1) s))) e
-    ∙ options-first s
+options-more [] x = append-nil (option_text x.now)
+options-more (y ∷ xs) x =
+    ap (λ l. option_text y.now ++ l) (options-more xs x)
+    ∙ sym (append_assoc (option_text y.now) (options_text (map (λ z. z.now) xs)) (option_text x.now))
 
 -- ---- arguments
 
@@ -183,13 +124,6 @@ options-argument : (o : Option Tree) → options_text (cut_at comma_byte (inner_
 options-argument nothing = options-none
 options-argument (some t) = refl
 
--- the parts of the command, one after the other, with the texts of its arguments
-pub image-is :
-    (f : Forest) (options path : List ℕ) → options ≡ inner_text (argument_with ItemBracket f) → path ≡ inner_text (argument_with ItemCurly f)
-    → (((image_begin ++ options_text (cut_at comma_byte options)) ++ quote) ++ path) ++ image_end ≡ image f
-image-is f options path eo ep =
-    let parts : (a b c d e : List ℕ) → (((a ++ b) ++ c) ++ d) ++ e ≡ a ++ (b ++ (c ++ (d ++ e))) = λ a b c d e. simp append_assoc in
-    parts image_begin (options_text (cut_at comma_byte options)) quote path image_end
-    ∙ ap (λ s. image_begin ++ (options_text (cut_at comma_byte s) ++ (quote ++ (path ++ image_end)))) eo
-    ∙ ap (λ l. image_begin ++ (l ++ (quote ++ (path ++ image_end)))) (options-argument (argument_with ItemBracket f))
-    ∙ ap (λ l. image_begin ++ (option_argument (argument_with ItemBracket f) ++ (quote ++ (l ++ image_end)))) ep
+-- the options of the command, by the text of the argument
+pub options-found : (f : Forest) {s : List ℕ} → s ≡ inner_text (argument_with ItemBracket f) → options_text (cut_at comma_byte s) ≡ option_argument (argument_with ItemBracket f)
+options-found f e = ap (λ l. options_text (cut_at comma_byte l)) e ∙ options-argument (argument_with ItemBracket f)

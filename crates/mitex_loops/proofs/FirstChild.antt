@@ -1,8 +1,11 @@
 -- The first child and those behind it, as code has them that knows how far the first one goes.
 use mathlib.Core.Path.{◌≡◌, refl, sym, ap, subst, ◌∙◌}
-use mathlib.Core.List.{List, append-nil}
+use mathlib.Core.List.{List, [], ◌∷◌, append-nil}
 use Prim.Native.Nat.{ℕ, ◌+◌, ◌-◌, ◌≤◌, ◌<◌}
 use native.Mathlib.Omega.{arith}
+use mathlib.Core.Bool.{Bool, true, false}
+use borrow.Author.Tests.{eqb-true}
+use lib.Dec.{eqb}
 use lib.ListN.{length, take, drop}
 use Rattle.text.specs.Writing.{cap}
 use Rattle.text.proofs.Writing.{part-rest}
@@ -15,8 +18,13 @@ use Rattle.mitex_syntax.proofs.Trees.{ElementAt, element, all-begins, spells-alo
 use Rattle.mitex_meaning.specs.Parts.{between}
 use Rattle.mitex_loops.specs.FirstChild.{first_only, behind_first, FirstApart, lr_name}
 
-pub positive : {n : ℕ} → (n ≡ 0 → ⊥) → 0 < n
-positive {n} h = omega arith
+-- what the test for no bytes says
+pub empty : (s : List ℕ) {b : Bool} → b ≡ eqb (length s) 0 → b ≡ true → length s ≡ 0
+empty s e t = eqb-true (length s) 0 (sym e ∙ t)
+
+pub some-left : (s : List ℕ) {b : Bool} → b ≡ eqb (length s) 0 → b ≡ false → 0 < length s
+some-left [] e t = let z : ◌≡◌ {A = ℕ} 0 1 = cc in absurd (omega arith)
+some-left (x ∷ s) e t = omega arith
 
 -- ---- what reading the first child's size asks, and that it stays inside
 

@@ -1,3 +1,4 @@
+pub mod RowTests
 pub mod Acting
 pub mod Others
 pub mod Closing

@@ -1,30 +1,31 @@
 -- The loop over children on which another loop is steady: those passed (`RunTo`) and the one at the place where the code stands
--- (`Ahead`), by rows alone; what a walk has of such a run; and the loop over the tokens of a blank group (`BlankLeft`).
+-- (`Ahead`), by rows alone; what a walk has of such a run; and blank groups.
 use mathlib.Core.Path.{◌≡◌, refl, sym, ap, subst, ◌∙◌}
 use mathlib.Core.Bool.{Bool, true, false, ◌&&◌, and-true}
 use mathlib.Core.List.{List, [], append-nil}
 use Prim.Native.Nat.{ℕ, ◌+◌, ◌*◌, ◌-◌, ◌≤◌, ◌<◌}
 use native.Mathlib.Omega.{arith}
 use borrow.Author.Tests.{eqb-true}
-use lib.Dec.{T, eqb}
+use lib.Dec.{eqb}
 use lib.ListN.{length, take, drop, get_or, length-append, length-drop}
 use lib.Seq.{take_at, drop_at, drop-drop}
 use Rattle.text.specs.Writing.{cap}
 use Rattle.mitex_syntax.specs.Syntax.{is_node, TokenWhiteSpace, TokenLineBreak, TokenLBrace, TokenRBrace}
 use Rattle.mitex_syntax.specs.Tree.{Tree, Forest, size, sizes, kind_of, rows_of, rows_ofs, text_of, texts_of}
-use Rattle.mitex_syntax.specs.Tree.Tree.{token, node}
 use Rattle.mitex_syntax.specs.Tree.Forest.{none, more}
 use Rattle.mitex_syntax.specs.Rows.{extent_of, token_sum, Spans}
-use Rattle.mitex_syntax.specs.Spells.{Sound, Sounds, SpellsAll}
+use Rattle.mitex_syntax.specs.Spells.{SpellsAll, Begins}
 use Rattle.mitex_syntax.specs.declared.Span.{Span}
 use Rattle.mitex_syntax.proofs.Reading.{token_sum-nil}
-use Rattle.mitex_syntax.proofs.Trees.{length-rows, length-rowss, token_sum-tree, extent-tree, size-some, no-left, left, part}
+use Rattle.mitex_syntax.proofs.Trees.{length-rows, length-rowss, token_sum-tree, extent-tree, size-some, left, part}
 use Rattle.mitex_syntax.proofs.Seeking.{kind-here}
 use Rattle.mitex_meaning.specs.Children.{is_blank}
 use Rattle.mitex_meaning.specs.Runs.{beside, is_steady, all_steady, all_blank}
 use Rattle.mitex_meaning.specs.declared.Loop.{Loop}
+use Rattle.std.specs.Bool.{MatchBool}
+use Rattle.mitex_loops.proofs.RowTests.{EachRow, SomeRow, all_kinds, kinds-all, kinds-not}
 use Rattle.mitex_meaning.proofs.Runs.{one-so, beside-beside, sizes-beside, rows-beside, texts-beside, first-apart, others_apart, steady-beside}
-use Rattle.mitex_loops.specs.Steady.{SteadyGiven, SteadyRun}
+use Rattle.mitex_loops.specs.Steady.{SteadyRun}
 
 -- ---- a child ahead_of, by its rows
 
@@ -38,7 +39,7 @@ pub record Ahead (rows : List ℕ) (k : ℕ) (t : Tree) (g : Forest) : Type 0 wh
   pub inside : k + 8 * size t ≤ length rows
   pub behind : drop (k + 8 * size t) rows ≡ rows_ofs g
 
-pub ahead_of :
+ahead_of :
     (rows : List ℕ) (k : ℕ) (t : Tree) (g : Forest) → drop k rows ≡ rows_ofs (more t g) → length rows < cap → length (text_of t) < cap
     → Ahead rows k t g
 unfolding rows_of
@@ -64,31 +65,34 @@ ahead_of rows k t g e few short =
 
 -- ---- the run up to k, of n bytes of text
 
-abbrev pub RunTo : Loop → Forest → ℕ → ℕ → ℕ → Type 0
-RunTo l f i k n = SteadyRun l f (record { rows = k - i; text = n })
+abbrev pub RunTo : Loop → Forest → ℕ → ℕ → Type 0
+RunTo l f k n = SteadyRun l f (record { rows = k; text = n })
 
-pub run-start : (l : Loop) (f : Forest) (i : ℕ) → RunTo l f i i 0
+pub run-start : (l : Loop) (f : Forest) → RunTo l f 0 0
 unfolding beside all_steady size text_of
-run-start l f i = record { first = none; others = f; is = refl; steady = refl; rows_are = omega arith; text_is = refl }
+run-start l f = record { first = none; others = f; is = refl; steady = refl; rows_are = refl; text_is = refl }
+
+-- no more text than there is
+pub begun-short : {f : Forest} {rows text : List ℕ} → Begins f rows text → length (texts_of f) ≤ length text
+begun-short {f} sp = omega (arith, ap length sp.text_is, length-append (texts_of f) sp.rest)
 
 -- the child at k, and how the run goes on over it
-pub record Onward (l : Loop) (f : Forest) (rows : List ℕ) (i k n : ℕ) : Type 0 where
+pub record Onward (l : Loop) (f : Forest) (rows : List ℕ) (k n : ℕ) : Type 0 where
   pub tree : Tree
   pub behind : Forest
   pub here : Ahead rows k tree behind
   pub fits : n + length (text_of tree) ≤ length (texts_of f)
   pub on :
       is_steady l (get_or rows k 0) ≡ true → (e m : ℕ) → e ≡ extent_of (drop k rows)
-      → m ≡ token_sum (take (extent_of (drop k rows)) (drop k rows)) → RunTo l f i (k + e) (n + m)
+      → m ≡ token_sum (take (extent_of (drop k rows)) (drop k rows)) → RunTo l f (k + e) (n + m)
 
-module _ {l : Loop} {f : Forest} (rows : List ℕ) {i k n : ℕ} (low : i ≤ k) (e : drop i rows ≡ rows_ofs f) (r : RunTo l f i k n) where
+module _ {l : Loop} {f : Forest} {rows text : List ℕ} {k n : ℕ} (sp : Begins f rows text) (r : RunTo l f k n) where
   run-left : drop k rows ≡ rows_ofs r.others
   run-left =
-      let z : k ≡ i + (k - i) = omega arith in
-      ap (λ (m : ℕ). drop m rows) z ∙ sym (drop-drop (k - i) i rows) ∙ ap (drop (k - i)) (e ∙ ap rows_ofs r.is ∙ rows-beside r.first r.others)
-      ∙ drop_at (rows_ofs r.first) (rows_ofs r.others) (k - i) (length-rowss r.first ∙ sym r.rows_are)
+      ap (drop k) (sp.rows_are ∙ ap rows_ofs r.is ∙ rows-beside r.first r.others)
+      ∙ drop_at (rows_ofs r.first) (rows_ofs r.others) k (length-rowss r.first ∙ sym r.rows_are)
 
-  pub run_on : k < length rows → length rows < cap → length (texts_of f) < cap → Onward l f rows i k n
+  pub run_on : k < length rows → length rows < cap → length text < cap → Onward l f rows k n
   unfolding beside all_steady size text_of
   run_on h few short =
       let ld = length-drop k rows in
@@ -98,6 +102,7 @@ module _ {l : Loop} {f : Forest} (rows : List ℕ) {i k n : ℕ} (low : i ≤ k)
       let is : f ≡ beside r.first (more t g) = r.is ∙ ap (beside r.first) x.1.1 in
       let lt = ap length (ap texts_of is ∙ texts-beside r.first (more t g)) ∙ length-append (texts_of r.first) (texts_of (more t g)) in
       let lm = length-append (text_of t) (texts_of g) in
+      let le = ap length sp.text_is ∙ length-append (texts_of f) sp.rest in
       let q = r.text_is in
       let p = r.rows_are in
       let a = ahead_of rows k t g (run-left ∙ ap rows_ofs x.1.1) few (omega arith) in
@@ -131,9 +136,6 @@ module _ {l : Loop} {f : Forest} (rows : List ℕ) {i k n : ℕ} (low : i ≤ k)
 module _ (rows text : List ℕ) (i j : ℕ) {f : Forest} (sp : SpellsAll f (drop i rows) (drop j text)) where
   pub texts-short : length text < cap → length (texts_of f) < cap
   texts-short short = omega (arith, ap length sp.text_is, length-drop j text)
-
-  pub steady-given : i ≤ length rows → length rows < cap → length text < cap → SteadyGiven rows i
-  steady-given low few short = record { low = low; few = few; forest = f; rows_are = sp.rows_are; short = texts-short short }
 
   module _ {l : Loop} {r : Span} (s : SteadyRun l f r) where
     apart : SpellsAll (beside s.first s.others) (drop i rows) (drop j text)
@@ -178,13 +180,6 @@ module _ (rows text : List ℕ) (i j : ℕ) {f : Forest} (sp : SpellsAll f (drop
 
 -- ---- blank groups
 
--- of the elements f the rest is left from row byte i on, and the answer for f is the answer for the rest
-pub record BlankLeft (rows : List ℕ) (i : ℕ) (f : Forest) : Type 0 where
-  pub rest : Forest
-  pub rows_are : drop i rows ≡ rows_ofs rest
-  pub sound : Sounds rest
-  pub same_answer : all_blank f ≡ all_blank rest
-
 no_node : (k j : ℕ) → is_node j ≡ false → eqb k j ≡ true → is_node k ≡ false
 no_node k j h e = ap is_node (eqb-true k j e) ∙ h
 
@@ -194,48 +189,14 @@ blank-no-node k =
     (one-so (eqb k TokenLineBreak) _ (no_node k TokenLineBreak refl)
     (one-so (eqb k TokenLBrace) _ (no_node k TokenLBrace refl) (no_node k TokenRBrace refl)))
 
--- a blank element has one row
-blank-size : (t : Tree) → Sound t → is_blank (kind_of t) ≡ true → size t ≡ 1
-unfolding Sound size
-blank-size (token k s) so e = refl
-blank-size (node k f) so e = absurd (subst T (blank-no-node k e) so.0)
+-- a group is blank where every kind in it is
+blank-kinds : (f : Forest) → all_kinds is_blank f ≡ all_blank f
+unfolding all_kinds all_blank
+blank-kinds none = refl
+blank-kinds (more t f) = ap (λ (b : Bool). is_blank (kind_of t) && b) (blank-kinds f)
 
-pub blank-start : {f : Forest} {rows text : List ℕ} → SpellsAll f rows text → BlankLeft rows 0 f
-blank-start {f} sp = record { rest = f; rows_are = sp.rows_are; sound = sp.sound; same_answer = refl }
-
-module _ {rows : List ℕ} {i : ℕ} {f : Forest} (b : BlankLeft rows i f) where
-  pub blank-end : length rows ≤ i → all_blank f ≡ true
-  unfolding all_blank
-  blank-end h = b.same_answer ∙ ap all_blank (no-left b.rest b.rows_are (simp length-drop (omega arith)))
-
-  -- the element at i
-  module _ (h : i < length rows) where
-    blank-here : (t : Tree) × ((g : Forest) × (b.rest ≡ more t g))
-    blank-here = left b.rest b.rows_are (simp length-drop (omega arith))
-
-    blank-kind : get_or rows i 0 ≡ kind_of blank-here.0
-    unfolding rows_of
-    blank-kind = kind-here rows i blank-here.0 (rows_ofs blank-here.1.0) (b.rows_are ∙ ap rows_ofs blank-here.1.1)
-
-    blank-more : all_blank f ≡ (is_blank (get_or rows i 0) && all_blank blank-here.1.0)
-    unfolding all_blank
-    blank-more =
-        b.same_answer ∙ ap all_blank blank-here.1.1 ∙ ap (λ (k : ℕ). is_blank k && all_blank blank-here.1.0) (sym blank-kind)
-
-    pub blank-stop : is_blank (get_or rows i 0) ≡ false → all_blank f ≡ false
-    blank-stop e = blank-more ∙ ap (λ (x : Bool). x && all_blank blank-here.1.0) e
-
-    pub blank-next : is_blank (get_or rows i 0) ≡ true → BlankLeft rows (i + 8) f
-    unfolding rows_of Sound
-    blank-next e =
-        let t = blank-here.0 in
-        let g = blank-here.1.0 in
-        let so : Sounds (more t g) = subst Sounds blank-here.1.1 b.sound in
-        let one = blank-size t so.0 (ap is_blank (sym blank-kind) ∙ e) in
-        let eight : length (rows_of t) ≡ 8 = length-rows t ∙ ap (λ (n : ℕ). 8 * n) one in
-        record {
-          rest = g;
-          rows_are = sym (drop-drop 8 i rows) ∙ ap (drop 8) (b.rows_are ∙ ap rows_ofs blank-here.1.1) ∙ drop_at (rows_of t) (rows_ofs g) 8 eight;
-          sound = so.1;
-          same_answer = blank-more ∙ ap (λ (x : Bool). x && all_blank g) e;
-        }
+pub blank-answer :
+    (r : Bool) (f : Forest) {rows text : List ℕ} → MatchBool r (EachRow is_blank true rows) (SomeRow is_blank false rows) → Begins f rows text
+    → r ≡ all_blank f
+blank-answer true f h sp = sym (sym (blank-kinds f) ∙ kinds-all is_blank blank-no-node f sp.rows_are sp.sound h)
+blank-answer false f h sp = sym (sym (blank-kinds f) ∙ kinds-not is_blank blank-no-node f sp.rows_are sp.sound h)

@@ -1,4 +1,3 @@
 pub mod Given
-pub mod Marks
 pub mod Steady
 pub mod FirstChild

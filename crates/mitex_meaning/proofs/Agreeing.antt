@@ -1,24 +1,28 @@
 -- Laws of answers that agree with outcomes: how agreement follows `after`, `closing`, `and_then` and `shift`.
 use mathlib.Core.Path.{◌≡◌, refl, sym, ap, subst, ◌∙◌}
 use mathlib.Core.Bool.{Bool}
-use mathlib.Core.List.{List, []}
+use mathlib.Core.List.{List}
 use Prim.Native.Nat.{ℕ, ◌+◌, ◌≤◌, ◌<◌}
 use native.Mathlib.Omega.{arith}
 use lib.ListN.{length}
 use Rattle.text.specs.Writing.{cap, Wrote}
-use Rattle.text.proofs.Writing.{wrote_then, wrote-low, wrote-nil}
+use Rattle.refusals.specs.Refusals.{refusal_number}
+use Rattle.refusals.specs.declared.Reason.{Reason}
+use Rattle.refusals.specs.declared.Reason.TheVariants.{NoMode, BadRules, BadLayout, TooDeep, BadShape, NoFit, Misplaced, UnlikeEnds, NoCommand, NoEnvironment, NoList, NoArgument, BadColumn, LongLabel, TooShort, OutOfPlace}
+use Rattle.refusals.specs.declared.Refusal.{Refusal}
+use Rattle.text.specs.declared.output.Output.{Output}
+use Rattle.text.proofs.Writing.{wrote_then, wrote-low}
+use Rattle.std.specs.Prelude.{Err}
+use Rattle.std.proofs.Common.{lit<}
 use Rattle.mitex_meaning.specs.Outcome.{Carry, Outcome, and_then, after, closing, shift, label_most}
 use Rattle.mitex_meaning.specs.Outcome.Outcome.{refused, done}
-use Rattle.mitex_meaning.specs.State.{label_of, carry_of, state_of}
-use Rattle.mitex_meaning.specs.Contract.{place_of, Agrees, reached_at, halted_with, walked_of, Closes, went_with, refused_with, Takes}
-use Rattle.mitex_meaning.specs.declared.Place.{Place}
+use Rattle.mitex_meaning.specs.State.{carry_of}
+use Rattle.mitex_meaning.specs.Contract.{Place, place_of, Agrees, went_with, refused_with, walked_by, Takes}
 use Rattle.mitex_meaning.specs.Contract.Agrees.{declines, accepts}
 use Rattle.mitex_meaning.specs.Environments.{taken, dropped, take_label}
 use Rattle.mitex_meaning.specs.declared.LaTeXMode.{LaTeXMode}
-use Rattle.mitex_meaning.specs.declared.LaTeXEnv.{LaTeXEnv}
 use Rattle.mitex_meaning.specs.declared.Converter.{Converter}
-use Rattle.mitex_meaning.specs.declared.Progress.{Progress}
-use Rattle.mitex_meaning.specs.declared.Walked.{Walked}
+use Rattle.mitex_meaning.specs.Contract.{Walked}
 
 pub agrees-as :
     {o o' : Outcome} {a : Walked} {x : Place} {row at : ℕ} {out out' : List ℕ} → o ≡ o' → Agrees a x row at out out' o'
@@ -65,87 +69,81 @@ module _ {row at at₁ : ℕ} {out out₁ out₂ w : List ℕ} {a : Walked} {x :
   agrees_after h wr (declines g p q) = declines g p q
   agrees_after h wr (accepts u ex ec l v) = accepts u ex ec l (wrote_then h wr v)
 
--- ---- what follows elements
+-- ---- what a walk that was lent the converter answers
 
-module _ {r : Progress} {out : List ℕ} where
-  pub closes-refused : (w : List ℕ) → (r.refusal ≡ 0 → ⊥) → Closes r w out r out
-  closes-refused w z =
-      record {
-        refused_on = λ h. (refl, refl);
-        accepted = λ h. h;
-        flag_so = λ h. refl;
-        held_so = λ h. refl;
-        len_so = λ h. refl;
-        written = λ h. absurd (z h);
-      }
+-- no refusal has the number 0
+pub number-some : (e : Reason) → 0 < refusal_number e
+number-some e = elim e as (λ z. 0 < refusal_number z) [
+  | NoMode ↦ lit< tt
+  | BadRules ↦ lit< tt
+  | BadLayout ↦ lit< tt
+  | TooDeep ↦ lit< tt
+  | BadShape ↦ lit< tt
+  | NoFit ↦ lit< tt
+  | Misplaced ↦ lit< tt
+  | UnlikeEnds ↦ lit< tt
+  | NoCommand ↦ lit< tt
+  | NoEnvironment ↦ lit< tt
+  | NoList ↦ lit< tt
+  | NoArgument ↦ lit< tt
+  | BadColumn ↦ lit< tt
+  | LongLabel ↦ lit< tt
+  | TooShort ↦ lit< tt
+  | OutOfPlace ↦ lit< tt
+]
 
-  -- nothing is written
-  pub closes-nothing : {w : List ℕ} → w ≡ [] → (r.refusal ≡ 0 → r.at ≤ cap) → Closes r w out r out
-  closes-nothing {w} e h =
-      record {
-        refused_on = λ z. (refl, refl);
-        accepted = λ z. z;
-        flag_so = λ z. refl;
-        held_so = λ z. refl;
-        len_so = λ z. refl;
-        written = λ z. subst (λ (v : List ℕ). Wrote r.at out v r.at out) (sym e) (wrote-nil r.at out (h z));
-      }
+module _ {row at : ℕ} {out out₁ out₂ : List ℕ} {c d : Converter} {x y : Place} {p q : ℕ} (e : Refusal) where
+  -- a refusal is handed on, whatever stands then
+  pub agrees-stops :
+      {o : Outcome} → Agrees (walked_by c p (Err e)) x row at out out₁ o → Agrees (walked_by d q (Err e)) y row at out out₂ o
+  agrees-stops (declines {r = k} g u v) = declines {r = k} g u v
+  agrees-stops (accepts u ex ec l v) = let h = number-some e.reason in absurd (omega arith)
 
-  pub closes-reached :
-      {w : List ℕ} {p : ℕ} {q : Progress} {out' : List ℕ} → r.refusal ≡ 0 → Wrote r.at out w p out'
-      → q ≡ reached_at p r.flag r.held r.len → Closes r w out q out'
-  closes-reached {w} {p} {q} {out'} z wr e =
-      record {
-        refused_on = λ h. absurd (h z);
-        accepted = λ h. ap (λ (a : Progress). a.refusal) e;
-        flag_so = λ h. ap (λ (a : Progress). a.flag) e;
-        held_so = λ h. ap (λ (a : Progress). a.held) e;
-        len_so = λ h. ap (λ (a : Progress). a.len) e;
-        written = λ h. subst (λ (n : ℕ). Wrote r.at out w n out') (sym (ap (λ (a : Progress). a.at) e)) wr;
-      }
+  -- and so it is where a text would follow
+  pub agrees-stops-closing :
+      {o : Outcome} (w : List ℕ) → Agrees (walked_by c p (Err e)) x row at out out₁ o → Agrees (walked_by d q (Err e)) y row at out out₂ (closing w o)
+  agrees-stops-closing w (declines {r = k} g u v) = declines {r = k} g u v
+  agrees-stops-closing w (accepts u ex ec l v) = let h = number-some e.reason in absurd (omega arith)
 
-  -- the same text by another name
-  pub closes_as : {w v : List ℕ} {q : Progress} {out' : List ℕ} → v ≡ w → Closes r w out q out' → Closes r v out q out'
-  closes_as {w} {v} {q} {out'} e m = subst (λ (u : List ℕ). Closes r u out q out') (sym e) m
+  -- or the end of an environment
+  pub agrees-stops-taking :
+      {o : Outcome} (list : Bool) (m : LaTeXMode) → Agrees (walked_by c p (Err e)) x row at out out₁ o
+      → Agrees (walked_by d q (Err e)) y row at out out₂ (take_label list m o)
+  agrees-stops-taking list m (declines {r = k} g u v) = declines {r = k} g u v
+  agrees-stops-taking list m (accepts u ex ec l v) = let h = number-some e.reason in absurd (omega arith)
 
-module _ {row at : ℕ} {out out' : List ℕ} {r : Progress} {m : LaTeXMode} {e : LaTeXEnv} {n : ℕ} (l : List ℕ) where
-  -- elements were walked over, with the label's array as l
-  pub agrees-reached :
-      {c : Carry} {w : List ℕ} {p k : ℕ} {b h : Bool} → r ≡ reached_at p b h k → record { flag = b; label = label_of h k l } ≡ c → k ≤ label_most
-      → Wrote at out w p out' → Agrees (walked_of m e n l r) (record { mode = m; env = e; indent = n }) row at out out' (done c w)
-  agrees-reached {k = k} {b = b} {h = h} g ec s wr = agrees-done (state_of m e n b h k l) (ap (walked_of m e n l) g) refl ec s wr
+-- an element is refused at its own row
+pub agrees-halts :
+    {row at : ℕ} {out out₁ : List ℕ} {c : Converter} {x : Place} {p n : ℕ} (e : Refusal) → refusal_number e.reason ≡ n → e.row ≡ row
+    → Agrees (walked_by c p (Err e)) x row at out out₁ (refused n 0)
+agrees-halts {row} {n = n} e h r =
+    declines {r = 0} (subst (λ (k : ℕ). 0 < k) h (number-some e.reason)) h (r ∙ (let z : row ≡ row + 0 = omega arith in z))
 
-  -- the element was refused at its own row
-  pub agrees-halted :
-      {k : ℕ} → 0 < k → r ≡ halted_with k row → Agrees (walked_of m e n l r) (record { mode = m; env = e; indent = n }) row at out out' (refused k 0)
-  agrees-halted h g = agrees-here h (ap (walked_of m e n l) g)
-
-module _ {row at : ℕ} {out out₁ out₂ w : List ℕ} {r q : Progress} {l : List ℕ} {m m' : LaTeXMode} {e e' : LaTeXEnv} {n n' : ℕ} where
-  -- elements walked in another place, and a text after them: the caller stands where it stood
+module _ {row at : ℕ} {out out₁ : List ℕ} {c d : Converter} {x : Place} {p : ℕ} where
+  -- a text after elements that were walked over in whatever place
   pub agrees-closes :
-      {o : Outcome} → length out ≤ cap
-      → Agrees (walked_of m' e' n' l r) (record { mode = m'; env = e'; indent = n' }) row at out out₁ o → Closes r w out₁ q out₂
-      → Agrees (walked_of m e n l q) (record { mode = m; env = e; indent = n }) row at out out₂ (closing w o)
-  agrees-closes h (declines {n = k} {r = i} g p s) c =
-      let z : r.refusal ≡ 0 → ⊥ = λ u. omega arith in
-      let same = (c.refused_on z).0 in
-      declines {r = i} g (ap (λ (b : Progress). b.refusal) same ∙ p) (ap (λ (b : Progress). b.row) same ∙ s)
-  agrees-closes h (accepts u ex ec k v) c =
-      accepts (c.accepted u) refl
-      ((λ i. record { flag = c.flag_so u i; label = label_of (c.held_so u i) (c.len_so u i) l }) ∙ ec)
-      (subst (λ (z : ℕ). z ≤ label_most) (sym (c.len_so u)) k) (wrote_then h v (c.written u))
+      {out₂ w : List ℕ} {q : ℕ} {o : Outcome} → length out ≤ cap → Agrees (went_with c p) x row at out out₁ o → Wrote p out₁ w q out₂
+      → carry_of d ≡ carry_of c → d.label_len ≡ c.label_len → Agrees (went_with d q) (place_of d) row at out out₂ (closing w o)
+  agrees-closes h (declines g u v) wr ed el = absurd (omega arith)
+  agrees-closes h (accepts u ex ec l v) wr ed el =
+      accepts refl refl (ed ∙ ec) (subst (λ (k : ℕ). k ≤ label_most) (sym el) l) (wrote_then h v wr)
 
-module _ {row at : ℕ} {out out₁ out₂ : List ℕ} {a r : Walked} {x : Place} (list : Bool) (m : LaTeXMode) where
+  -- elements that were walked over in another place: the caller stands where it stood
+  pub agrees-placed :
+      {o : Outcome} → Agrees (went_with c p) x row at out out₁ o → carry_of d ≡ carry_of c → d.label_len ≡ c.label_len
+      → Agrees (went_with d p) (place_of d) row at out out₁ o
+  agrees-placed (declines g u v) ed el = absurd (omega arith)
+  agrees-placed (accepts u ex ec l v) ed el = accepts refl refl (ed ∙ ec) (subst (λ (k : ℕ). k ≤ label_most) (sym el) l) v
+
+module _ {row at : ℕ} {out : List ℕ} {c d : Converter} {o o2 : Output} {x : Place} (list : Bool) (m : LaTeXMode) where
   -- an environment takes the held label
   pub agrees-takes :
-      {o : Outcome} → length out ≤ cap → Agrees a x row at out out₁ o → Takes a list m out₁ r out₂ → Agrees r x row at out out₂ (take_label list m o)
-  agrees-takes h (declines {n} {r = k} g p q) t =
-      let z : a.refusal ≡ 0 → ⊥ = λ e. omega arith in
-      let same = (t.refused_on z).0 in
-      declines {r = k} g (ap (λ (b : Walked). b.refusal) same ∙ p) (ap (λ (b : Walked). b.row) same ∙ q)
-  agrees-takes h (accepts {c} {w} u ex ec l v) t =
-      accepts (t.accepted u) (t.placed_so u ∙ ex) (t.carry u ∙ ap (dropped list m) ec) (t.short u)
-      (wrote_then h v (subst (λ (y : Carry). Wrote a.at out₁ (taken list m y.label) r.at out₂) ec (t.written u)))
+      {w : Outcome} → length out ≤ cap → Agrees (went_with c o.at) x row at out o.buffer.now w → Takes c o list m d o2
+      → Agrees (went_with d o2.at) x row at out o2.buffer.now (take_label list m w)
+  agrees-takes h (declines g u v) t = absurd (omega arith)
+  agrees-takes h (accepts u ex ec l v) t =
+      accepts refl (t.placed_so ∙ ex) (t.carry ∙ ap (dropped list m) ec) (t.short l)
+      (wrote_then h v (subst (λ (y : Carry). Wrote o.at o.buffer.now (taken list m y.label) o2.at o2.buffer.now) ec t.written.wrote))
 
 module _ {row at : ℕ} {out out₁ : List ℕ} {a : Walked} {x : Place} (k : Carry → Outcome) where
   -- an element was converted, and what follows it goes on from there, in whatever place

@@ -1,20 +1,33 @@
 -- What a walk promises: its answer agrees with the outcome that the definitions give.
-use Rattle.std.specs.Prelude.{◌≡◌, Bool, false, ℕ, ◌+◌, ◌≤◌, ◌<◌, List}
+use Rattle.std.specs.Prelude.{◌≡◌, Bool, ℕ, ◌+◌, ◌≤◌, ◌<◌, List, Result, Ok, Err}
+use Rattle.refusals.specs.Refusals.{refusal_number}
 use Rattle.text.specs.Writing.{Wrote}
+use Rattle.text.specs.Outputs.{Puts}
 use Rattle.mitex_meaning.specs.Outcome.{Carry, Outcome, label_most}
 use Rattle.mitex_meaning.specs.Outcome.Outcome.{refused, done}
-use Rattle.mitex_meaning.specs.State.{carry_of, state_of}
+use Rattle.mitex_meaning.specs.State.{carry_of}
 use Rattle.mitex_meaning.specs.Environments.{taken, dropped}
+use Rattle.refusals.specs.declared.Refusal.{Refusal}
+use Rattle.text.specs.declared.output.Output.{Output}
 use Rattle.mitex_meaning.specs.declared.LaTeXMode.{LaTeXMode}
 use Rattle.mitex_meaning.specs.declared.LaTeXEnv.{LaTeXEnv}
 use Rattle.mitex_meaning.specs.declared.Converter.{Converter}
-use Rattle.mitex_meaning.specs.declared.Place.{Place}
-use Rattle.mitex_meaning.specs.declared.Progress.{Progress}
-use Rattle.mitex_meaning.specs.declared.Walked.{Walked}
 
--- mode, environment and indent
+-- where an element stands, which goes down and does not come back: mode, environment and indent
+pub record Place : Type 0 where
+  pub mode : LaTeXMode
+  pub env : LaTeXEnv
+  pub indent : ℕ
+
 abbrev pub place_of : Converter → Place
 place_of c = record { mode = c.mode; env = c.env; indent = c.indent }
+
+-- what a walk comes to: the converter and the next place, with refusal 0; or a refusal and its row
+pub record Walked : Type 0 where
+  pub converter : Converter
+  pub at : ℕ
+  pub refusal : ℕ
+  pub row : ℕ
 
 -- An answer agrees with an outcome: it refuses as the outcome does, at a row counted from `row`; or it gives the converter back in the
 -- place x with the outcome's carry and a label within the limit, and what `out` then holds is what it held with the text written from
@@ -32,44 +45,14 @@ went_with c at = record { converter = c; at = at; refusal = 0; row = 0 }
 abbrev pub refused_with : Converter → ℕ → ℕ → Walked
 refused_with c n row = record { converter = c; at = 0; refusal = n; row = row }
 
-pub record Went (c : Converter) (at : ℕ) (a : Walked) : Type 0 where
-  pub gives : a.converter ≡ c
-  pub next : a.at ≡ at
-  pub well : a.refusal ≡ 0
+-- the answer of a walk that was lent the converter: where it stands now, or the refusal
+abbrev pub walked_by : Converter → ℕ → Result (Unit {0}) Refusal → Walked
+walked_by c at (Ok u) = went_with c at
+walked_by c at (Err e) = record { converter = c; at = at; refusal = refusal_number e.reason; row = e.row }
 
--- elements that were walked over, and one that was refused
-abbrev pub reached_at : ℕ → Bool → Bool → ℕ → Progress
-reached_at at b h k = record { at = at; row = 0; len = k; refusal = 0; flag = b; held = h }
-
-abbrev pub halted_with : ℕ → ℕ → Progress
-halted_with n row = record { at = 0; row = row; len = 0; refusal = n; flag = false; held = false }
-
--- a Progress as the answer of a walk in that mode, environment and indent, with the label's array l
-abbrev pub walked_of : LaTeXMode → LaTeXEnv → ℕ → List ℕ → Progress → Walked
-walked_of m e n l r =
-    record { converter = state_of m e n r.flag r.held r.len l; at = r.at; refusal = r.refusal; row = r.row }
-
--- the state and the answer by the place
-abbrev pub state_in : Place → Bool → Bool → ℕ → List ℕ → Converter
-state_in x b h k l = state_of x.mode x.env x.indent b h k l
-
-abbrev pub walked_in : Place → List ℕ → Progress → Walked
-walked_in x l r = walked_of x.mode x.env x.indent l r
-
--- what follows elements: a refusal is handed on; else w is written, and the carry stays
-pub record Closes (r : Progress) (w out : List ℕ) (q : Progress) (out' : List ℕ) : Type 0 where
-  pub refused_on : (r.refusal ≡ 0 → ⊥) → (q ≡ r) × (out' ≡ out)
-  pub accepted : r.refusal ≡ 0 → q.refusal ≡ 0
-  pub flag_so : r.refusal ≡ 0 → q.flag ≡ r.flag
-  pub held_so : r.refusal ≡ 0 → q.held ≡ r.held
-  pub len_so : r.refusal ≡ 0 → q.len ≡ r.len
-  pub written : r.refusal ≡ 0 → Wrote r.at out w q.at out'
-
--- what ends an environment: a refusal is handed on; else the held label is written and dropped where the environment takes it
-pub record Takes (a : Walked) (list : Bool) (m : LaTeXMode) (out : List ℕ) (r : Walked) (out' : List ℕ) : Type 0 where
-  pub refused_on : (a.refusal ≡ 0 → ⊥) → (r ≡ a) × (out' ≡ out)
-  pub accepted : a.refusal ≡ 0 → r.refusal ≡ 0
-  pub placed_so : a.refusal ≡ 0 → place_of r.converter ≡ place_of a.converter
-  pub carry : a.refusal ≡ 0 → carry_of r.converter ≡ dropped list m (carry_of a.converter)
-  pub short : a.refusal ≡ 0 → r.converter.label_len ≤ label_most
-  pub written : a.refusal ≡ 0 → Wrote a.at out (taken list m (carry_of a.converter).label) r.at out'
+-- what ends an environment, on a lent converter: the held label is written and dropped where the environment takes it, and the rest stays
+pub record Takes (c : Converter) (o : Output) (list : Bool) (m : LaTeXMode) (c2 : Converter) (o2 : Output) : Type 0 where
+  pub placed_so : place_of c2 ≡ place_of c
+  pub carry : carry_of c2 ≡ dropped list m (carry_of c)
+  pub short : c.label_len ≤ label_most → c2.label_len ≤ label_most
+  pub written : Puts o (taken list m (carry_of c).label) o2

@@ -1,7 +1,7 @@
 -- A table whose last `\\` was left out, and the same table with it.
 use Rattle.std.specs.Prelude.{Bool, List, ℕ}
 use Rattle.mitex_syntax.specs.Syntax.{ItemNewLine}
-use Rattle.mitex_syntax.specs.Tree.{Tree, Forest}
+use Rattle.mitex_syntax.specs.Tree.{Forest}
 use Rattle.mitex_syntax.specs.Tree.Tree.{token}
 use Rattle.mitex_syntax.specs.Tree.Forest.{none, more}
 use Rattle.mitex_meaning.specs.Children.{act_of, next_exterior}

@@ -19,19 +19,6 @@ context_of rules c = record { rules = rules; mode = c.mode; env = c.env; indent 
 abbrev pub carry_of : Converter → Carry
 carry_of c = record { flag = c.skip_next_space; label = label_of c.label_held c.label_len c.label }
 
--- the state in its parts: mode, environment and indent; the flag; whether a label is held, how many bytes it has, and its array
-abbrev pub state_of : LaTeXMode → LaTeXEnv → ℕ → Bool → Bool → ℕ → List ℕ → Converter
-state_of m e n b h k l =
-    record {
-      mode = m;
-      env = e;
-      indent = n;
-      label = l;
-      label_len = k;
-      label_held = h;
-      skip_next_space = b;
-    }
-
 -- ---- as in the Rust
 
 -- `Converter::new`

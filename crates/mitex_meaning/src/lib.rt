@@ -4,18 +4,16 @@
 ghost use Rattle.std.specs.Prelude.{◌≡◌, ◌+◌, ◌<◌, ◌≤◌, ◌^◌, length};
 ghost use Rattle.mitex_meaning.specs.Outcome.{label_most, step_of};
 ghost use Rattle.mitex_meaning.specs.State.{new_of, opening_of, with_mode, entered_env, exited_env, with_flag, with_label, without_label};
-ghost use Rattle.text.specs.Writing.{cap};
-ghost use Rattle.mitex_meaning.specs.Contract.{reached_at, halted_with, Closes, went_with};
 
 // The mode of the text that is written.
-#[derive(Clone, Copy)]
+#[derive(Clone, Copy, PartialEq, Eq, Debug)]
 pub enum LaTeXMode {
     Text,
     Math,
 }
 
 // The environment around an element.
-#[derive(Clone, Copy)]
+#[derive(Clone, Copy, PartialEq, Eq, Debug)]
 pub enum LaTeXEnv {
     // Text mode
     None,
@@ -49,15 +47,16 @@ pub struct Converter {
 }
 
 // How far an attachment like `x_1^2` has come: nothing before the split, a base before it, or past the split.
-#[derive(Clone, Copy)]
+#[derive(Clone, Copy, PartialEq, Eq, Debug)]
 pub enum Attach {
     Bare,
     Based,
     Split,
 }
 
-// The loops of the converter over the children of an element, each with its own state.
-#[derive(Clone, Copy)]
+// The loops of the converter over the children of an element, each with its own state. Loops and acts are values, and no functions of
+// their own, because the definitions say of these values what each loop does (`act_of`, `next_loop`, `loop_end`).
+#[derive(Clone, Copy, PartialEq, Eq, Debug)]
 pub enum Loop {
     // each child is converted
     Plain,
@@ -88,7 +87,7 @@ pub enum Loop {
 }
 
 // What a loop does with a child.
-#[derive(Clone, Copy)]
+#[derive(Clone, Copy, PartialEq, Eq, Debug)]
 pub enum Act {
     // passed over
     Skip,
@@ -123,7 +122,7 @@ pub enum Act {
 }
 
 // The arms of the converter's match on the kind of an element.
-#[derive(Clone, Copy)]
+#[derive(Clone, Copy, PartialEq, Eq, Debug)]
 pub enum Element {
     // refused: TokenError, and ItemBegin or ItemEnd outside of an environment
     Unexpected,
@@ -141,7 +140,7 @@ pub enum Element {
 }
 
 // The commands that have an arm of their own, and all others.
-#[derive(Clone, Copy)]
+#[derive(Clone, Copy, PartialEq, Eq, Debug)]
 pub enum Command {
     Item,
     Label,
@@ -154,7 +153,7 @@ pub enum Command {
 }
 
 // How a command takes its arguments.
-#[derive(Clone, Copy)]
+#[derive(Clone, Copy, PartialEq, Eq, Debug)]
 pub enum Arguments {
     NoArguments,
     GreedyArgument,
@@ -162,83 +161,13 @@ pub enum Arguments {
     TextArguments,
 }
 
-// A part of a node's children: bytes i to e of their rows, j to u of their text.
-#[derive(Clone, Copy)]
-pub struct Part {
-    pub i: usize,
-    pub e: usize,
-    pub j: usize,
-    pub u: usize,
-}
-
-// The children of the node that a Greedy command takes.
-#[derive(Clone, Copy)]
-pub enum GreedyPart {
-    NoGreedy,
-    GreedyAt(Part),
-}
-
-// A colour's model, bytes from `from` to `to` of the text while it is held, and the elements after it.
-#[derive(Clone, Copy)]
-pub struct ModelPart {
-    pub held: bool,
-    pub from: usize,
-    pub to: usize,
-    pub rest: Part,
-}
-
-// A figure's last caption: its argument, or how many rows below the first child a caption without one stands.
-#[derive(Clone, Copy)]
-pub enum CaptionPart {
-    NoCaption,
-    BareCaption(usize),
-    CaptionAt(Part),
-}
-
-// Where an element stands: what goes down and does not come back.
-#[derive(Clone, Copy)]
-pub struct Place {
-    pub mode: LaTeXMode,
-    pub env: LaTeXEnv,
-    pub indent: usize,
-}
-
-// How far a walk over elements has come: the next place, the flag, and whether a label is held and of how many bytes, with refusal 0; or
-// a refusal and its row. The label's bytes are lent beside it.
-#[derive(Clone, Copy)]
-pub struct Progress {
-    pub at: usize,
-    pub row: usize,
-    pub len: usize,
-    pub refusal: u8,
-    pub flag: bool,
-    pub held: bool,
-}
-
-// What a walk over a block answers: the converter and the next place, with refusal 0; or a refusal and its row.
-#[derive(Clone, Copy)]
-pub struct Walked {
-    pub converter: Converter,
-    pub at: usize,
-    pub refusal: u8,
-    pub row: usize,
-}
-
 // By how much an environment indents.
 pub fn step_of(env: LaTeXEnv) -> usize
     ensures { result ≡ step_of env }
 {
     match env {
-        LaTeXEnv::None => 0,
-        LaTeXEnv::Figure => 0,
-        LaTeXEnv::Table => 0,
-        LaTeXEnv::Itemize => 2,
-        LaTeXEnv::Enumerate => 2,
-        LaTeXEnv::Math => 0,
-        LaTeXEnv::Matrix => 0,
-        LaTeXEnv::Cases => 0,
-        LaTeXEnv::SubStack => 0,
-        LaTeXEnv::MathCurlyGroup => 0,
+        LaTeXEnv::Itemize | LaTeXEnv::Enumerate => 2,
+        _ => 0,
     }
 }
 
@@ -246,64 +175,18 @@ impl Converter {
     pub fn new(mode: LaTeXMode) -> Converter
         ensures { result ≡ new_of mode }
     {
-        let env = LaTeXEnv::None;
-        let label = [0u8; LABEL_MOST];
         Converter {
             mode,
-            env,
+            env: LaTeXEnv::None,
             indent: 0,
-            label,
+            label: [0; LABEL_MOST],
             label_len: 0,
             label_held: false,
             skip_next_space: true,
         }
     }
 
-    // The converter in a mode; the caller keeps the mode before.
-    pub fn entered_mode(self, context: LaTeXMode) -> Converter
-        ensures { result ≡ with_mode context self }
-    {
-        Converter {
-            mode: context,
-            ..self
-        }
-    }
-
-    // The converter back in the mode before.
-    pub fn exited_mode(self, prev: LaTeXMode) -> Converter
-        ensures { result ≡ with_mode prev self }
-    {
-        Converter { mode: prev, ..self }
-    }
-
-    // The converter in an environment; a list is two further in.
-    pub fn entered_env(self, context: LaTeXEnv) -> Converter
-        requires { self.indent + step_of context < 2 ^ 64 }
-        ensures { result ≡ entered_env context self }
-    {
-        let step = step_of(context);
-        Converter {
-            env: context,
-            indent: self.indent + step,
-            ..self
-        }
-    }
-
-    // The converter back in the environment before; the indent of a list is at least 2.
-    pub fn exited_env(self, prev: LaTeXEnv) -> Converter
-        requires { step_of self.env ≤ self.indent }
-        ensures { result ≡ exited_env prev self }
-    {
-        let was = self.env;
-        let step = step_of(was);
-        Converter {
-            env: prev,
-            indent: self.indent - step,
-            ..self
-        }
-    }
-
-    // In the Rust's form, on a lent converter: in a mode, and the mode before is returned.
+    // In a mode; the mode before is returned.
     pub fn enter_mode(&mut self, context: LaTeXMode) -> LaTeXMode
         ensures { (result ≡ self.old.mode) × (self.new ≡ with_mode context self.old) }
     {
@@ -312,29 +195,31 @@ impl Converter {
         prev
     }
 
-    // On a lent converter: back in the mode before.
+    // Back in the mode before.
     pub fn exit_mode(&mut self, prev: LaTeXMode)
         ensures { self.new ≡ with_mode prev self.old }
     {
         self.mode = prev;
     }
 
-    // On a lent converter: in an environment, and the environment before is returned.
+    // In an environment; a list is two further in. The environment before is returned.
     pub fn enter_env(&mut self, context: LaTeXEnv) -> LaTeXEnv
         requires { self.old.indent + step_of context < 2 ^ 64 }
         ensures { (result ≡ self.old.env) × (self.new ≡ entered_env context self.old) }
     {
         let prev = self.env;
-        *self = Converter::entered_env(*self, context);
+        self.indent += step_of(context);
+        self.env = context;
         prev
     }
 
-    // On a lent converter: back in the environment before; the indent of a list is at least 2.
+    // Back in the environment before; the indent of a list is at least 2.
     pub fn exit_env(&mut self, prev: LaTeXEnv)
         requires { step_of self.old.env ≤ self.old.indent }
         ensures { self.new ≡ exited_env prev self.old }
     {
-        *self = Converter::exited_env(*self, prev);
+        self.indent -= step_of(self.env);
+        self.env = prev;
     }
 
     // The flag set so.
@@ -371,80 +256,12 @@ impl Converter {
         ensures { result ≡ with_label s.now self }
     {
         let mut label = self.label;
-        let mut i = 0;
-        while i < s.len() {
-            label[i] = s[i];
-            i += 1;
-        }
+        label[..s.len()].copy_from_slice(s);
         Converter {
             label,
             label_len: s.len(),
             label_held: true,
             ..self
         }
-    }
-}
-
-// By how much what stands in an environment is further in than what follows it: the environment is entered and left on a converter
-// that this function lends. Its own parameters are plain, so that whoever calls it needs to know nothing of a loan.
-pub fn indent_in(mut c: Converter, context: LaTeXEnv) -> usize
-    requires { c.indent + step_of context < 2 ^ 64 }
-    ensures { result ≡ step_of context }
-{
-    let prev = c.enter_env(context);
-    let inside = c.indent;
-    c.exit_env(prev);
-    inside - c.indent
-}
-
-// Elements that were walked over.
-pub fn reach(at: usize, flag: bool, held: bool, len: usize) -> Progress
-    ensures { result ≡ reached_at at flag held len }
-{
-    Progress {
-        at,
-        row: 0,
-        len,
-        refusal: 0,
-        flag,
-        held,
-    }
-}
-
-// An element that is refused.
-pub fn halt(number: u8, row: usize) -> Progress
-    ensures { result ≡ halted_with number row }
-{
-    Progress {
-        at: 0,
-        row,
-        len: 0,
-        refusal: number,
-        flag: false,
-        held: false,
-    }
-}
-
-// What is written after elements, unless one was refused.
-pub fn close(out: &mut [u8], r: Progress, end: &[u8]) -> Progress
-    requires { (r.refusal ≡ 0 → r.at ≤ cap) × (length out.old ≤ cap) }
-    ensures { Closes r end.now out.old result out.new }
-{
-    if r.refusal != 0 {
-        return r;
-    }
-    let p = text::put(out, r.at, end);
-    reach(p, r.flag, r.held, r.len)
-}
-
-// A walk that went well.
-pub fn went(c: Converter, at: usize) -> Walked
-    ensures { result ≡ went_with c at }
-{
-    Walked {
-        converter: c,
-        at,
-        refusal: 0,
-        row: 0,
     }
 }

@@ -1,29 +1,32 @@
 -- Looking a name up. As names rise, those that come before a name are the first ones (`rank_of`), and only the next can be the
--- name itself (`get-rank`). Where a rule's row and texts stand in the file follows from `file-rules`: the file is what the
--- rules before, the rule and the rules after it are written as (`located`).
+-- name itself (`get-rank`). Where a rule's row and texts stand in the file follows row by row (`stands`, `located`).
 use mathlib.Core.Path.{◌≡◌, refl, sym, ap, subst, ◌∙◌}
-use mathlib.Core.Bool.{Bool, true, false, ◌&&◌, not, cond, true≢false, and-eq-true_iff}
-use mathlib.Core.Option.{Option}
+use mathlib.Core.Bool.{Bool, true, false, ◌&&◌, cond, true≢false, and-eq-true_iff}
+use mathlib.Core.Option.{Option, some-injective}
 use mathlib.Core.Option.Option.{none, some}
-use mathlib.Core.List.{List, [], ◌∷◌, ◌++◌, append_assoc}
+use mathlib.Core.List.{List, [], ◌∷◌, ◌++◌}
 use Prim.Native.Nat.{ℕ, zero, suc, ◌+◌, ◌*◌, ◌-◌, ◌≤◌, ◌<◌}
 use native.Mathlib.Omega.{arith}
-use lib.Dec.{leb, ltb, leb-suc-suc}
-use borrow.Author.Tests.{lt-ltb, le-ltb}
-use lib.ListN.{length, take, drop, get_or, length-append, length-take}
-use lib.Seq.{split_at, length-take-le, drop-append-add, drop-drop, drop_at, take-add, take_at, take-take, take-append_seam, drop-append_seam, get_or-take, get_or-drop}
-use Rattle.text.specs.Numbers.{Bytes, four, two_at}
+use Rattle.std.specs.Prelude.{Option as Maybe, Some, None, MatchOption, IsSomeAnd}
+use Rattle.std.specs.Borrow.{Bor}
+use lib.Dec.{eqb, ltb, leb-suc-suc}
+use borrow.Author.Tests.{ne_eqb, lt-ltb, le-ltb}
+use lib.ListN.{length, take, drop, get_or, length-append, length-take, length-drop}
+use lib.Seq.{length-take-le, drop-drop, take-add, take_at, take-take, drop-append_seam, get_or-take}
+use Rattle.std.proofs.lemmas.List.{drop-take}
+use Rattle.text.specs.Numbers.{two_at}
 use Rattle.text.specs.Compare.{same, precedes}
-use Rattle.text.proofs.Numbers.{two_at-drop}
+use Rattle.text.proofs.Writing.{part-rest}
 use Rattle.text.proofs.Compare.{by-test, same-differ, precedes-trans, precedes-not-same}
-use Rattle.mitex_spec.specs.Rules.{Rule, rule, get, cmd_most, as_cmd, as_env, alias_or, written_name}
-use Rattle.text.specs.Trailer.{file_most, start_of}
-use Rattle.mitex_spec.specs.RuleFile.{no_alias, rises_from, rises, rules_of, number_of_alias, alias_text, rule_text, rule_row, text_of_rules, rows_of_rules, file_of_rules}
-use Rattle.mitex_spec.specs.Index.{offsets_from, rule_no, rank_of, SomeRule}
-use Rattle.mitex_spec.specs.LookUp.{alias_of, rule_of, end_of, is_cmd, Finds}
-use Rattle.mitex_spec.specs.declared.Found.{Found}
-use Rattle.mitex_spec.specs.declared.Found.TheVariants.{Absent, Plain, Aliased}
-use Rattle.mitex_spec.proofs.RuleFile.{rule_row-reads, length-rows_of_rules, file-rules}
+use Rattle.mitex_spec.specs.Rules.{Rule, rule, get, alias_or, written_name}
+use Rattle.text.specs.Trailer.{file_most, start_of, count_of, text_area, row_area, ahead}
+use Rattle.text.proofs.Trailer.{length-text_area, ahead-some}
+use Rattle.mitex_spec.specs.RuleFile.{no_alias, rises_from, rises, length_of_name, alias_length, alias_size, rule_taken, rule_at}
+use Rattle.mitex_spec.specs.RuleFile.{rule_row_fits, rules_in, rules_of, number_of_alias, alias_text, rule_text}
+use Rattle.mitex_spec.specs.Index.{offsets_from, rule_row_at, rule_no, rank_of, SomeRule}
+use Rattle.mitex_spec.specs.LookUp.{lent, alias_of, rule_found, rule_of}
+use Rattle.mitex_spec.specs.declared.rules.Found.{Found}
+use Rattle.mitex_spec.proofs.RuleFile.{RuleRowFits, rule-row-says, alias_number, alias-text, no-rules, rising-some, rules-whole, rules-tested}
 use Rattle.mitex_spec.proofs.Firsts.{rank-cons}
 use Rattle.mitex_spec.proofs.Index.{length-offsets, rules-one}
 
@@ -125,68 +128,92 @@ module _ (rs : List Rule) (name : List ℕ) (k : ℕ) (up : rises rs ≡ true) (
 
 -- ---- where a rule stands
 
-text-append : (xs ys : List Rule) → text_of_rules (xs ++ ys) ≡ text_of_rules xs ++ text_of_rules ys
-unfolding text_of_rules
-text-append [] ys = refl
-text-append (r ∷ xs) ys = ap (λ l. rule_text r ++ l) (text-append xs ys) ∙ sym (append_assoc (rule_text r) (text_of_rules xs) (text_of_rules ys))
+-- the text of a row's rule is what the row takes
+text-takes : (rows text : List ℕ) → rule_text (rule_at rows text) ≡ take (rule_taken rows) text
+text-takes rows text =
+    ap (λ x. take (length_of_name rows) text ++ x) (alias-text (two_at 2 rows) (drop (length_of_name rows) text))
+    ∙ sym (take-add (length_of_name rows) (alias_length rows) text)
 
-rows_append : (xs ys : List Rule) → rows_of_rules (xs ++ ys) ≡ rows_of_rules xs ++ rows_of_rules ys
-unfolding rows_of_rules
-rows_append [] ys = refl
-rows_append (r ∷ xs) ys = ap (rule_row r) (rows_append xs ys)
+-- the rule of a number is that of its row, in the text from its offset on
+record Stands (rows text : List ℕ) (at : ℕ) (rs : List Rule) (k : ℕ) : Type 0 where
+  offset : ℕ
+  begins : get_or (offsets_from at rs) k 0 ≡ at + offset
+  is : rule_no rs k ≡ rule_at (drop (8 * k) rows) (drop offset text)
+  room : offset + rule_taken (drop (8 * k) rows) ≤ length text
 
-offsets-at : (rs : List Rule) (at k : ℕ) → k < length rs → get_or (offsets_from at rs) k 0 ≡ at + length (text_of_rules (take k rs))
-unfolding offsets_from text_of_rules
-offsets-at [] at k h = absurd (omega arith)
-offsets-at (r ∷ rs) at zero h = omega arith
-offsets-at (r ∷ rs) at (suc k) h =
-    let e = offsets-at rs (at + length (rule_text r)) k (omega arith) in
-    omega (arith, length-append (rule_text r) (text_of_rules (take k rs)))
+-- what the first row of some comes to, and the others
+record FirstAndOthers (n : ℕ) (rows text : List ℕ) (rs : List Rule) : Type 0 where
+  fits : RuleRowFits rows text
+  others : List Rule
+  reads : rules_in n (drop 8 rows) (drop (rule_taken rows) text) ≡ some others
+  is : rule_at rows text ∷ others ≡ rs
 
--- a rule among others, in a file: its row stands after the rows of those before it, its text after theirs
-module _ (before : List Rule) (r : Rule) (others : List Rule) (tail : List ℕ) where
-  abbrev all : List Rule
-  all = before ++ r ∷ others
+first-others : (n : ℕ) (rows text : List ℕ) (rs : List Rule) → rules_in (suc n) rows text ≡ some rs → FirstAndOthers n rows text rs
+unfolding rules_in
+first-others n rows text rs e =
+    let o = rules_in n (drop 8 rows) (drop (rule_taken rows) text) in
+    by-test (rule_row_fits rows text)
+    (λ t.
+    let a = ahead-some (rule_at rows text) o rs (sym (ap (λ b. cond b (ahead (rule_at rows text) o) none) t) ∙ e) in
+    record { fits = rule-row-says rows text t; others = a.0; reads = a.1.0; is = a.1.1 })
+    (λ t. absurd (no-rules (sym (ap (λ b. cond b (ahead (rule_at rows text) o) none) t) ∙ e)))
 
-  abbrev here : List ℕ
-  here = text_of_rules all ++ (rows_of_rules all ++ tail)
+rules_in-none : (rows text : List ℕ) (rs : List Rule) → rules_in 0 rows text ≡ some rs → length rs ≡ 0
+unfolding rules_in
+rules_in-none rows [] rs e = ap length (sym (some-injective _ _ e))
+rules_in-none rows (x ∷ text) rs e = absurd (no-rules e)
 
-  row_here : drop (length (text_of_rules all) + 8 * length before) here ≡ rule_row r (rows_of_rules others ++ tail)
-  unfolding rows_of_rules
-  row_here =
-      drop-append-add (text_of_rules all) (rows_of_rules all ++ tail) (8 * length before)
-      ∙ ap (λ l. drop (8 * length before) (l ++ tail)) (rows_append before (r ∷ others))
-      ∙ ap (drop (8 * length before)) (append_assoc (rows_of_rules before) (rule_row r (rows_of_rules others)) tail)
-      ∙ drop_at (rows_of_rules before) (rule_row r (rows_of_rules others) ++ tail) (8 * length before) (length-rows_of_rules before)
+rules_in-many : (n : ℕ) (rows text : List ℕ) (rs : List Rule) → rules_in n rows text ≡ some rs → length rs ≡ n
+rules_in-many zero rows text rs e = rules_in-none rows text rs e
+rules_in-many (suc n) rows text rs e =
+    let f = first-others n rows text rs e in
+    sym (ap length f.is) ∙ ap suc (rules_in-many n (drop 8 rows) (drop (rule_taken rows) text) f.others f.reads)
 
-  text-all : text_of_rules all ≡ text_of_rules before ++ (rule_text r ++ text_of_rules others)
-  unfolding text_of_rules
-  text-all = text-append before (r ∷ others)
-
-  text-here : drop (length (text_of_rules before)) here ≡ rule_text r ++ (text_of_rules others ++ (rows_of_rules all ++ tail))
-  text-here =
-      ap (λ l. drop (length (text_of_rules before)) (l ++ (rows_of_rules all ++ tail))) text-all
-      ∙ ap (drop (length (text_of_rules before))) (append_assoc (text_of_rules before) (rule_text r ++ text_of_rules others) (rows_of_rules all ++ tail))
-      ∙ drop-append_seam (text_of_rules before) ((rule_text r ++ text_of_rules others) ++ (rows_of_rules all ++ tail))
-      ∙ append_assoc (rule_text r) (text_of_rules others) (rows_of_rules all ++ tail)
-
-  text-room : length (text_of_rules before) + length (rule_text r) ≤ length (text_of_rules all)
-  text-room =
-      let e = ap length text-all in
-      omega (arith, length-append (text_of_rules before) (rule_text r ++ text_of_rules others), length-append (rule_text r) (text_of_rules others))
+stands : (n : ℕ) (rows text : List ℕ) (rs : List Rule) (at k : ℕ) → rules_in n rows text ≡ some rs → k < length rs → Stands rows text at rs k
+unfolding offsets_from
+stands zero rows text rs at k e h = absurd (omega (arith, rules_in-none rows text rs e))
+stands (suc n) rows text rs at zero e h =
+    let f = first-others n rows text rs e in
+    subst (λ l. Stands rows text at l 0) f.is (record { offset = 0; begins = omega arith; is = refl; room = let z = f.fits.room in omega arith })
+stands (suc n) rows text rs at (suc k) e h =
+    let f = first-others n rows text rs e in
+    let taken = rule_taken rows in
+    let long : length (rule_text (rule_at rows text)) ≡ taken = ap length (text-takes rows text) ∙ length-take-le taken text f.fits.room in
+    let i = stands n (drop 8 rows) (drop taken text) f.others (at + length (rule_text (rule_at rows text))) k f.reads (omega (arith, ap length f.is)) in
+    let row : drop (8 * k) (drop 8 rows) ≡ drop (8 * suc k) rows = drop-drop (8 * k) 8 rows ∙ ap (λ j. drop j rows) (omega arith) in
+    subst (λ l. Stands rows text at l (suc k)) f.is
+    (record {
+      offset = taken + i.offset;
+      begins = i.begins ∙ omega arith;
+      is =
+          i.is
+          ∙ ap (λ x. rule_at x (drop i.offset (drop taken text))) row
+          ∙ ap (rule_at (drop (8 * suc k) rows)) (drop-drop i.offset taken text);
+      room = let q = i.room in let z = f.fits.room in omega (arith, ap rule_taken row, length-drop taken text);
+    })
 
 pub record Located (file index : List ℕ) (k : ℕ) (r : Rule) : Type 0 where
   pub room : k < length index
   pub most : length file ≤ file_most
   pub row_end : start_of file + 8 * k + 8 ≤ length file
-  pub name_size : two_at (start_of file + 8 * k) file ≡ length r.name
-  pub alias_size : two_at (start_of file + 8 * k + 2) file ≡ number_of_alias r.alias
-  pub class_is : get_or file (start_of file + 8 * k + 4) 0 ≡ r.class
+  pub name_size : length_of_name (rule_row_at file k) ≡ length r.name
+  pub alias_number : two_at 2 (rule_row_at file k) ≡ number_of_alias r.alias
+  pub class_is : get_or (rule_row_at file k) 4 0 ≡ r.class
   pub short : length (rule_text r) < no_alias
   pub text_end : get_or index k 0 + length (rule_text r) ≤ length file
   pub text_is : take (length (rule_text r)) (drop (get_or index k 0) file) ≡ rule_text r
 
-module _ {file index : List ℕ} {k : ℕ} (s : SomeRule file index k) (by : Bytes file) (rs : List Rule) (e : rules_of file ≡ some rs) where
+-- the trailer counts the rules of a file, whose names rise
+pub rules-counted : (file : List ℕ) (rs : List Rule) → rules_of file ≡ some rs → (count_of file ≡ length rs) × (rises rs ≡ true)
+rules-counted file rs e =
+    let w = rules-tested file rs e in
+    let r = rising-some (rules_in (count_of file) (row_area file) (text_area file)) rs (sym (rules-whole file w) ∙ e) in
+    (sym (rules_in-many (count_of file) (row_area file) (text_area file) rs r.0), r.1)
+
+two_at-take : (m i : ℕ) (l : List ℕ) → i + 2 ≤ m → two_at i (take m l) ≡ two_at i l
+two_at-take m i l h = rw (get_or-take m l i 0 (omega arith), get_or-take m l (i + 1) 0 (omega arith))
+
+module _ {file index : List ℕ} {k : ℕ} (s : SomeRule file index k) (rs : List Rule) (e : rules_of file ≡ some rs) where
   rules-are : s.numbered.rules ≡ rs
   rules-are = rules-one file s.numbered.decodes e
 
@@ -201,74 +228,90 @@ module _ {file index : List ℕ} {k : ℕ} (s : SomeRule file index k) (by : Byt
       let h = few in
       omega (arith, ap length holds, length-offsets rs 0, length-take (length rs) index)
 
-  offset : get_or index k 0 ≡ length (text_of_rules (take k rs))
-  offset = sym (get_or-take (length rs) index k 0 few) ∙ ap (λ l. get_or l k 0) holds ∙ offsets-at rs 0 k few ∙ omega arith
-
-  abbrev r : Rule
-  r = rule_no rs k
-
-  abbrev tail : List ℕ
-  tail = four (length (text_of_rules rs)) (four (length rs) [])
-
-  split : rs ≡ take k rs ++ r ∷ drop (suc k) rs
-  split = split_at rs k (rule [] none 0) few
-
-  file-is : file ≡ here (take k rs) r (drop (suc k) rs) tail
-  unfolding file_of_rules
-  file-is = (file-rules file rs by e).is ∙ ap (λ l. text_of_rules l ++ (rows_of_rules l ++ tail)) split
-
-  start_is : start_of file ≡ length (text_of_rules (all (take k rs) r (drop (suc k) rs) tail))
-  start_is = (file-rules file rs by e).start ∙ ap (λ l. length (text_of_rules l)) split
-
-  row_is : drop (start_of file + 8 * k) file ≡ rule_row r (rows_of_rules (drop (suc k) rs) ++ tail)
-  row_is =
-      let h = few in
-      ap (drop (start_of file + 8 * k)) file-is
-      ∙ ap (λ n. drop (n + 8 * k) (here (take k rs) r (drop (suc k) rs) tail)) start_is
-      ∙ ap (λ n. drop (length (text_of_rules (all (take k rs) r (drop (suc k) rs) tail)) + 8 * n) (here (take k rs) r (drop (suc k) rs) tail))
-      (sym (length-take-le k rs (omega arith)))
-      ∙ row_here (take k rs) r (drop (suc k) rs) tail
-
-  pub located : Located file index k r
+  pub located : Located file index k (rule_no rs k)
   located =
-      let d = file-rules file rs by e in
-      let w = d.whole in
+      let w = rules-tested file rs e in
       let sum = w.sum in
       let most = w.short in
-      let n = d.count in
       let h = few in
-      let o = offset in
-      let q = start_is in
-      let t = text-room (take k rs) r (drop (suc k) rs) tail in
-      let short : length (rule_text r) < no_alias = omega arith in
-      let reads = rule_row-reads r (rows_of_rules (drop (suc k) rs) ++ tail) [] short in
-      let row = start_of file + 8 * k in
+      let n = (rules-counted file rs e).0 in
+      let c = count_of file in
+      let start = start_of file in
+      let read = (rising-some (rules_in c (row_area file) (text_area file)) rs (sym (rules-whole file w) ∙ e)).0 in
+      let t = stands c (row_area file) (text_area file) rs 0 k read h in
+      let row = drop (8 * k) (row_area file) in
+      let text = drop t.offset (text_area file) in
+      let taken = rule_taken row in
+      let room = t.room in
+      let end = length-text_area file w in
+      let m = 8 * c - 8 * k in
+      let part : row ≡ take m (rule_row_at file k)
+      = ap (λ j. drop (8 * k) (take j (drop start file))) (omega arith) ∙ drop-take (8 * k) m (drop start file) ∙ ap (take m) (drop-drop (8 * k) start file) in
+      let size : two_at 0 row ≡ two_at 0 (rule_row_at file k) = ap (two_at 0) part ∙ two_at-take m 0 (rule_row_at file k) (omega arith) in
+      let number : two_at 2 row ≡ two_at 2 (rule_row_at file k) = ap (two_at 2) part ∙ two_at-take m 2 (rule_row_at file k) (omega arith) in
+      let class : get_or row 4 0 ≡ get_or (rule_row_at file k) 4 0
+      = ap (λ l. get_or l 4 0) part ∙ get_or-take m (rule_row_at file k) 4 0 (omega arith) in
+      let inside : taken ≤ length text = omega (arith, length-drop t.offset (text_area file)) in
+      let long : length (rule_text (rule_no rs k)) ≡ taken
+      = ap (λ r. length (rule_text r)) t.is ∙ ap length (text-takes row text) ∙ length-take-le taken text inside in
+      let offset : get_or index k 0 ≡ t.offset = sym (get_or-take (length rs) index k 0 h) ∙ ap (λ l. get_or l k 0) holds ∙ t.begins ∙ omega arith in
+      let there : take taken text ≡ take taken (drop t.offset file)
+      = ap (λ j. take taken (drop t.offset (take j file))) (omega arith)
+      ∙ ap (take taken) (drop-take t.offset (start - t.offset) file)
+      ∙ take-take taken (start - t.offset) (drop t.offset file) (omega arith) in
       record {
         room = in-index;
         most = most;
         row_end = omega arith;
-        name_size = ap (λ i. two_at i file) (omega arith) ∙ sym (two_at-drop row 0 file) ∙ ap (two_at 0) row_is ∙ reads.name_length;
-        alias_size = sym (two_at-drop row 2 file) ∙ ap (two_at 2) row_is ∙ reads.alias_number;
-        class_is = sym (get_or-drop row file 4 0) ∙ ap (λ l. get_or l 4 0) row_is;
-        short = short;
+        name_size = sym (ap (λ r. length r.name) t.is ∙ length-take-le (two_at 0 row) text (omega arith) ∙ size);
+        alias_number =
+            sym
+            (ap (λ r. number_of_alias r.alias) t.is
+            ∙ alias_number (two_at 2 row) (drop (two_at 0 row) text) (omega (arith, length-drop (two_at 0 row) text))
+            ∙ number);
+        class_is = sym (ap (λ r. r.class) t.is ∙ class);
+        short = omega arith;
         text_end = omega arith;
         text_is =
-            ap (λ i. take (length (rule_text r)) (drop i file)) o
-            ∙ ap (λ l. take (length (rule_text r)) (drop (length (text_of_rules (take k rs))) l)) file-is
-            ∙ ap (take (length (rule_text r))) (text-here (take k rs) r (drop (suc k) rs) tail)
-            ∙ take-append_seam (rule_text r) (text_of_rules (drop (suc k) rs) ++ (rows_of_rules (all (take k rs) r (drop (suc k) rs) tail) ++ tail));
+            ap (λ i. take (length (rule_text (rule_no rs k))) (drop i file)) offset
+            ∙ ap (λ i. take i (drop t.offset file)) long
+            ∙ sym there
+            ∙ sym (ap rule_text t.is ∙ text-takes row text);
       }
 
 -- the same of the rules that a caller gave
-pub located-given : {file index : List ℕ} {k : ℕ} (s : SomeRule file index k) → Bytes file → Located file index k (rule_no s.numbered.rules k)
-located-given s by = located s by s.numbered.rules s.numbered.decodes
+pub located-given : {file index : List ℕ} {k : ℕ} (s : SomeRule file index k) → Located file index k (rule_no s.numbered.rules k)
+located-given s = located s s.numbered.rules s.numbered.decodes
+
+-- ---- an alias by its length
+
+abbrev size_of : Option (List ℕ) → Maybe ℕ
+size_of none = None
+size_of (some a) = Some (length a)
+
+abbrev pub part_of : Maybe ℕ → List ℕ → Option (List ℕ)
+part_of None text = none
+part_of (Some n) text = some (take n text)
+
+size_of-is : (o : Option (List ℕ)) → length (alias_text o) < no_alias → cond (eqb (number_of_alias o) no_alias) None (Some (number_of_alias o)) ≡ size_of o
+size_of-is none h = refl
+size_of-is (some a) h = ap (λ b. cond b None (Some (length a))) (ne_eqb (length a) no_alias (λ e. omega arith))
+
+size_of-text : (o : Option (List ℕ)) (n : ℕ) → size_of o ≡ Some n → n ≡ length (alias_text o)
+size_of-text none n e = absurd cc
+size_of-text (some a) n e = cc
+
+part_of-size : (o : Option (List ℕ)) (text : List ℕ) → take (length (alias_text o)) text ≡ alias_text o → part_of (size_of o) text ≡ o
+part_of-size none text e = refl
+part_of-size (some a) text e = ap some e
 
 -- ---- what the code reads there
 
+-- `n` is the length of the name, by the row, which begins at `at`
 module _ {file index : List ℕ} {k : ℕ} {r : Rule} (l : Located file index k r)
-    (at start n : ℕ) (p : at ≡ get_or index k 0) (q : start ≡ start_of file) (z : n ≡ two_at (start + 8 * k) file) where
+    (row : List ℕ) (at n : ℕ) (w : row ≡ rule_row_at file k) (p : at ≡ get_or index k 0) (z : n ≡ two_at 0 row) where
   name_size : n ≡ length r.name
-  name_size = z ∙ ap (λ i. two_at (i + 8 * k) file) q ∙ l.name_size
+  name_size = z ∙ ap (two_at 0) w ∙ l.name_size
 
   pub name-room : at + n ≤ length file
   name-room =
@@ -289,7 +332,11 @@ module _ {file index : List ℕ} {k : ℕ} {r : Rule} (l : Located file index k 
   pub name-part : take (at + n - at) (drop at file) ≡ r.name
   name-part = let e : at + n - at ≡ n = omega arith in ap (λ i. take i (drop at file)) e ∙ name-at
 
-  alias-at : take (length (alias_text r.alias)) (drop (at + n) file) ≡ alias_text r.alias
+  -- the text after the name
+  abbrev after : List ℕ
+  after = take (length file - (at + n)) (drop (at + n) file)
+
+  alias-at : take (length (alias_text r.alias)) after ≡ alias_text r.alias
   alias-at =
       let a = alias_text r.alias in
       let x = drop at file in
@@ -297,121 +344,42 @@ module _ {file index : List ℕ} {k : ℕ} {r : Rule} (l : Located file index k 
       let e : length (rule_text r) ≡ n + m = length-append r.name a ∙ ap (λ i. i + m) (sym name_size) in
       let whole : r.name ++ take m (drop n x) ≡ r.name ++ a
       = ap (λ t. t ++ take m (drop n x)) (sym name-at) ∙ sym (take-add n m x) ∙ ap (λ i. take i x) (sym e) ∙ text_at in
-      ap (take m) (sym (drop-drop n at file))
+      ap (take m) (part-rest file (at + n))
+      ∙ ap (take m) (sym (drop-drop n at file))
       ∙ sym (drop-append_seam r.name (take m (drop n x)))
       ∙ ap (drop (length r.name)) whole
       ∙ drop-append_seam r.name a
 
-no-alias : (o : Option (List ℕ)) → length (alias_text o) < no_alias → number_of_alias o ≡ no_alias → o ≡ none
-no-alias none h e = refl
-no-alias (some a) h e = absurd (omega arith)
+  alias_size-is : alias_size row ≡ size_of r.alias
+  alias_size-is =
+      let t = l.short in
+      ap alias_size w
+      ∙ ap (λ m. cond (eqb m no_alias) None (Some m)) l.alias_number
+      ∙ size_of-is r.alias (omega (arith, length-append r.name (alias_text r.alias)))
 
-an-alias : (o : Option (List ℕ)) → (number_of_alias o ≡ no_alias → ⊥) → (o ≡ some (alias_text o)) × (length (alias_text o) ≡ number_of_alias o)
-an-alias none h = absurd (h refl)
-an-alias (some a) h = (refl, refl)
-
-module _ {file index : List ℕ} {k : ℕ} {r : Rule} (l : Located file index k r)
-    (start size class : ℕ) (q : start ≡ start_of file) (z : size ≡ two_at (start + 8 * k + 2) file) (y : class ≡ get_or file (start + 8 * k + 4) 0) where
-  size_is : size ≡ number_of_alias r.alias
-  size_is = z ∙ ap (λ i. two_at (i + 8 * k + 2) file) q ∙ l.alias_size
-
-  class_is : class ≡ r.class
-  class_is = y ∙ ap (λ i. get_or file (i + 8 * k + 4) 0) q ∙ l.class_is
-
-  pub finds-plain : size ≡ no_alias → Finds file r.name (some r) (Plain class)
-  finds-plain e =
-      let h = l.short in
-      let none-there : r.alias ≡ none
-      = no-alias r.alias (omega (arith, length-append r.name (alias_text r.alias))) (sym size_is ∙ e) in
-      record {
-        rule = ap some (ap (λ a. rule r.name a class) (sym none-there) ∙ ap (λ c. rule r.name r.alias c) class_is);
-        inside = omega arith;
-      }
-
-  pub finds-aliased :
-      (at n : ℕ) → at ≡ get_or index k 0 → n ≡ two_at (start + 8 * k) file → (size ≡ no_alias → ⊥)
-      → Finds file r.name (some r) (Aliased class (at + n) size)
-  finds-aliased at n p x h =
-      let o = an-alias r.alias (λ e. h (size_is ∙ e)) in
-      let long : length (alias_text r.alias) ≡ size = o.1 ∙ sym size_is in
-      let there : r.alias ≡ some (take size (drop (at + n) file))
-      = o.0 ∙ ap some (sym (alias-at l at start n p q x) ∙ ap (λ i. take i (drop (at + n) file)) long) in
-      let e = name_size l at start n p q x in
+  pub alias-room : (size : ℕ) → alias_size row ≡ Some size → size ≡ length (take size after)
+  alias-room size e =
+      let q = size_of-text r.alias size (sym alias_size-is ∙ e) in
       let t = l.text_end in
-      record {
-        rule = ap some (ap (λ a. rule r.name a class) (sym there) ∙ ap (λ c. rule r.name r.alias c) class_is);
-        inside = omega (arith, length-append r.name (alias_text r.alias));
-      }
+      let z = name_size in
+      sym (length-take-le size after (omega (arith, ap length (part-rest file (at + n)), length-drop (at + n) file, length-append r.name (alias_text r.alias))))
 
--- ---- answers
+  -- a class and an alias that were read so are those of the rule
+  pub found-is : (found : Found) → found.class ≡ get_or row 4 0 → lent found.alias ≡ part_of (alias_size row) after → rule_found r.name found ≡ r
+  found-is found e q =
+      ap (λ a. rule r.name a found.class) (q ∙ ap (λ s. part_of s after) alias_size-is ∙ part_of-size r.alias after alias-at)
+      ∙ ap (λ c. rule r.name r.alias c) (e ∙ ap (λ x. get_or x 4 0) w ∙ l.class_is)
 
-pub finds-absent : (file name : List ℕ) (answer : Option Rule) → answer ≡ none → Finds file name answer Absent
-finds-absent file name answer e = record { rule = sym e; inside = omega arith }
-
-pub finds-as : {file m name : List ℕ} {o answer : Option Rule} {found : Found} → m ≡ name → answer ≡ o → Finds file m o found → Finds file name answer found
-finds-as {file} {m} {name} {o} {answer} {found} e q f =
-    subst (λ x. Finds file x answer found) e (subst (λ x. Finds file m x found) (sym q) f)
-
--- what is left of an answer in one kind: the rule or nothing, by its class
-module _ (file name : List ℕ) where
-  kept_rule : (b : Bool) (f : Found) → rule_of file name (cond b f Absent) ≡ cond b (rule_of file name f) none
-  kept_rule true f = refl
-  kept_rule false f = refl
-
-  kept-end : (b : Bool) (f : Found) → end_of (cond b f Absent) ≤ end_of f
-  kept-end true f = omega arith
-  kept-end false f = omega arith
-
-  kept :
-      (ok : Bool) (answer kind : Option Rule) (f r : Found) → kind ≡ cond ok answer none → Finds file name answer f → r ≡ cond ok f Absent
-      → Finds file name kind r
-  kept ok answer kind f r q finds e =
-      let i = finds.inside in
-      let j = kept-end ok f in
-      subst (Finds file name kind) (sym e)
-      (record { rule = kept_rule ok f ∙ ap (λ o. cond ok o none) finds.rule ∙ sym q; inside = omega arith })
-
-  cmd-kept : (f : Found) → as_cmd (rule_of file name f) ≡ cond (is_cmd f) (rule_of file name f) none
-  cmd-kept Absent = refl
-  cmd-kept (Plain class) = refl
-  cmd-kept (Aliased class at size) = refl
-
-  cond-not : (b : Bool) (o : Option Rule) → cond b none o ≡ cond (not b) o none
-  cond-not true o = refl
-  cond-not false o = refl
-
-  env-kept : (f : Found) → as_env (rule_of file name f) ≡ cond (not (is_cmd f)) (rule_of file name f) none
-  env-kept Absent = refl
-  env-kept (Plain class) = cond-not (leb class cmd_most) (rule_of file name (Plain class))
-  env-kept (Aliased class at size) = cond-not (leb class cmd_most) (rule_of file name (Aliased class at size))
-
-  module _ (answer : Option Rule) (f r : Found) (finds : Finds file name answer f) where
-    pub finds-cmd : r ≡ cond (is_cmd f) f Absent → Finds file name (as_cmd answer) r
-    finds-cmd =
-        kept (is_cmd f) answer (as_cmd answer) f r (subst (λ o. as_cmd o ≡ cond (is_cmd f) o none) finds.rule (cmd-kept f)) finds
-
-    pub finds-env : r ≡ cond (not (is_cmd f)) f Absent → Finds file name (as_env answer) r
-    finds-env =
-        kept (not (is_cmd f)) answer (as_env answer) f r (subst (λ o. as_env o ≡ cond (not (is_cmd f)) o none) finds.rule (env-kept f)) finds
+-- what `map` makes of a length
+pub lent-map :
+    {post : ℕ → Bor (List ℕ) → Type 0} (text : List ℕ) (size : Maybe ℕ) (part : Maybe (Bor (List ℕ))) → ((n : ℕ) (s : Bor (List ℕ)) → post n s → s.now ≡ take n text)
+    → MatchOption size (part ≡ None) (λ n. IsSomeAnd part (post n)) → lent part ≡ part_of size text
+lent-map text None part h e = ap lent e
+lent-map text (Some n) None h e = absurd e
+lent-map text (Some n) (Some s) h e = ap some (h n s e)
 
 -- ---- the written name
 
-pub written-room : (file : List ℕ) (found : Found) (class at size : ℕ) → found ≡ Aliased class at size → end_of found ≤ length file → at + size ≤ length file
-written-room file found class at size e h = subst (λ f. end_of f ≤ length file) e h
-
-pub written-alias :
-    (file name : List ℕ) (found : Found) (class at size : ℕ) → found ≡ Aliased class at size
-    → take (at + size - at) (drop at file) ≡ alias_or (alias_of file found) name
-written-alias file name found class at size e =
-    let q : at + size - at ≡ size = omega arith in
-    ap (λ i. take i (drop at file)) q ∙ sym (ap (λ f. alias_or (alias_of file f) name) e)
-
-some-rule : {a b : Rule} → some a ≡ some b → a ≡ b
-some-rule e = cc
-
 -- it is the written name of the rule that was found
-pub written-name :
-    (file name : List ℕ) (found : Found) (r : Rule) → rule_of file name found ≡ some r → alias_or (alias_of file found) name ≡ written_name r name
-written-name file name Absent r e = absurd (let z : ◌≡◌ {A = ℕ} 0 1 = cc in omega arith)
-written-name file name (Plain class) r e = ap (λ a. alias_or a name) (ap (λ x. x.alias) (some-rule e))
-written-name file name (Aliased class at size) r e = ap (λ a. alias_or a name) (ap (λ x. x.alias) (some-rule e))
+pub written-name : (name : List ℕ) (found : Found) (r : Rule) → rule_of name (Some found) ≡ some r → alias_or (alias_of found) name ≡ written_name r name
+written-name name found r e = ap (λ x. alias_or x.alias name) (some-injective _ _ e)

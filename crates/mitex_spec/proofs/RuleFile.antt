@@ -124,7 +124,7 @@ rule-row-says rows text e =
     let d = (and-eq-true_iff (valid r.name) (valid_alias r.alias)).0 c.1 in
     record { pad = a.0; room = leb-true _ _ b.0; fits = b.1; low = leb-true _ _ c.0; name = d.0 }
 
-alias_number : (m : ℕ) (t : List ℕ) → cond (eqb m no_alias) 0 m ≤ length t → number_of_alias (alias_at m t) ≡ m
+pub alias_number : (m : ℕ) (t : List ℕ) → cond (eqb m no_alias) 0 m ≤ length t → number_of_alias (alias_at m t) ≡ m
 alias_number m t h =
     by-test (eqb m no_alias)
     (λ e. ap (λ b. number_of_alias (cond b none (some (take m t)))) e ∙ sym (eqb-true m no_alias e))
@@ -132,7 +132,7 @@ alias_number m t h =
     ap (λ b. number_of_alias (cond b none (some (take m t)))) e
     ∙ length-take-le m t (subst (λ b. cond b 0 m ≤ length t) e h))
 
-alias-text : (m : ℕ) (t : List ℕ) → alias_text (alias_at m t) ≡ take (cond (eqb m no_alias) 0 m) t
+pub alias-text : (m : ℕ) (t : List ℕ) → alias_text (alias_at m t) ≡ take (cond (eqb m no_alias) 0 m) t
 alias-text m t =
     by-test (eqb m no_alias)
     (λ e. ap (λ b. alias_text (cond b none (some (take m t)))) e ∙ sym (ap (λ b. take (cond b 0 m) t) e))
@@ -178,7 +178,7 @@ pub record RulesWritten (n : ℕ) (rows text : List ℕ) (rs : List Rule) : Type
   pub text_is : text ≡ text_of_rules rs
   pub fit : all_fit rs ≡ true
 
-no-rules : {rs : List Rule} → none ≡ some rs → ⊥
+pub no-rules : {rs : List Rule} → none ≡ some rs → ⊥
 no-rules e = let z : ◌≡◌ {A = ℕ} 0 1 = cc in omega arith
 
 pub rules_in-says : (n : ℕ) (rows text : List ℕ) (rs : List Rule) → Bytes rows → length rows ≡ 8 * n → rules_in n rows text ≡ some rs → RulesWritten n rows text rs
@@ -252,7 +252,7 @@ pub record RulesDecoded (file : List ℕ) (rs : List Rule) : Type 0 where
   pub count : count_of file ≡ length rs
   pub rows_are : row_area file ≡ rows_of_rules rs
 
-rising-some : (o : Option (List Rule)) (rs : List Rule) → rising o ≡ some rs → (o ≡ some rs) × (rises rs ≡ true)
+pub rising-some : (o : Option (List Rule)) (rs : List Rule) → rising o ≡ some rs → (o ≡ some rs) × (rises rs ≡ true)
 rising-some none rs e = absurd (no-rules e)
 rising-some (some ms) rs e =
     by-test (rises ms)

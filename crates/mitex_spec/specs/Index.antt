@@ -1,11 +1,12 @@
 -- The index of a rule file: for each rule where its name begins in the file, and after these the table of first bytes, which
 -- says for each byte how many names begin with a lower one. A rule's row and its name are then found by the rule's number, and
 -- a name by halving the rules whose names begin as it does.
-use Rattle.std.specs.Prelude.{◌≡◌, Bool, true, false, cond, List, [], ◌∷◌, ℕ, zero, suc, ◌+◌, ◌<◌, ltb, length, take, drop, get_or}
+use Rattle.std.specs.Prelude.{◌≡◌, Bool, true, false, cond, List, [], ◌∷◌, ℕ, zero, suc, ◌+◌, ◌*◌, ◌<◌, ltb, length, take, drop, get_or}
 use Rattle.std.proofs.Math.Option.{Option}
 use Rattle.std.proofs.Math.Option.Option.{none, some}
 use Rattle.std.proofs.lemmas.List.Edits.{sets}
 use Rattle.text.specs.Compare.{precedes}
+use Rattle.text.specs.Trailer.{start_of}
 use Rattle.mitex_spec.specs.Rules.{Rule, rule}
 use Rattle.mitex_spec.specs.RuleFile.{rules_of, rule_text, rule_taken}
 
@@ -55,6 +56,10 @@ indexed (some rs) index = sets (sets index 0 (offsets_from 0 rs)) firsts_start (
 pub record ChecksRules (file index : List ℕ) (ok : Bool) (index' : List ℕ) : Type 0 where
   pub answer : ok ≡ has_rules (rules_of file)
   pub fills : index' ≡ indexed (rules_of file) index
+
+-- the row of a number, and the rows after it
+abbrev pub rule_row_at : List ℕ → ℕ → List ℕ
+rule_row_at file k = drop (start_of file + 8 * k) file
 
 -- the rule of a number, and how many of the first names come before a name
 abbrev pub rule_no : List Rule → ℕ → Rule

@@ -2,7 +2,7 @@
 -- that of its alias (2; 65,535 is no alias), its class (1) and three zeros. Names and aliases fill the text area in the order of the
 -- rows. `rules_of` reads a file, `file_of_rules` writes one; proofs/RuleFile.antt says that each undoes the other (`rules-file`,
 -- `file-rules`).
-use Rattle.std.specs.Prelude.{Bool, true, ◌&&◌, cond, ℕ, zero, suc, ◌+◌, List, [], ◌∷◌, ◌++◌, length, take, drop, get_or, eqb, leb}
+use Rattle.std.specs.Prelude.{Bool, true, ◌&&◌, cond, ℕ, zero, suc, ◌+◌, List, [], ◌∷◌, ◌++◌, length, take, drop, get_or, eqb, leb, Option as Maybe, Some, None}
 use Rattle.std.proofs.Math.Option.{Option}
 use Rattle.std.proofs.Math.Option.Option.{none, some}
 use Rattle.text.specs.Numbers.{two, four, two_at}
@@ -33,6 +33,11 @@ unfoldable pub rises_from : List ℕ → List Rule → Bool
 rises_from name [] = true
 rises_from name (r ∷ rs) = precedes name r.name && rises_from r.name rs
 
+-- the first follows none
+abbrev pub may_follow : Option (List ℕ) → List ℕ → Bool
+may_follow none name = true
+may_follow (some last) name = precedes last name
+
 abbrev pub rises : List Rule → Bool
 rises [] = true
 rises (r ∷ rs) = rises_from r.name rs
@@ -48,6 +53,9 @@ length_of_name rows = two_at 0 rows
 
 abbrev pub alias_length : List ℕ → ℕ
 alias_length rows = cond (eqb (two_at 2 rows) no_alias) 0 (two_at 2 rows)
+
+abbrev pub alias_size : List ℕ → Maybe ℕ
+alias_size rows = cond (eqb (two_at 2 rows) no_alias) None (Some (two_at 2 rows))
 
 -- the bytes of text that a row takes
 abbrev pub rule_taken : List ℕ → ℕ

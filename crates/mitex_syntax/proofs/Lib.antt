@@ -5,3 +5,4 @@ pub mod Trees
 pub mod Seeking
 pub mod Places
 pub mod Tokens
+pub mod Apart

@@ -2,6 +2,7 @@
 -- from here on, and what is looked for among all is what is looked for among these.
 use mathlib.Core.Path.{◌≡◌, refl, sym, ap, ◌∙◌}
 use mathlib.Core.Bool.{Bool, true, false, ◌&&◌, not, cond}
+use mathlib.Core.Option.{Option as Maybe}
 use mathlib.Core.Option.Option.{none as nothing, some}
 use mathlib.Core.List.{List, [], ◌++◌, append-nil}
 use Prim.Native.Nat.{ℕ, ◌+◌, ◌*◌, ◌-◌, ◌≤◌, ◌<◌}
@@ -10,7 +11,7 @@ use Rattle.text.proofs.Compare.{by-test}
 use borrow.Author.Tests.{eq-eqb, ne_eqb}
 use lib.Dec.{eqb}
 use lib.ListN.{length, take, drop, get_or, length-append, length-drop}
-use lib.Seq.{drop_at, drop-drop, get_or-drop, take_all}
+use lib.Seq.{get_or-drop, take_all}
 use Rattle.text.specs.Writing.{cap}
 use Rattle.mitex_syntax.specs.Syntax.{ClauseArgument}
 use Rattle.mitex_syntax.specs.Tree.{Tree, Forest, size, sizes, rows_of, rows_ofs, kind_of}
@@ -19,8 +20,9 @@ use Rattle.mitex_syntax.specs.Tree.Forest.{none, more}
 use Rattle.mitex_syntax.specs.Rows.{extent_of, token_sum}
 use Rattle.mitex_syntax.specs.Views.{first_by, offset_by, all_by, from_by, is_of, is_other, is_node_tree, is_argument_with, first_node, children_of, kind_in}
 use Rattle.mitex_syntax.specs.Spells.{Begins}
-use Rattle.mitex_syntax.specs.Places.{FirstAt}
-use Rattle.mitex_syntax.proofs.Trees.{length-rows, size-some, size-more, left, no-left, get_or-here, ElementAt, element, rows-e, text-n, part-spells, past-begins}
+use Rattle.std.specs.Prelude.{unwrap_or}
+use Rattle.mitex_syntax.specs.Places.{FirstAt, kind_found}
+use Rattle.mitex_syntax.proofs.Trees.{length-rows, size-some, size-more, no-left, get_or-here, ElementAt, element, rows-e, text-n, part-spells, past-begins}
 
 -- what was found passes the test
 pub first-picked : (p : Tree → Bool) (f : Forest) {t : Tree} → first_by p f ≡ some t → p t ≡ true
@@ -62,58 +64,18 @@ unfolding rows_of
 rows-children (token k s) = refl
 rows-children (node k f) = refl
 
--- ---- the kind of the first node
-
--- what is left of the rows is that of elements among which the first node is the same
-pub record NodesLeft (f : Forest) (rows : List ℕ) (i : ℕ) : Type 0 where
-  pub forest : Forest
-  pub rows_are : drop i rows ≡ rows_ofs forest
-  pub still : first_node f ≡ first_node forest
-
-pub nodes-start : (f : Forest) (rows : List ℕ) → rows ≡ rows_ofs f → NodesLeft f rows 0
-nodes-start f rows e = record { forest = f; rows_are = e; still = refl }
-
-nodes-eight : (f : Forest) {l : List ℕ} → l ≡ rows_ofs f → 0 < length l → 8 ≤ length l
+-- where rows are left there is a whole one
+pub rows-eight : (f : Forest) {l : List ℕ} → l ≡ rows_ofs f → 0 < length l → 8 ≤ length l
 unfolding rows_of
-nodes-eight none e h = absurd (omega (arith, ap length e))
-nodes-eight (more t g) e h = omega (arith, ap length e ∙ length-append (rows_of t) (rows_ofs g), length-rows t, size-some t)
-
-module _ {f : Forest} {rows : List ℕ} {i : ℕ} (w : NodesLeft f rows i) where
-  pub nodes-inside : i < length rows → i + 8 ≤ length rows
-  nodes-inside h = let l = length-drop i rows in omega (arith, nodes-eight w.forest w.rows_are (omega arith))
-
-  pub nodes-end : length rows ≤ i → 0 ≡ kind_in (first_node f)
-  unfolding first_by
-  nodes-end h =
-      let e : w.forest ≡ none = no-left w.forest w.rows_are (simp length-drop (omega arith)) in
-      ap kind_in (sym (w.still ∙ ap first_node e))
-
-  module _ (h : i < length rows) where
-    pub nodes-found : (get_or rows (i + 1) 0 ≡ 1 → ⊥) → get_or rows i 0 ≡ kind_in (first_node f)
-    unfolding first_by rows_of
-    nodes-found ne =
-        let x = left w.forest w.rows_are (simp length-drop (omega arith)) in
-        let t = x.0 in
-        let g = x.1.0 in
-        let e = w.rows_are ∙ ap rows_ofs x.1.1 in
-        let b : is_node_tree t ≡ true = mark-here rows i t (rows_ofs g) e (ne_eqb _ 1 ne) in
-        kind-here rows i t (rows_ofs g) e ∙ sym (ap kind_in (w.still ∙ ap first_node x.1.1 ∙ ap (λ (y : Bool). cond y (some t) (first_node g)) b))
-
-    pub nodes-next : get_or rows (i + 1) 0 ≡ 1 → NodesLeft f rows (i + 8)
-    unfolding first_by rows_of size
-    nodes-next m =
-        let x = left w.forest w.rows_are (simp length-drop (omega arith)) in
-        let t = x.0 in
-        let g = x.1.0 in
-        let e = w.rows_are ∙ ap rows_ofs x.1.1 in
-        let b : is_node_tree t ≡ false = mark-here rows i t (rows_ofs g) e (eq-eqb _ 1 m) in
-        record {
-          forest = g;
-          rows_are = sym (drop-drop 8 i rows) ∙ ap (drop 8) e ∙ drop_at (rows_of t) (rows_ofs g) 8 (length-rows t ∙ ap (λ (n : ℕ). 8 * n) (size-token t b));
-          still = w.still ∙ ap first_node x.1.1 ∙ ap (λ (y : Bool). cond y (some t) (first_node g)) b;
-        }
+rows-eight none e h = absurd (omega (arith, ap length e))
+rows-eight (more t g) e h = omega (arith, ap length e ∙ length-append (rows_of t) (rows_ofs g), length-rows t, size-some t)
 
 -- ---- whether an element is wanted
+
+-- the kind as a number, 0 where there is none
+pub kind-or-none : (o : Maybe Tree) → unwrap_or (kind_found o) 0 ≡ kind_in o
+kind-or-none nothing = refl
+kind-or-none (some t) = refl
 
 module _ (t : Tree) (rows : List ℕ) (e : rows ≡ rows_of t) where
   pub element-eight : 8 ≤ length rows

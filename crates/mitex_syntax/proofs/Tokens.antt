@@ -2,30 +2,31 @@
 -- (`Firsts`, `Lasts`), and a step goes into the first, or over or into the last, of them.
 use mathlib.Core.Path.{◌≡◌, refl, sym, ap, subst, ◌∙◌}
 use mathlib.Core.Bool.{Bool, true, false}
-use mathlib.Core.Option.{Option}
+use mathlib.Core.Option.{Option as Maybe}
 use mathlib.Core.Option.Option.{none as nothing, some}
 use mathlib.Core.List.{List, ◌++◌, append_assoc}
-use Prim.Native.Nat.{ℕ, ◌+◌, ◌*◌, ◌-◌, ◌≤◌, ◌<◌}
+use Prim.Native.Nat.{ℕ, zero, suc, ◌+◌, ◌*◌, ◌-◌, ◌≤◌, ◌<◌}
 use native.Mathlib.Omega.{arith}
 use borrow.Author.Tests.{eq-eqb, ne_eqb, ltb-true, ltb-false}
 use lib.Dec.{eqb, ltb}
 use lib.ListN.{length, take, drop, get_or, length-drop}
-use lib.Seq.{take_at, drop-drop, take_all}
+use lib.Seq.{take_at, take_all}
 use Rattle.text.specs.Compare.{same}
 use Rattle.text.specs.Writing.{cap}
-use Rattle.mitex_syntax.specs.Tree.{Tree, Forest, size, sizes, rows_of, rows_ofs, text_of, texts_of}
+use Rattle.mitex_syntax.specs.Tree.{Tree, Forest, size, sizes, rows_of, rows_ofs, text_of, texts_of, kind_of}
 use Rattle.mitex_syntax.specs.Tree.Tree.{token, node}
 use Rattle.mitex_syntax.specs.Tree.Forest.{none, more}
-use Rattle.mitex_syntax.specs.Rows.{num_of, extent_of}
+use Rattle.std.specs.Prelude.{Option, None, Some, unwrap_or}
+use Rattle.mitex_syntax.specs.Rows.{num_of, extent_of, Spans}
 use Rattle.mitex_syntax.specs.Views.{is_node_tree, children_of, kind_in, text_in, first_token, first_tokens, last_token, last_tokens, is_token_of}
 use Rattle.mitex_syntax.specs.Spells.{Sound, Begins}
-use Rattle.mitex_syntax.specs.Places.{TokenIs, LastHop}
+use Rattle.mitex_syntax.specs.Places.{kind_found, TokenIs, LastHop}
 use Rattle.mitex_syntax.specs.declared.Token.{Token}
 use Rattle.mitex_syntax.specs.declared.Span.{Span}
-use Rattle.mitex_syntax.proofs.Deciding.{and-then, and-not}
+use Rattle.mitex_syntax.proofs.Deciding.{and-then}
 use Rattle.text.proofs.Numbers.{four-says}
-use Rattle.mitex_syntax.proofs.Trees.{length-rowss, size-some, left, no-left, First, first-spelt, ElementAt, element, rows-e, text-n, past-begins}
-use Rattle.mitex_syntax.proofs.Seeking.{kind-here, mark-here, size-token}
+use Rattle.mitex_syntax.proofs.Trees.{length-rowss, size-some, left, no-left, First, first-spelt, ElementAt, element, rows-e, text-n, past-begins, spans}
+use Rattle.mitex_syntax.proofs.Seeking.{kind-here, mark-here, size-token, rows-eight, kind-or-none}
 
 -- ---- the first row of an element
 
@@ -59,16 +60,24 @@ into (node k f) {g} sp e =
       sound = sp.sound.0.1;
     }
 
--- ---- no token
+-- ---- a token, or none
 
-pub token-none : {o : Option Tree} {text : List ℕ} {r : Token} → o ≡ nothing → r.kind ≡ 0 → r.from ≡ 0 → r.to ≡ 0 → TokenIs o text r
-token-none {o} {text} {r} e k a b =
-    record {
-      kind = k ∙ ap kind_in (sym e);
-      some = omega arith;
-      stop = omega arith;
-      text_is = ap (λ (n : ℕ). take n (drop r.from text)) (let z : r.to - r.from ≡ 0 = omega arith in z) ∙ ap text_in (sym e);
-    }
+-- a count that is not 0
+pub some-left : (n : ℕ) → false ≡ eqb n 0 → 0 < n
+some-left zero e = let z : ◌≡◌ {A = ℕ} 0 1 = cc in absurd (omega arith)
+some-left (suc n) e = omega arith
+
+pub none-left : (n : ℕ) → true ≡ eqb n 0 → n ≡ 0
+none-left zero e = refl
+none-left (suc n) e =
+    let h : eqb (suc n) 0 ≡ false = ne_eqb (suc n) 0 (λ q. absurd (omega (arith, q))) in
+    let z : ◌≡◌ {A = ℕ} 0 1 = cc in absurd (omega arith)
+
+pub token-none : {o : Maybe Tree} → o ≡ nothing → TokenIs o None
+token-none e = record { kind = ap kind_found (sym e); text_is = ap text_in (sym e) }
+
+token-some : {o : Maybe Tree} (t : Tree) (r : Token) → o ≡ some t → r.kind ≡ kind_of t → r.text.now ≡ text_of t → TokenIs o (Some r)
+token-some t r e k s = record { kind = ap Some k ∙ ap kind_found (sym e); text_is = s ∙ ap text_in (sym e) }
 
 -- ---- the first token
 
@@ -91,9 +100,12 @@ first-of-node (token k s) e = let z : ◌≡◌ {A = ℕ} 0 1 = cc in absurd (om
 first-of-node (node k f) e = refl
 
 module _ {f : Forest} {l text : List ℕ} (w : Firsts f l text) where
-  module _ (h : 8 ≤ length l) (few : length l < cap) (short : length text < cap) (n : ℕ) (is_n : n ≡ num_of l) where
+  pub first-eight : 0 < length l → 8 ≤ length l
+  first-eight h = rows-eight w.forest w.begins.rows_are h
+
+  module _ (h : 0 < length l) (few : length l < cap) (short : length text < cap) (n : ℕ) (is_n : n ≡ num_of l) where
     first-here : (t : Tree) × ((g : Forest) × (w.forest ≡ more t g))
-    first-here = left w.forest w.begins.rows_are (omega arith)
+    first-here = left w.forest w.begins.rows_are h
 
     abbrev tree : Tree
     tree = first-here.0
@@ -115,22 +127,20 @@ module _ {f : Forest} {l text : List ℕ} (w : Firsts f l text) where
     unfolding first_token
     still-here = w.still ∙ ap first_tokens first-here.1.1
 
-    pub first_found : (r : Token) → get_or l 1 0 ≡ 1 → r.kind ≡ get_or l 0 0 → r.from ≡ 0 → r.to ≡ n → TokenIs (first_tokens f) text r
-    first_found r m ek ea eb =
-        let fi = first-is in
-        let b : is_node_tree tree ≡ false = mark-here l 0 tree (rows_ofs others) rows-here (eq-eqb _ 1 m) in
-        let o : first_tokens f ≡ some tree = still-here ∙ first-of-token tree b in
-        let fits = fi.fits in
-        let e : n ≡ length (text_of tree) = is_n ∙ ap num_of rows-here ∙ token-number tree (rows_ofs others) b (omega arith) in
-        subst (λ (x : Option Tree). TokenIs x text r) (sym o)
-        (record {
-          kind = ek ∙ kind-here l 0 tree (rows_ofs others) rows-here;
-          some = omega arith;
-          stop = omega arith;
-          text_is =
-              ap (λ (m : ℕ). take (r.to - r.from) (drop m text)) ea
-              ∙ ap (λ (m : ℕ). take m text) (let z : r.to - r.from ≡ length (text_of tree) = omega arith in z) ∙ fi.first.text_is;
-        })
+    module _ (m : get_or l 1 0 ≡ 1) where
+      no-node : is_node_tree tree ≡ false
+      no-node = mark-here l 0 tree (rows_ofs others) rows-here (eq-eqb _ 1 m)
+
+      whole-text : n ≡ length (text_of tree)
+      whole-text = let fits = first-is.fits in is_n ∙ ap num_of rows-here ∙ token-number tree (rows_ofs others) no-node (omega arith)
+
+      pub first-inside : n ≤ length text
+      first-inside = let fits = first-is.fits in let e = whole-text in omega arith
+
+      pub first_found : (r : Token) → r.kind ≡ get_or l 0 0 → r.text.now ≡ take n text → TokenIs (first_tokens f) (Some r)
+      first_found r ek et =
+          token-some tree r (still-here ∙ first-of-token tree no-node) (ek ∙ kind-here l 0 tree (rows_ofs others) rows-here)
+          (et ∙ ap (λ (m : ℕ). take m text) whole-text ∙ first-is.first.text_is)
 
     pub first-into : (get_or l 1 0 ≡ 1 → ⊥) → (8 + 8 * n ≤ length l) × Firsts f (take (8 + 8 * n - 8) (drop 8 l)) text
     first-into m =
@@ -148,10 +158,9 @@ module _ {f : Forest} {l text : List ℕ} (w : Firsts f l text) where
           },
         )
 
-  pub first-none : length l < 8 → first_tokens f ≡ nothing
+  pub first-none : length l ≡ 0 → first_tokens f ≡ nothing
   unfolding first_token
-  first-none h =
-      w.still ∙ ap first_tokens (no-left w.forest w.begins.rows_are (omega (arith, ap length w.begins.rows_are, length-rowss w.forest)))
+  first-none h = w.still ∙ ap first_tokens (no-left w.forest w.begins.rows_are h)
 
 sizes-none : (f : Forest) → sizes f ≡ 0 → f ≡ none
 unfolding size
@@ -160,19 +169,19 @@ sizes-none (more t f) e = absurd (omega (arith, size-some t))
 
 -- ---- the last token
 
-pub record Lasts (f : Forest) (rows text : List ℕ) (i j : ℕ) : Type 0 where
+pub record Lasts (f : Forest) (rows text : List ℕ) : Type 0 where
   pub forest : Forest
-  pub begins : Begins forest (drop i rows) (drop j text)
+  pub begins : Begins forest rows text
   pub still : last_tokens f ≡ last_tokens forest
 
 -- what holds after a step of s
-pub record LastSteps (f : Forest) (rows text : List ℕ) (i j : ℕ) (s : Span) : Type 0 where
-  pub end : i + s.rows ≤ length rows
+pub record LastSteps (f : Forest) (rows text : List ℕ) (s : Span) : Type 0 where
+  pub end : s.rows ≤ length rows
   pub some : 8 ≤ s.rows
-  pub stop : j + s.text ≤ length text
-  pub lasts : Lasts f rows text (i + s.rows) (j + s.text)
+  pub stop : s.text ≤ length text
+  pub lasts : Lasts f (drop s.rows rows) (drop s.text text)
 
-pub last-start : (f : Forest) (rows text : List ℕ) → Begins f rows text → Lasts f rows text 0 0
+pub last-start : (f : Forest) (rows text : List ℕ) → Begins f rows text → Lasts f rows text
 last-start f rows text sp = record { forest = f; begins = sp; still = refl }
 
 last-of-token : (t : Tree) → is_node_tree t ≡ false → last_token t ≡ some t
@@ -193,73 +202,75 @@ last-over : (t u : Tree) (g h : Forest) → g ≡ more u h → last_tokens (more
 unfolding last_token
 last-over t u g h e = ap (λ (x : Forest). last_tokens (more t x)) e ∙ sym (ap last_tokens e)
 
-module _ {f : Forest} {rows text : List ℕ} {i j : ℕ} (w : Lasts f rows text i j) where
-  module _ (h : i < length rows) (hj : j ≤ length text) (few : length rows < cap) (short : length text < cap) where
-    abbrev pub last-element : ElementAt w.forest rows text i j
-    last-element = element w.begins h hj few short
+module _ {f : Forest} {rows text : List ℕ} (w : Lasts f rows text) where
+  module _ (h : 0 < length rows) (few : length rows < cap) (short : length text < cap) where
+    abbrev pub last-element : ElementAt w.forest rows text 0 0
+    last-element = element w.begins h (omega arith) few short
 
     still-last : last_tokens f ≡ last_tokens (more last-element.tree last-element.others)
     still-last = w.still ∙ ap last_tokens last-element.is
 
-    begins-last : Begins (more last-element.tree last-element.others) (drop i rows) (drop j text)
-    begins-last = subst (λ (g : Forest). Begins g (drop i rows) (drop j text)) last-element.is w.begins
+    begins-last : Begins (more last-element.tree last-element.others) rows text
+    begins-last = subst (λ (g : Forest). Begins g rows text) last-element.is w.begins
 
-    rows_last : drop i rows ≡ rows_of last-element.tree ++ rows_ofs last-element.others
+    rows_last : rows ≡ rows_of last-element.tree ++ rows_ofs last-element.others
     unfolding rows_of
     rows_last = begins-last.rows_are
 
+    -- what reading its size asks
+    pub last-spans : Spans rows 0
+    last-spans = spans last-element few short
+
     -- nothing is left after the last
-    alone : i + 8 * size last-element.tree ≡ length rows → last-element.others ≡ none
-    alone q =
-        let l = length-drop i rows in
-        no-left last-element.others last-element.first.others.rows_are (simp length-drop (omega arith))
+    alone : 8 * size last-element.tree ≡ length rows → last-element.others ≡ none
+    alone q = no-left last-element.others last-element.first.others.rows_are (simp length-drop (omega arith))
 
     -- a row that stands last
-    module _ (q : i + 8 ≡ length rows) where
+    module _ (q : length rows ≡ 8) where
       single : size last-element.tree ≡ 1
       single = let z = last-element.end in let y = last-element.some in omega arith
 
-      pub last_found :
-          (n : ℕ) → n ≡ num_of (drop i rows) → get_or rows (i + 1) 0 ≡ 1 → (j + n ≤ length text)
-          × ((r : Token) → r.kind ≡ get_or rows i 0 → r.from ≡ j → r.to ≡ j + n → TokenIs (last_tokens f) text r)
-      last_found n is_n m =
-          let x = last-element in
-          let stop = x.stop in
-          let one = single in
-          let b : is_node_tree x.tree ≡ false = mark-here rows i x.tree (rows_ofs x.others) rows_last (eq-eqb _ 1 m) in
-          let e : n ≡ length (text_of x.tree) = is_n ∙ ap num_of rows_last ∙ token-number x.tree (rows_ofs x.others) b (omega arith) in
-          let o : last_tokens f ≡ some x.tree = still-last ∙ last-alone x.tree x.others (alone (omega arith)) ∙ last-of-token x.tree b in (
-            omega arith,
-            λ r ek ea eb. subst (λ (y : Option Tree). TokenIs y text r) (sym o)
-                (record {
-                  kind = ek ∙ kind-here rows i x.tree (rows_ofs x.others) rows_last;
-                  some = omega arith;
-                  stop = omega arith;
-                  text_is =
-                      ap (λ (m : ℕ). take (r.to - r.from) (drop m text)) ea
-                      ∙ ap (λ (m : ℕ). take m (drop j text)) (let z : r.to - r.from ≡ length (text_of x.tree) = omega arith in z)
-                      ∙ x.first.first.text_is;
-                }),
-          )
+      module _ (n : ℕ) (is_n : n ≡ num_of rows) (m : get_or rows 1 0 ≡ 1) where
+        bare : is_node_tree last-element.tree ≡ false
+        bare = mark-here rows 0 last-element.tree (rows_ofs last-element.others) rows_last (eq-eqb _ 1 m)
 
-      pub last-bare : (get_or rows (i + 1) 0 ≡ 1 → ⊥) → last_tokens f ≡ nothing
+        last-text : n ≡ length (text_of last-element.tree)
+        last-text =
+            let stop = last-element.stop in
+            is_n ∙ ap num_of rows_last ∙ token-number last-element.tree (rows_ofs last-element.others) bare (omega arith)
+
+        pub last-inside : n ≤ length text
+        last-inside = let stop = last-element.stop in let e = last-text in omega arith
+
+        pub last_found : (r : Token) → r.kind ≡ get_or rows 0 0 → r.text.now ≡ take n text → TokenIs (last_tokens f) (Some r)
+        last_found r ek et =
+            let x = last-element in
+            let one = single in
+            token-some x.tree r (still-last ∙ last-alone x.tree x.others (alone (omega arith)) ∙ last-of-token x.tree bare)
+            (ek ∙ kind-here rows 0 x.tree (rows_ofs x.others) rows_last) (et ∙ ap (λ (m : ℕ). take m text) last-text ∙ x.first.first.text_is)
+
+      pub last-bare : (get_or rows 1 0 ≡ 1 → ⊥) → last_tokens f ≡ nothing
       unfolding last_token
       last-bare m =
           let x = last-element in
           let one = single in
-          let b : is_node_tree x.tree ≡ true = mark-here rows i x.tree (rows_ofs x.others) rows_last (ne_eqb _ 1 m) in
+          let b : is_node_tree x.tree ≡ true = mark-here rows 0 x.tree (rows_ofs x.others) rows_last (ne_eqb _ 1 m) in
           let sz = node-size x.tree b in
           still-last ∙ last-alone x.tree x.others (alone (omega arith)) ∙ last-of-node x.tree b
           ∙ ap last_tokens (sizes-none (children_of x.tree) (omega arith))
 
-    module _ (s : Span) (hop : LastHop rows i s) where
+    module _ (s : Span) (hop : LastHop rows 0 s) where
       -- over an element that is not the last
-      over : i + extent_of (drop i rows) < length rows → LastSteps f rows text i j s
+      over : extent_of rows < length rows → LastSteps f rows text s
       over lt =
           let x = last-element in
-          let re = rows-e x s.rows s.text (hop.over_rows lt) (hop.over_text lt) in
-          let tn = text-n x s.rows s.text (hop.over_rows lt) (hop.over_text lt) in
-          let p = past-begins x s.rows s.text (hop.over_rows lt) (hop.over_text lt) in
+          let is_e = hop.over_rows (omega arith) in
+          let is_n = hop.over_text (omega arith) in
+          let re = rows-e x s.rows s.text is_e is_n in
+          let tn = text-n x s.rows s.text is_e is_n in
+          let p : Begins x.others (drop s.rows rows) (drop s.text text) =
+          subst (λ (n : ℕ). Begins x.others (drop n rows) (drop s.text text)) (omega arith)
+          (subst (λ (n : ℕ). Begins x.others (drop (0 + s.rows) rows) (drop n text)) (omega arith) (past-begins x s.rows s.text is_e is_n)) in
           let end = x.end in
           let stop = x.stop in
           let b = x.some in
@@ -273,56 +284,55 @@ module _ {f : Forest} {rows text : List ℕ} {i j : ℕ} (w : Lasts f rows text 
           }
 
       -- into a node that is
-      inside : i + extent_of (drop i rows) ≡ length rows → is_node_tree last-element.tree ≡ true → LastSteps f rows text i j s
+      inside : extent_of rows ≡ length rows → is_node_tree last-element.tree ≡ true → LastSteps f rows text s
       inside eq b =
           let x = last-element in
-          let e₈ : s.rows ≡ 8 = hop.into_rows eq in
-          let e₀ : s.text ≡ 0 = hop.into_text eq in
+          let e₈ : s.rows ≡ 8 = hop.into_rows (omega arith) in
+          let e₀ : s.text ≡ 0 = hop.into_text (omega arith) in
           let end = x.end in
           let ext = x.first.extent in
           let sz = node-size x.tree b in
-          let l = length-drop i rows in
-          let er : take (8 * sizes (children_of x.tree)) (drop 8 (drop i rows)) ≡ drop (i + s.rows) rows =
-          take_all (8 * sizes (children_of x.tree)) (drop 8 (drop i rows)) (simp length-drop (omega arith)) ∙ drop-drop 8 i rows
-          ∙ ap (λ (n : ℕ). drop (i + n) rows) (sym e₈) in
-          let et : drop j text ≡ drop (j + s.text) text = ap (λ (n : ℕ). drop n text) (let z : j ≡ j + s.text = omega arith in z) in
+          let er : take (8 * sizes (children_of x.tree)) (drop 8 rows) ≡ drop s.rows rows =
+          take_all (8 * sizes (children_of x.tree)) (drop 8 rows) (simp length-drop (omega arith)) ∙ ap (λ (n : ℕ). drop n rows) (sym e₈) in
+          let et : text ≡ drop s.text text = ap (λ (n : ℕ). drop n text) (sym e₀) in
           record {
             end = omega arith;
             some = omega arith;
             stop = omega arith;
             lasts = record {
               forest = children_of x.tree;
-              begins = subst (λ (R : List ℕ). Begins (children_of x.tree) R (drop (j + s.text) text)) er
-                  (subst (λ (T : List ℕ). Begins (children_of x.tree) (take (8 * sizes (children_of x.tree)) (drop 8 (drop i rows))) T) et
+              begins = subst (λ (R : List ℕ). Begins (children_of x.tree) R (drop s.text text)) er
+                  (subst (λ (T : List ℕ). Begins (children_of x.tree) (take (8 * sizes (children_of x.tree)) (drop 8 rows)) T) et
                   (into x.tree begins-last b));
               still = still-last ∙ last-alone x.tree x.others (alone (omega arith)) ∙ last-of-node x.tree b;
             };
           }
 
-      pub last-next : (i + 8 ≡ length rows → ⊥) → LastSteps f rows text i j s
-      last-next ne = by (ltb (i + extent_of (drop i rows)) (length rows)) refl
+      pub last-next : 8 < length rows → LastSteps f rows text s
+      last-next gt = by (ltb (extent_of rows) (length rows)) refl
         where
-          node-here : i + extent_of (drop i rows) ≡ length rows → (b : Bool) → is_node_tree last-element.tree ≡ b → b ≡ true
+          node-here : extent_of rows ≡ length rows → (b : Bool) → is_node_tree last-element.tree ≡ b → b ≡ true
           node-here eq true e = refl
-          node-here eq false e = absurd (ne (let y = last-element.first.extent in omega (arith, size-token last-element.tree e)))
+          node-here eq false e = absurd (let y = last-element.first.extent in omega (arith, size-token last-element.tree e))
 
-          by : (b : Bool) → ltb (i + extent_of (drop i rows)) (length rows) ≡ b → LastSteps f rows text i j s
+          by : (b : Bool) → ltb (extent_of rows) (length rows) ≡ b → LastSteps f rows text s
           by true e = over (ltb-true _ _ e)
           by false e =
-              let eq : i + extent_of (drop i rows) ≡ length rows = let z = last-element.end in let y = last-element.first.extent in
-              omega (arith, ltb-false (i + extent_of (drop i rows)) (length rows) e) in
+              let eq : extent_of rows ≡ length rows = let z = last-element.end in let y = last-element.first.extent in
+              omega (arith, ltb-false (extent_of rows) (length rows) e) in
               inside eq (node-here eq _ refl)
 
-  pub last_none : length rows ≤ i → last_tokens f ≡ nothing
+  pub last_none : length rows < 8 → last_tokens f ≡ nothing
   unfolding last_token
-  last_none h = w.still ∙ ap last_tokens (no-left w.forest w.begins.rows_are (simp length-drop (omega arith)))
+  last_none h =
+      w.still ∙ ap last_tokens (no-left w.forest w.begins.rows_are (omega (arith, ap length w.begins.rows_are ∙ length-rowss w.forest)))
 
 -- ---- a token that is tested
 
-module _ {o : Option Tree} {text : List ℕ} {r : Token} (m : TokenIs o text r) (k : ℕ) (s : List ℕ) where
-  pub token-of-same : r.kind ≡ k → {b : Bool} → b ≡ same (take (r.to - r.from) (drop r.from text)) s → b ≡ is_token_of k s o
-  token-of-same e {b} q =
-      and-then (eqb (kind_in o) k) (same (text_in o) s) refl (eq-eqb (kind_in o) k (sym m.kind ∙ e)) (q ∙ ap (λ (l : List ℕ). same l s) m.text_is)
+module _ {o : Maybe Tree} {r : Token} (m : TokenIs o (Some r)) (k : ℕ) (s : List ℕ) where
+  kind-is : r.kind ≡ kind_in o
+  kind-is = ap (λ (k : Option ℕ). unwrap_or k 0) m.kind ∙ kind-or-none o
 
-  pub token-of-other : (r.kind ≡ k → ⊥) → false ≡ is_token_of k s o
-  token-of-other e = and-not (eqb (kind_in o) k) (same (text_in o) s) refl (ne_eqb (kind_in o) k (λ q. e (m.kind ∙ q)))
+  pub token-same : r.kind ≡ k → {b : Bool} → b ≡ same r.text.now s → b ≡ is_token_of k s o
+  token-same e q =
+      and-then (eqb (kind_in o) k) (same (text_in o) s) refl (eq-eqb (kind_in o) k (sym kind-is ∙ e)) (q ∙ ap (λ (l : List ℕ). same l s) m.text_is)

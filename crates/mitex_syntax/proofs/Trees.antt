@@ -20,19 +20,9 @@ use Rattle.mitex_syntax.specs.Rows.{extent_of, token_sum, Spans}
 use Rattle.mitex_syntax.specs.Views.{children_of}
 use Rattle.mitex_syntax.specs.Spells.{Sound, Spells, SpellsAll, Begins, SomeTree}
 use Rattle.mitex_syntax.proofs.Reading.{token_sum-nil}
+pub use Rattle.mitex_syntax.specs.Once.{length-rows, length-rowss, size-some}
 
 -- ---- the rows of a tree
-
-mutual
-  unfolding rows_of size
-
-  pub length-rows : (t : Tree) → length (rows_of t) ≡ 8 * size t
-  length-rows (token k s) = refl
-  length-rows (node k f) = omega (arith, length-rowss f)
-
-  pub length-rowss : (f : Forest) → length (rows_ofs f) ≡ 8 * sizes f
-  length-rowss none = refl
-  length-rowss (more t f) = omega (arith, length-append (rows_of t) (rows_ofs f), length-rows t, length-rowss f)
 
 mutual
   unfolding rows_of text_of token_sum
@@ -59,11 +49,6 @@ extent-tree (token k s) r h = refl
 extent-tree (node k f) r h = omega (arith, four-says (sizes f) (omega arith))
 
 -- ---- sizes
-
-pub size-some : (t : Tree) → 1 ≤ size t
-unfolding size
-size-some (token k s) = omega arith
-size-some (node k f) = omega arith
 
 pub size-node : (k : ℕ) (f : Forest) → size (node k f) ≡ 1 + sizes f
 unfolding size

@@ -4,4 +4,5 @@ pub mod Rows
 pub mod Views
 pub mod Spells
 pub mod Places
+pub mod Once
 pub mod Examples

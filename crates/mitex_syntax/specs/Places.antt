@@ -1,15 +1,14 @@
 -- What the views promise of a place: where a child stands among the children of a node, and where a token's text does. Rows and
 -- text are those of the children; places in them are counted in bytes.
-use Rattle.std.specs.Prelude.{Bool, ◌≡◌, ℕ, ◌+◌, ◌*◌, ◌-◌, ◌≤◌, ◌<◌, List, [], length, take, drop}
-use Rattle.std.proofs.Math.Option.{Option}
+use Rattle.std.specs.Prelude.{Bool, ◌≡◌, ℕ, ◌+◌, ◌*◌, ◌-◌, ◌≤◌, ◌<◌, List, [], length, take, drop, Option, None, Some}
+use Rattle.std.proofs.Math.Option.{Option as Maybe}
 use Rattle.std.proofs.Math.Option.Option.{none as nothing, some}
-use Rattle.mitex_syntax.specs.Tree.{Tree, Forest, size, sizes}
+use Rattle.mitex_syntax.specs.Tree.{Tree, Forest, size, sizes, kind_of}
 use Rattle.mitex_syntax.specs.Tree.Forest.{more}
 use Rattle.mitex_syntax.specs.Rows.{extent_of, token_sum}
-use Rattle.mitex_syntax.specs.Views.{first_by, offset_by, all_by, from_by, is_of, is_other, is_argument_with, kind_in, text_in}
-use Rattle.mitex_syntax.specs.Spells.{Spells, Begins}
+use Rattle.mitex_syntax.specs.Views.{first_by, offset_by, all_by, from_by, is_of, is_other, is_argument_with, text_in}
+use Rattle.mitex_syntax.specs.Spells.{Spells, Begins, SomeTree}
 use Rattle.mitex_syntax.specs.declared.Spot.{Spot}
-use Rattle.mitex_syntax.specs.declared.Spot.TheVariants.{Nowhere, At}
 use Rattle.mitex_syntax.specs.declared.Wanted.{Wanted}
 use Rattle.mitex_syntax.specs.declared.Wanted.TheVariants.{Kind, ArgumentWith, Other}
 use Rattle.mitex_syntax.specs.declared.Token.{Token}
@@ -41,34 +40,55 @@ pub record FirstAt (p : Tree → Bool) (f : Forest) (rows text : List ℕ) (i a 
   pub from : from_by p f ≡ more tree others
 
 -- the place is that of the first such element
-pub data Placed (p : Tree → Bool) (f : Forest) (rows text : List ℕ) (i : ℕ) : Spot → Type 0 where
-  missing : first_by p f ≡ nothing → Placed p f rows text i Nowhere
-  there : {a b c d : ℕ} → FirstAt p f rows text i a b c d → Placed p f rows text i (At a b c d)
+pub data Placed (p : Tree → Bool) (f : Forest) (rows text : List ℕ) (i : ℕ) : Option Spot → Type 0 where
+  missing : first_by p f ≡ nothing → Placed p f rows text i None
+  there : {s : Spot} → FirstAt p f rows text i s.row s.end s.from s.to → Placed p f rows text i (Some s)
 
 -- the place is the right one for all elements that the rows and the text spell from row byte i and text byte j on
-abbrev pub FindsSpot : (Tree → Bool) → List ℕ → List ℕ → ℕ → ℕ → Spot → Type 0
+abbrev pub FindsSpot : (Tree → Bool) → List ℕ → List ℕ → ℕ → ℕ → Option Spot → Type 0
 FindsSpot p rows text i j r = (f : Forest) → Begins f (drop i rows) (drop j text) → Placed p f rows text i r
 
 -- the text at a place; none where nothing was found
-abbrev pub part_at : Spot → List ℕ → List ℕ
-part_at Nowhere text = []
-part_at (At a b c d) text = take (d - c) (drop c text)
+abbrev pub part_at : Option Spot → List ℕ → List ℕ
+part_at None text = []
+part_at (Some s) text = take (s.to - s.from) (drop s.from text)
 
-abbrev pub InText : List ℕ → Spot → Type 0
-InText text Nowhere = Unit {0}
-InText text (At a b c d) = (c ≤ d) × (d ≤ length text)
+abbrev pub InText : List ℕ → Option Spot → Type 0
+InText text None = Unit {0}
+InText text (Some s) = (s.from ≤ s.to) × (s.to ≤ length text)
+
+-- an element stands at the place, or at that which was found
+pub record SpotIn (rows text : List ℕ) (s : Spot) : Type 0 where
+  pub some_rows : s.row + 8 ≤ s.end
+  pub end : s.end ≤ length rows
+  pub some_text : s.from ≤ s.to
+  pub stop : s.to ≤ length text
+  pub element : SomeTree (take (s.end - s.row) (drop s.row rows)) (take (s.to - s.from) (drop s.from text))
+
+abbrev pub FoundIn : List ℕ → List ℕ → Option Spot → Type 0
+FoundIn rows text None = Unit {0}
+FoundIn rows text (Some s) = SpotIn rows text s
 
 -- ---- a token
 
--- kind and text of the token, if there is one: 0 and no text if not
-pub record TokenIs (o : Option Tree) (text : List ℕ) (r : Token) : Type 0 where
-  pub kind : r.kind ≡ kind_in o
-  pub some : r.from ≤ r.to
-  pub stop : r.to ≤ length text
-  pub text_is : take (r.to - r.from) (drop r.from text) ≡ text_in o
+-- the kind of an element that may be there
+abbrev pub kind_found : Maybe Tree → Option ℕ
+kind_found nothing = None
+kind_found (some t) = Some (kind_of t)
 
-abbrev pub TokenInText : List ℕ → Token → Type 0
-TokenInText text t = (t.from ≤ t.to) × (t.to ≤ length text)
+-- kind and text of a token that may be there; no text where there is none
+abbrev pub kind_told : Option Token → Option ℕ
+kind_told None = None
+kind_told (Some r) = Some r.kind
+
+abbrev pub text_told : Option Token → List ℕ
+text_told None = []
+text_told (Some r) = r.text.now
+
+-- the token is there where there is one, with its kind and its text
+pub record TokenIs (o : Maybe Tree) (r : Option Token) : Type 0 where
+  pub kind : kind_told r ≡ kind_found o
+  pub text_is : text_told r ≡ text_in o
 
 -- the way to the last token: over an element that is not the last, and into one that is
 pub record LastHop (rows : List ℕ) (i : ℕ) (r : Span) : Type 0 where

@@ -2,19 +2,24 @@
 // text are parts of the caller's tree file.
 #![tactic(auto)]
 
-ghost use Rattle.std.specs.Prelude.{◌≡◌, ◌+◌, ◌-◌, ◌%◌, ◌≤◌, ◌<◌, length, take, drop};
-ghost use Rattle.std.proofs.Math.Option.{Option};
+ghost use Rattle.std.specs.Prelude.{◌≡◌, ◌+◌, ◌-◌, ◌%◌, ◌≤◌, ◌<◌, length, take, drop, Some};
+ghost use Rattle.std.proofs.Math.Option.{Option as Maybe};
 ghost use Rattle.text.specs.Writing.{cap};
 ghost use Rattle.utf8.specs.Trim.{trim};
-ghost use Rattle.mitex_syntax.specs.Syntax.{ItemBegin, is_trivia, is_token, is_node};
+ghost use Rattle.mitex_syntax.specs.Syntax.{is_trivia, is_token, is_node};
 ghost use Rattle.mitex_syntax.specs.Tree.{Tree, Forest, rows_of, rows_ofs};
 ghost use Rattle.mitex_syntax.specs.Rows.{num_of, extent_of, token_at, token_sum, Spans};
-ghost use Rattle.mitex_syntax.specs.Views.{is_of, is_argument_with, first_node, kind_in, cmd_name, first_tokens, last_tokens};
-ghost use Rattle.mitex_syntax.specs.Views.{env_name, is_token_of, is_inline, is_pair, dollar_ends, math_ends, is_valid, inner};
-ghost use Rattle.mitex_syntax.specs.Spells.{Begins, SomeRows, SomeElement, SomeForest};
-ghost use Rattle.mitex_syntax.specs.Places.{is_wanted, FindsSpot, InText, part_at, TokenIs, TokenInText, LastHop};
+ghost use Rattle.mitex_syntax.specs.Views.{is_argument_with, first_node, is_token_of, inner};
+ghost use Rattle.mitex_syntax.specs.Spells.{SomeRows, SomeElement};
+ghost use Rattle.mitex_syntax.specs.Places.{is_wanted, kind_found, TokenIs, LastHop};
+
+mod children;
+
+pub use children::Children;
 
 // ---- kinds, in the order in which the main match of `Converter::convert` names them
+// They are numbers and no enum: a row's first byte is the caller's, any of 256, and `is_token`, `is_node` and `is_trivia` answer for each
+// of them. A match on the constants is what a match on an enum would be, with no conversion of a byte that may be no kind.
 
 pub const TOKEN_ERROR: u8 = 1;
 
@@ -110,48 +115,30 @@ pub const ITEM_TYPST_CODE: u8 = 45;
 pub fn is_trivia(k: u8) -> bool
     ensures { result ≡ is_trivia k }
 {
-    match k {
-        TOKEN_LINE_BREAK => true,
-        TOKEN_WHITE_SPACE => true,
-        TOKEN_COMMENT => true,
-        ITEM_NEW_LINE => true,
-        _ => false,
-    }
+    matches!(
+        k,
+        TOKEN_LINE_BREAK | TOKEN_WHITE_SPACE | TOKEN_COMMENT | ITEM_NEW_LINE
+    )
 }
 
 // Whether a token may be of this kind.
 pub fn is_token(k: u8) -> bool
     ensures { result ≡ is_token k }
 {
-    if k == TOKEN_ERROR {
-        return true;
-    }
-    if k == CLAUSE_COMMAND_NAME {
-        return true;
-    }
-    if k < TOKEN_WORD {
-        return false;
-    }
-    if k == ITEM_BLOCK_COMMENT {
-        return false;
-    }
-    k <= TOKEN_COMMAND_SYM
+    matches!(
+        k,
+        TOKEN_ERROR
+            | CLAUSE_COMMAND_NAME
+            | TOKEN_WORD..=TOKEN_COMMENT
+            | TOKEN_WHITE_SPACE..=TOKEN_COMMAND_SYM
+    )
 }
 
 // Whether a node may be of this kind.
 pub fn is_node(k: u8) -> bool
     ensures { result ≡ is_node k }
 {
-    if k == TOKEN_ERROR {
-        return true;
-    }
-    if k == 0 {
-        return false;
-    }
-    if is_token(k) {
-        return false;
-    }
-    k <= ITEM_TYPST_CODE
+    k == TOKEN_ERROR || (1 <= k && k <= ITEM_TYPST_CODE && !is_token(k))
 }
 
 // ---- rows
@@ -177,9 +164,10 @@ pub fn extent(rows: &[u8], i: usize) -> usize
     ensures { result ≡ extent_of (drop i rows.now) }
 {
     if rows[i + 1] == 1 {
-        return 8;
+        8
+    } else {
+        8 + 8 * number(rows, i)
     }
-    8 + 8 * number(rows, i)
 }
 
 // The text bytes of the row at `i`, 0 of a node. The number is read of either, which leaves a choice in place of a jump.
@@ -188,10 +176,7 @@ pub fn token_len(rows: &[u8], i: usize) -> usize
     ensures { result ≡ token_at (drop i rows.now) }
 {
     let n = number(rows, i);
-    if rows[i + 1] == 1 {
-        return n;
-    }
-    0
+    if rows[i + 1] == 1 { n } else { 0 }
 }
 
 // The text bytes of these rows.
@@ -199,13 +184,7 @@ pub fn text_len(rows: &[u8]) -> usize
     requires { (token_sum rows.now < cap) × (length rows.now % 8 ≡ 0) }
     ensures { result ≡ token_sum rows.now }
 {
-    let mut i = 0;
-    let mut sum = 0;
-    while i < rows.len() {
-        sum += token_len(rows, i);
-        i += 8;
-    }
-    sum
+    rows.chunks_exact(8).map(|row| token_len(row, 0)).sum()
 }
 
 // The bytes of the element at `i`.
@@ -219,18 +198,15 @@ pub fn span_at(rows: &[u8], i: usize) -> Span
     Span { rows: e, text: n }
 }
 
-// ---- the children of a node: `rows` are those after the node's own row, `text` begins with theirs
+// ---- what is found among the children of a node
 
 // Where a child stands: its rows from `row` to `end`, its text from `from` to `to`, in bytes.
 #[derive(Clone, Copy)]
-pub enum Spot {
-    Nowhere,
-    At {
-        row: usize,
-        end: usize,
-        from: usize,
-        to: usize,
-    },
+pub struct Spot {
+    pub row: usize,
+    pub end: usize,
+    pub from: usize,
+    pub to: usize,
 }
 
 // A place among the children, between two of them.
@@ -248,38 +224,38 @@ pub enum Wanted {
     Other(u8),
 }
 
-// A token: its kind, and its text from `from` to `to`; kind 0 and no text where there is none.
+// A token: its kind and its text.
 #[derive(Clone, Copy)]
-pub struct Token {
+pub struct Token<'a> {
     pub kind: u8,
-    pub from: usize,
-    pub to: usize,
+    pub text: &'a [u8],
 }
 
-// The kind of the first child that is a node; 0: there is none.
-pub fn first_node_kind(rows: &[u8]) -> u8
-    requires { SomeRows rows.now }
-    ensures { (f : Forest) → rows.now ≡ rows_ofs f → result ≡ kind_in (first_node f) }
-{
-    let mut i = 0;
-    while i < rows.len() {
-        if rows[i + 1] != 1 {
-            return rows[i];
-        }
-        i += 8;
+impl<'a> Token<'a> {
+    // Whether the token is of this kind and has this text.
+    fn is(self, kind: u8, text: &[u8]) -> bool
+        ensures { (o : Maybe Tree) → TokenIs o (Some self.entry) → result ≡ is_token_of kind text.now o }
+    {
+        self.kind == kind && self.text == text
     }
-    0
 }
 
-// Whether an element is an argument whose first node is of this kind.
+// The kind of the first child that is a node.
+pub fn first_node_kind(rows: &[u8]) -> Option<u8>
+    requires { SomeRows rows.now }
+    ensures { (f : Forest) → rows.now ≡ rows_ofs f → result ≡ kind_found (first_node f) }
+{
+    rows.chunks_exact(8)
+        .find(|row| row[1] != 1)
+        .map(|row| row[0])
+}
+
+// Whether an element is an argument whose first node is of this kind; kind 0: it has no node.
 fn is_argument_with(rows: &[u8], kind: u8) -> bool
     requires { SomeElement rows.now }
     ensures { (t : Tree) → rows.now ≡ rows_of t → result ≡ is_argument_with kind t }
 {
-    if rows[0] == CLAUSE_ARGUMENT {
-        return first_node_kind(&rows[8..]) == kind;
-    }
-    false
+    rows[0] == CLAUSE_ARGUMENT && first_node_kind(&rows[8..]).unwrap_or(0) == kind
 }
 
 // Whether an element is what is looked for.
@@ -294,250 +270,16 @@ fn is_wanted(rows: &[u8], wanted: Wanted) -> bool
     }
 }
 
-// The first child from a cursor on that is what is looked for.
-pub fn find(rows: &[u8], text: &[u8], at: Cursor, wanted: Wanted) -> Spot
-    requires { SomeForest rows.now text.now at.row at.text }
-    ensures { FindsSpot (is_wanted wanted) rows.now text.now at.row at.text result }
+// A step on the way to the last token: over the first element, or into it where it is the last.
+fn hop(rows: &[u8]) -> Span
+    requires { Spans rows.now 0 }
+    ensures { LastHop rows.now 0 result }
 {
-    let mut i = at.row;
-    let mut j = at.text;
-    while i < rows.len() {
-        let s = span_at(rows, i);
-        let end = i + s.rows;
-        let to = j + s.text;
-        if is_wanted(&rows[i..end], wanted) {
-            return Spot::At {
-                row: i,
-                end,
-                from: j,
-                to,
-            };
-        }
-        i = end;
-        j = to;
+    if extent(rows, 0) < rows.len() {
+        span_at(rows, 0)
+    } else {
+        Span { rows: 8, text: 0 }
     }
-    Spot::Nowhere
-}
-
-// The first child of a kind.
-pub fn find_kind(rows: &[u8], text: &[u8], kind: u8) -> Spot
-    requires { SomeForest rows.now text.now 0 0 }
-    ensures { FindsSpot (is_of kind) rows.now text.now 0 0 result }
-{
-    find(rows, text, Cursor { row: 0, text: 0 }, Wanted::Kind(kind))
-}
-
-// The first argument whose first node is of a kind.
-pub fn argument_with(rows: &[u8], text: &[u8], kind: u8) -> Spot
-    requires { SomeForest rows.now text.now 0 0 }
-    ensures { FindsSpot (is_argument_with kind) rows.now text.now 0 0 result }
-{
-    find(
-        rows,
-        text,
-        Cursor { row: 0, text: 0 },
-        Wanted::ArgumentWith(kind),
-    )
-}
-
-// The text at a place; none where nothing was found.
-pub fn text_at<'a>(text: &'a [u8], place: Spot) -> &'a [u8]
-    requires { InText text.now place }
-    ensures { result.now ≡ part_at place text.now }
-{
-    match place {
-        Spot::Nowhere => &text[0..0],
-        Spot::At {
-            row: _,
-            end: _,
-            from,
-            to,
-        } => &text[from..to],
-    }
-}
-
-// `CmdItem::name_tok`: the name of a command over these children.
-pub fn name_tok<'a>(rows: &[u8], text: &'a [u8]) -> &'a [u8]
-    requires { SomeForest rows.now text.now 0 0 }
-    ensures { (f : Forest) → Begins f rows.now text.now → result.now ≡ cmd_name f }
-{
-    text_at(text, find_kind(rows, text, CLAUSE_COMMAND_NAME))
-}
-
-// ---- tokens
-
-// The first token, following first children only.
-pub fn first_token(rows: &[u8], text: &[u8]) -> Token
-    requires { SomeForest rows.now text.now 0 0 }
-    ensures { (f : Forest) → Begins f rows.now text.now → TokenIs (first_tokens f) text.now result }
-{
-    let mut l = rows;
-    while 8 <= l.len() {
-        let n = number(l, 0);
-        if l[1] == 1 {
-            return Token {
-                kind: l[0],
-                from: 0,
-                to: n,
-            };
-        }
-        l = &l[8..8 + 8 * n];
-    }
-    Token {
-        kind: 0,
-        from: 0,
-        to: 0,
-    }
-}
-
-// A step on the way to the last token: over the element at `i`, or into it where it is the last.
-fn hop(rows: &[u8], i: usize) -> Span
-    requires { Spans rows.now i }
-    ensures { LastHop rows.now i result }
-{
-    let e = extent(rows, i);
-    if i + e < rows.len() {
-        return span_at(rows, i);
-    }
-    Span { rows: 8, text: 0 }
-}
-
-// The last token, following last children only.
-pub fn last_token(rows: &[u8], text: &[u8]) -> Token
-    requires { SomeForest rows.now text.now 0 0 }
-    ensures { (f : Forest) → Begins f rows.now text.now → TokenIs (last_tokens f) text.now result }
-{
-    let mut i = 0;
-    let mut j = 0;
-    while i < rows.len() {
-        if i + 8 == rows.len() {
-            if rows[i + 1] == 1 {
-                return Token {
-                    kind: rows[i],
-                    from: j,
-                    to: j + number(rows, i),
-                };
-            }
-            return Token {
-                kind: 0,
-                from: 0,
-                to: 0,
-            };
-        }
-        let s = hop(rows, i);
-        i += s.rows;
-        j += s.text;
-    }
-    Token {
-        kind: 0,
-        from: 0,
-        to: 0,
-    }
-}
-
-// The text of a token.
-pub fn token_text<'a>(text: &'a [u8], t: Token) -> &'a [u8]
-    requires { TokenInText text.now t }
-    ensures { result.now ≡ take (t.to - t.from) (drop t.from text.now) }
-{
-    let from = t.from;
-    let to = t.to;
-    &text[from..to]
-}
-
-// ---- environments
-
-// `EnvItem::begin`: where the first ItemBegin stands.
-pub fn begin(rows: &[u8], text: &[u8]) -> Spot
-    requires { SomeForest rows.now text.now 0 0 }
-    ensures { FindsSpot (is_of ItemBegin) rows.now text.now 0 0 result }
-{
-    find_kind(rows, text, ITEM_BEGIN)
-}
-
-// `EnvItem::name_tok`: the name of an environment over these children.
-pub fn env_name<'a>(rows: &[u8], text: &'a [u8]) -> &'a [u8]
-    requires { SomeForest rows.now text.now 0 0 }
-    ensures { (f : Forest) → Begins f rows.now text.now → result.now ≡ env_name f }
-{
-    match begin(rows, text) {
-        Spot::Nowhere => &text[0..0],
-        Spot::At { row, end, from, to } => {
-            let s = &text[from..to];
-            token_text(s, first_token(&rows[row + 8..end], s))
-        }
-    }
-}
-
-// ---- formulas
-
-// Whether a token is of this kind and has this text.
-fn is_token_of(text: &[u8], t: Token, kind: u8, s: &[u8]) -> bool
-    requires { TokenInText text.now t }
-    ensures { (o : Option Tree) → TokenIs o text.now t → result ≡ is_token_of kind s.now o }
-{
-    if t.kind == kind {
-        return text::same(token_text(text, t), s);
-    }
-    false
-}
-
-// `FormulaItem::is_inline`.
-pub fn is_inline(rows: &[u8], text: &[u8]) -> bool
-    requires { SomeForest rows.now text.now 0 0 }
-    ensures { (f : Forest) → Begins f rows.now text.now → result ≡ is_inline f }
-{
-    let t = first_token(rows, text);
-    if is_token_of(text, t, TOKEN_DOLLAR, b"$") {
-        return true;
-    }
-    is_token_of(text, t, TOKEN_BEGIN_MATH, b"\\(")
-}
-
-// Whether the two ends are tokens of these kinds and texts.
-fn is_pair(text: &[u8], a: Token, k: u8, s: &[u8], b: Token, m: u8, e: &[u8]) -> bool
-    requires { TokenInText text.now a × TokenInText text.now b }
-    ensures { (f : Forest) → TokenIs (first_tokens f) text.now a → TokenIs (last_tokens f) text.now b → result ≡ is_pair k s.now m e.now f }
-{
-    if is_token_of(text, a, k, s) {
-        return is_token_of(text, b, m, e);
-    }
-    false
-}
-
-// Whether both ends are `$`, or both `$$`.
-fn dollar_ends(text: &[u8], a: Token, b: Token) -> bool
-    requires { TokenInText text.now a × TokenInText text.now b }
-    ensures { (f : Forest) → TokenIs (first_tokens f) text.now a → TokenIs (last_tokens f) text.now b → result ≡ dollar_ends f }
-{
-    if is_pair(text, a, TOKEN_DOLLAR, b"$", b, TOKEN_DOLLAR, b"$") {
-        return true;
-    }
-    is_pair(text, a, TOKEN_DOLLAR, b"$$", b, TOKEN_DOLLAR, b"$$")
-}
-
-// Whether the ends are `\(` and `\)`, or `\[` and `\]`.
-fn math_ends(text: &[u8], a: Token, b: Token) -> bool
-    requires { TokenInText text.now a × TokenInText text.now b }
-    ensures { (f : Forest) → TokenIs (first_tokens f) text.now a → TokenIs (last_tokens f) text.now b → result ≡ math_ends f }
-{
-    if is_pair(text, a, TOKEN_BEGIN_MATH, b"\\(", b, TOKEN_END_MATH, b"\\)") {
-        return true;
-    }
-    is_pair(text, a, TOKEN_BEGIN_MATH, b"\\[", b, TOKEN_END_MATH, b"\\]")
-}
-
-// `FormulaItem::is_valid`: whether the formula ends as it began.
-pub fn is_valid(rows: &[u8], text: &[u8]) -> bool
-    requires { SomeForest rows.now text.now 0 0 }
-    ensures { (f : Forest) → Begins f rows.now text.now → result ≡ is_valid f }
-{
-    let a = first_token(rows, text);
-    let b = last_token(rows, text);
-    if dollar_ends(text, a, b) {
-        return true;
-    }
-    math_ends(text, a, b)
 }
 
 // ---- a text between two ends
@@ -546,11 +288,10 @@ pub fn is_valid(rows: &[u8], text: &[u8]) -> bool
 pub fn inner<'a>(s: &'a [u8]) -> &'a [u8]
     ensures { result.now ≡ inner s.now }
 {
-    if s.len() < 2 {
-        return &s[0..0];
+    match s {
+        [_, inner @ .., _] => inner,
+        _ => &[],
     }
-    let end = s.len() - 1;
-    &s[1..end]
 }
 
 // What stands between the ends of a text, trimmed: the label in `{eq:one}`.

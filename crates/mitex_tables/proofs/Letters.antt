@@ -1,19 +1,51 @@
--- What the letters of a table say, one letter more: each definition goes over `++`, and so from the letters taken to one more.
+-- What the letters of a table say: as std counts and tests them, and one letter more, where each definition goes over `++`.
 use mathlib.Core.Path.{◌≡◌, refl, sym, ap, ◌∙◌}
 use mathlib.Core.Bool.{Bool, true, false, ◌&&◌, ◌||◌, cond}
 use mathlib.Core.List.{List, [], ◌∷◌, ◌++◌, append-nil, append_assoc}
 use Prim.Native.Nat.{ℕ, ◌+◌, ◌≤◌, ◌<◌}
 use native.Mathlib.Omega.{arith}
-use native.Mathlib.Numerals.{add-one}
-use lib.ListN.{length, take, drop, get_or, drop_of_length-le}
-use lib.Seq.{drop-cons}
-use borrow.Author.Tests.{eqb-true}
+use lib.ListN.{length, take, get_or}
+use borrow.Author.Tests.{eqb-true, ne_eqb}
+use Rattle.std.specs.List.{list_all, filter}
 use Rattle.text.specs.Writing.{decimal}
 use Rattle.text.proofs.Compare.{by-test}
 use Rattle.text.proofs.Writing.{take_more}
+use Rattle.text.specs.Outputs.{Puts}
+use Rattle.text.proofs.Outputs.{puts_nil, puts_then, puts_as}
+use Rattle.text.specs.declared.output.Output.{Output}
 use Rattle.mitex_meaning.specs.Texts.{vline_begin, vline_end}
 use Rattle.mitex_meaning.specs.Tables.{is_column, is_line, letters_fit, columns, alignment, alignments, vlines}
-use Rattle.mitex_tables.specs.Letters.{counted, vline}
+
+-- ---- tested and counted
+
+pub letters-all : (s : List ℕ) → list_all (λ b. is_column b || is_line b) s ≡ letters_fit s
+unfolding letters_fit
+letters-all [] = refl
+letters-all (b ∷ s) = ap (λ t. (is_column b || is_line b) && t) (letters-all s)
+
+pub columns-filter : (s : List ℕ) → length (filter is_column s) ≡ columns s
+unfolding columns
+columns-filter [] = refl
+columns-filter (b ∷ s) =
+    by-test (is_column b)
+    (λ e. rw e (omega (arith, columns-filter s)))
+    (λ e. rw e (columns-filter s))
+
+pub columns-most : (s : List ℕ) → columns s ≤ length s
+unfolding columns
+columns-most [] = omega arith
+columns-most (b ∷ s) =
+    by-test (is_column b)
+    (λ e. rw e (omega (arith, columns-most s)))
+    (λ e. rw e (omega (arith, columns-most s)))
+
+-- ---- what one letter does: a column letter counts as one column more, and a line is written after the columns before it
+
+abbrev pub counted : ℕ → ℕ → ℕ
+counted n b = cond (is_column b) (n + 1) n
+
+abbrev pub vline : ℕ → ℕ → List ℕ
+vline n b = cond (is_line b) (vline_begin ++ (decimal n ++ vline_end)) []
 
 -- ---- one letter and the others
 
@@ -30,11 +62,11 @@ counted-plus n b = go (is_column b) where
   go true = omega arith
   go false = omega arith
 
-pub counted-most : (n b : ℕ) → counted n b ≤ n + 1
-counted-most n b = go (is_column b) where
-  go : (t : Bool) → cond t (n + 1) n ≤ n + 1
-  go true = omega arith
-  go false = omega arith
+column-no-line : (b : ℕ) → is_column b ≡ true → is_line b ≡ false
+column-no-line b e =
+    by-test (is_line b)
+    (λ q. let z : ◌≡◌ {A = Bool} true false = sym e ∙ ap is_column (eqb-true b 124 q) in let y : ◌≡◌ {A = ℕ} 0 1 = cc in absurd (omega arith))
+    (λ q. q)
 
 vlines-cons : (n b : ℕ) (s : List ℕ) → vlines n (b ∷ s) ≡ vline n b ++ vlines (counted n b) s
 unfolding vlines
@@ -74,25 +106,8 @@ vlines-append n (x ∷ a) b =
 
 -- ---- from a place to the next
 
-letters-at :
-    (s : List ℕ) (i : ℕ) → i < length s
-    → letters_fit (drop i s) ≡ ((is_column (get_or s i 0) || is_line (get_or s i 0)) && letters_fit (drop (i + 1) s))
-unfolding letters_fit
-letters-at s i h = rw (add-one, drop-cons s i 0 h)
-
-module _ (s : List ℕ) (i : ℕ) (e : letters_fit s ≡ letters_fit (drop i s)) where
-  pub letters-next : i < length s → (is_column (get_or s i 0) || is_line (get_or s i 0)) ≡ true → letters_fit s ≡ letters_fit (drop (i + 1) s)
-  letters-next h y = e ∙ letters-at s i h ∙ ap (λ t. t && letters_fit (drop (i + 1) s)) y
-
-  pub letters-stop : i < length s → (is_column (get_or s i 0) || is_line (get_or s i 0)) ≡ false → false ≡ letters_fit s
-  letters-stop h y = sym (e ∙ letters-at s i h ∙ ap (λ t. t && letters_fit (drop (i + 1) s)) y)
-
-  pub letters-end : length s ≤ i → true ≡ letters_fit s
-  unfolding letters_fit
-  letters-end h = sym (e ∙ ap letters_fit (drop_of_length-le s h))
-
 module _ (s : List ℕ) (i : ℕ) (h : i < length s) where
-  pub columns-more : columns (take (i + 1) s) ≡ counted (columns (take i s)) (get_or s i 0)
+  columns-more : columns (take (i + 1) s) ≡ counted (columns (take i s)) (get_or s i 0)
   unfolding columns
   columns-more =
       let b = get_or s i 0 in
@@ -107,7 +122,7 @@ module _ (s : List ℕ) (i : ℕ) (h : i < length s) where
       ∙ alignments-append (take i s) (b ∷ [])
       ∙ ap (λ l. alignments (take i s) ++ l) (append-nil (alignment b))
 
-  pub vlines-more : vlines 0 (take (i + 1) s) ≡ vlines 0 (take i s) ++ vline (columns (take i s)) (get_or s i 0)
+  vlines-more : vlines 0 (take (i + 1) s) ≡ vlines 0 (take i s) ++ vline (columns (take i s)) (get_or s i 0)
   unfolding vlines
   vlines-more =
       let b = get_or s i 0 in
@@ -117,10 +132,42 @@ module _ (s : List ℕ) (i : ℕ) (h : i < length s) where
       ∙ ap (λ m. vlines 0 (take i s) ++ vlines m (b ∷ [])) (let z : 0 + n ≡ n = omega arith in z)
       ∙ ap (λ l. vlines 0 (take i s) ++ l) (vlines-cons n b [] ∙ append-nil (vline n b))
 
--- ---- the parts of the head, one after the other
+-- ---- the lines among the letters passed
 
-pub columns-parts : (a b c d : List ℕ) → ((a ++ b) ++ c) ++ d ≡ a ++ (b ++ (c ++ d))
-columns-parts a b c d = simp append_assoc
+-- of the first i letters n are columns, and the lines among them were written
+pub record LinesTo (o : Output) (s : List ℕ) (i n : ℕ) (o' : Output) : Type 0 where
+  pub few : n ≤ i
+  pub counted : n ≡ columns (take i s)
+  pub written : Puts o (vlines 0 (take i s)) o'
 
-pub head-parts : (a b c d e f g : List ℕ) → (((a ++ (b ++ (c ++ d))) ++ e) ++ f) ++ g ≡ a ++ (b ++ (c ++ (d ++ (e ++ (f ++ g)))))
-head-parts a b c d e f g = simp append_assoc
+module _ {o o1 : Output} (s : List ℕ) (i : ℕ) {n : ℕ} (h : i < length s) (x : LinesTo o s i n o1) where
+  one_more : {b k : ℕ} → get_or s i 0 ≡ b → counted n b ≡ k → k ≡ columns (take (i + 1) s)
+  one_more {b} e q = sym q ∙ ap (counted n) (sym e) ∙ ap (λ m. counted m (get_or s i 0)) x.counted ∙ sym (columns-more s i h)
+
+  with_line : {w : List ℕ} {o2 : Output} → w ≡ vline n (get_or s i 0) → Puts o1 w o2 → Puts o (vlines 0 (take (i + 1) s)) o2
+  with_line e p =
+      puts_as (ap (λ l. vlines 0 (take i s) ++ l) (e ∙ ap (λ m. vline m (get_or s i 0)) x.counted) ∙ sym (vlines-more s i h)) (puts_then x.written p)
+
+  pub line-column : is_column (get_or s i 0) ≡ true → LinesTo o s (i + 1) (n + 1) o1
+  line-column e =
+      record {
+        few = let z = x.few in omega arith;
+        counted = one_more refl (ap (λ t. cond t (n + 1) n) e);
+        written = with_line (sym (ap (λ t. cond t (vline_begin ++ (decimal n ++ vline_end)) []) (column-no-line (get_or s i 0) e))) puts_nil;
+      }
+
+  pub line-line : {o2 : Output} → is_column (get_or s i 0) ≡ false → get_or s i 0 ≡ 124 → Puts o1 (vline_begin ++ (decimal n ++ vline_end)) o2 → LinesTo o s (i + 1) n o2
+  line-line e q p =
+      record {
+        few = let z = x.few in omega arith;
+        counted = one_more refl (ap (λ t. cond t (n + 1) n) e);
+        written = with_line (sym (ap (vline n) q)) p;
+      }
+
+  pub line-other : is_column (get_or s i 0) ≡ false → (get_or s i 0 ≡ 124 → ⊥) → LinesTo o s (i + 1) n o1
+  line-other e q =
+      record {
+        few = let z = x.few in omega arith;
+        counted = one_more refl (ap (λ t. cond t (n + 1) n) e);
+        written = with_line (sym (ap (λ t. cond t (vline_begin ++ (decimal n ++ vline_end)) []) (ne_eqb (get_or s i 0) 124 q))) puts_nil;
+      }

@@ -3,14 +3,16 @@
 use mathlib.Core.Path.{◌≡◌, refl, sym, ap, subst, ◌∙◌}
 use mathlib.Core.Bool.{Bool, true, false, ◌||◌}
 use mathlib.Core.List.{List, []}
-use Prim.Native.Nat.{ℕ, ◌+◌, ◌-◌, ◌*◌, ◌/◌, ◌≤◌, ◌<◌}
+use Prim.Native.Nat.{ℕ, ◌+◌, ◌*◌, ◌/◌, ◌≤◌, ◌<◌}
 use native.Mathlib.Nat.{add-zero}
 use native.Mathlib.Omega.{arith}
 use borrow.Author.Tests.{eqb-true}
 use lib.Dec.{eqb}
 use lib.ListN.{length, take, drop, get_or, length-drop}
 use lib.Seq.{take-add, drop-drop, get_or-drop}
-use Rattle.text.specs.Writing.{cap, Wrote}
+use Rattle.text.specs.Writing.{cap}
+use Rattle.text.specs.Outputs.{Puts}
+use Rattle.text.specs.declared.output.Output.{Output}
 use Rattle.mitex_syntax.specs.Syntax.{TokenWord, TokenWhiteSpace}
 use Rattle.mitex_syntax.specs.Rows.{num_of}
 use Rattle.mitex_syntax.specs.Tree.{Forest, size, sizes}
@@ -25,12 +27,12 @@ use Rattle.mitex_meaning.specs.declared.LaTeXMode.{LaTeXMode}
 use Rattle.mitex_meaning.specs.declared.LaTeXMode.TheVariants.{Text}
 use Rattle.mitex_meaning.specs.declared.Loop.TheVariants.{Plain}
 use Rattle.mitex_meaning.proofs.Outcomes.{after-nil, after-after}
-use Rattle.mitex_tokens.specs.Puts.{carrying}
-use Rattle.mitex_tokens.specs.Running.{is_copied, run_of}
-use Rattle.mitex_tokens.specs.Runs.{Copies, RunGoes}
-use Rattle.mitex_tokens.specs.declared.TokenRun.{TokenRun}
+use Rattle.mitex_tokens.specs.Comes.{carrying}
+use Rattle.mitex_tokens.specs.Running.{is_copied}
+use Rattle.mitex_tokens.specs.Runs.{RunGiven, Copies, Ran}
+use Rattle.mitex_syntax.specs.declared.Span.{Span}
 use Rattle.mitex_tokens.proofs.Tokens.{token-space, token-word}
-use Rattle.mitex_tokens.proofs.Running.{Head, head, each-token, rows-eight}
+use Rattle.mitex_tokens.proofs.Running.{Head, head, each-token, rows-eight, span}
 
 -- such a token writes its text
 copied-out :
@@ -150,13 +152,9 @@ module _ {rows text : List ℕ} {i j : ℕ} (p : (x : Context) → x.mode ≡ Te
       omega (arith, rows-eight g.spells (omega (arith, length-drop i rows)), length-drop i rows)
 
   -- once it is written
-  pub copied-run :
-      {at w : ℕ} {out out' : List ℕ} {r : TokenRun} → 8 ≤ i → i ≤ length rows → Wrote at out (take j text) w out' → r ≡ run_of i j w false 0
-      → Copies rows text at out r out'
-  copied-run {at} {w} {out} {out'} some high wrote e =
-      subst (λ (y : TokenRun). Copies rows text at out y out') (sym e)
-      (record {
-        stays = refl;
+  pub copied-run : {o o2 : Output} → 8 ≤ i → i ≤ length rows → Puts o (take j text) o2 → Copies rows text o (span i j) o2
+  copied-run some high wrote =
+      record {
         some = some;
         high = high;
         stop = copied-stop;
@@ -165,19 +163,13 @@ module _ {rows text : List ℕ} {i j : ℕ} (p : (x : Context) → x.mode ≡ Te
             λ x t f n sp q.
             let g = (p x t).goes f n sp q in
             record { forest = g.forest; spells = g.spells; fits = g.fits; written = take j text; wrote = wrote; is = g.is };
-      })
+      }
 
 -- ---- what was copied, as a run
 
-pub copies-run :
-    {x : Context} {rows text : List ℕ} {at : ℕ} {out : List ℕ} {r : TokenRun} {out' : List ℕ} → x.mode ≡ Text → Copies rows text at out r out'
-    → RunGoes x false rows text at out r out'
-copies-run {x} {r = r} t q =
-    let z : r.refusal ≡ 0 = ap (λ (y : TokenRun). y.refusal) q.stays in
-    record {
-      high = q.high;
-      stop = q.stop;
-      some = λ y. q.some;
-      refuses = λ y. absurd (y z);
-      goes = λ y. q.goes x t;
-    }
+pub copies-run : {x : Context} {rows text : List ℕ} {o o2 : Output} {s : Span} → x.mode ≡ Text → Copies rows text o s o2 → Ran x false rows text o false o2 s
+copies-run {x} t q = record { high = q.high; stop = q.stop; some = q.some; goes = q.goes x t }
+
+pub copies-lent :
+    {rows text : List ℕ} {o o2 : Output} {s : Span} → RunGiven rows text → Copies rows text o s o2 → o2.buffer.ghost_name ≡ o.buffer.ghost_name
+copies-lent g q = (q.goes in_text refl g.forest (sizes g.forest) g.spells (omega arith)).wrote.lent

@@ -1,5 +1,5 @@
-pub mod Tokens
 pub mod Spacing
-pub mod Putting
+pub mod Tokens
+pub mod Coming
 pub mod Running
 pub mod Copying

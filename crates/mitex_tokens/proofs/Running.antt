@@ -1,42 +1,46 @@
--- A run of tokens: what the first rows say of a token (`Head`), what it comes to in a plain loop, and how far the loop has gone (`Ran`), to
+-- A run of tokens: what the first rows say of a token (`Head`), what it comes to in a plain loop, and how far the loop has gone (`RanTo`), to
 -- which each further run is added.
 use mathlib.Core.Path.{◌≡◌, refl, sym, ap, subst, ◌∙◌}
-use mathlib.Core.Bool.{Bool, true, false}
+use mathlib.Core.Bool.{Bool}
 use mathlib.Core.List.{List, [], ◌++◌}
-use Prim.Native.Nat.{ℕ, zero, suc, ◌+◌, ◌*◌, ◌-◌, ◌/◌, ◌≤◌, ◌<◌}
-use native.Mathlib.Nat.{add-zero}
-use native.Mathlib.Decide.{dec_le}
+use Prim.Native.Nat.{ℕ, zero, suc, ◌+◌, ◌*◌, ◌-◌, ◌/◌, ◌≤◌, ◌<◌, ◌^◌}
 use native.Mathlib.Omega.{arith}
-use lib.Dec.{T}
 use lib.ListN.{length, take, drop, get_or, length-append, length-drop}
 use lib.Seq.{take_at, drop-drop, get_or-drop}
+use Rattle.std.specs.Prelude.{Result, Ok, Err}
+use Rattle.refusals.specs.Refusals.{refusal_number}
+use Rattle.refusals.specs.declared.Reason.{Reason}
+use Rattle.refusals.specs.declared.Refusal.{Refusal}
 use Rattle.text.specs.Writing.{cap}
-use Rattle.text.proofs.Writing.{wrote-nil, wrote_then, wrote-low, wrote-long, part-rest}
+use Rattle.text.proofs.Writing.{part-rest}
+use Rattle.text.specs.declared.output.Output.{Output}
+use Rattle.text.proofs.Outputs.{puts_then}
+use Rattle.mitex_spec.specs.Rules.{Rule}
 use Rattle.mitex_syntax.specs.Rows.{num_of}
 use Rattle.mitex_syntax.specs.Tree.{Tree, Forest, size, sizes, rows_of, rows_ofs, text_of, texts_of}
 use Rattle.mitex_syntax.specs.Tree.Tree.{token, node}
 use Rattle.mitex_syntax.specs.Tree.Forest.{none, more}
 use Rattle.mitex_syntax.specs.Spells.{SpellsAll}
+use Rattle.mitex_syntax.specs.declared.Span.{Span}
 use Rattle.mitex_syntax.proofs.Trees.{length-rowss, others-exact}
 use Rattle.mitex_syntax.proofs.Tokens.{token-number}
 use Rattle.mitex_meaning.specs.Outcome.{Context, Label, Carry, Outcome, after, and_then, closing, shift}
 use Rattle.mitex_meaning.specs.Outcome.Outcome.{refused}
+use Rattle.mitex_meaning.specs.State.{context_of, with_flag}
 use Rattle.mitex_meaning.specs.Tokens.{token_out}
+use Rattle.mitex_meaning.specs.declared.Converter.{Converter}
 use Rattle.mitex_meaning.specs.Children.{turn, each}
 use Rattle.mitex_meaning.specs.Conversion.{step, convert}
 use Rattle.mitex_meaning.specs.declared.Loop.TheVariants.{Plain}
 use Rattle.mitex_meaning.specs.declared.Act.TheVariants.{Convert}
 use Rattle.mitex_meaning.proofs.Outcomes.{after-nil, after-after, closing-nil}
 use Rattle.mitex_meaning.proofs.Loops.{turn-converts, each_more}
-use Rattle.mitex_tokens.specs.Puts.{carrying, Puts}
-use Rattle.mitex_tokens.specs.Running.{run_of}
-use Rattle.mitex_tokens.specs.Runs.{RunGiven, Gone, RunGoes}
-use Rattle.mitex_tokens.specs.declared.TokenRun.{TokenRun}
-use Rattle.mitex_tokens.specs.declared.TokenPut.{TokenPut}
-use Rattle.mitex_tokens.proofs.Putting.{passed, refused-so, uniform-token}
+use Rattle.mitex_tokens.specs.Comes.{carrying, Comes}
+use Rattle.mitex_tokens.specs.Runs.{RunGiven, Gone, Ran, Stops, StopsAt}
+use Rattle.mitex_tokens.proofs.Coming.{passed, refused-so, uniform-token}
 
-pub never : {X : Type 0} → false ≡ true → X
-never e = absurd (subst T (sym e) tt)
+abbrev pub span : ℕ → ℕ → Span
+span i j = record { rows = i; text = j }
 
 -- ---- the first token of a forest, by its row and the text
 
@@ -98,8 +102,8 @@ module _ {rows text : List ℕ} (given : RunGiven rows text) (mark : get_or rows
   pub first-fits : u ≤ length text
   first-fits = omega (arith, (head given.forest given.spells given.some mark given.short).fits)
 
-  module _ (x : Context) (flag : Bool) {at : ℕ} {out out' : List ℕ} {t : TokenPut}
-      (m : (l : Label) → Puts t l at out out' (token_out x (get_or rows 0 0) (take u text) (carrying flag l))) where
+  module _ (x : Context) (flag : Bool) {b : Bool} {o o2 : Output} {r : Result (Unit {0}) Reason}
+      (m : (l : Label) → Comes r b l o o2 (token_out x (get_or rows 0 0) (take u text) (carrying flag l))) where
     module _ (f : Forest) (n : ℕ) (sp : SpellsAll f rows text) (q : sizes f ≤ n) where
       abbrev there : Head f rows text
       there = head f sp given.some mark given.short
@@ -110,17 +114,17 @@ module _ {rows text : List ℕ} (given : RunGiven rows text) (mark : get_or rows
 
       -- the whole where the token comes to y
       abbrev whole : ℕ → Outcome → Outcome
-      whole o y = and_then (shift o y) (each (convert n x) (o + 1) Plain there.others)
+      whole k y = and_then (shift k y) (each (convert n x) (k + 1) Plain there.others)
 
       goes_on :
-          (l : Label) (o : ℕ) → each (convert n x) o Plain f (carrying flag l)
-          ≡ whole o (token_out x (get_or rows 0 0) (take u text) (carrying flag l))
-      goes_on l o =
-          ap (λ (y : Forest). each (convert n x) o Plain y (carrying flag l)) there.is
-          ∙ each-token n x o (get_or rows 0 0) (take (num_of rows) text) there.others (carrying flag l) (omega (arith, fewer))
-          ∙ ap (λ (y : ℕ). whole o (token_out x (get_or rows 0 0) (take y text) (carrying flag l))) (sym e)
+          (l : Label) (k : ℕ) → each (convert n x) k Plain f (carrying flag l)
+          ≡ whole k (token_out x (get_or rows 0 0) (take u text) (carrying flag l))
+      goes_on l k =
+          ap (λ (y : Forest). each (convert n x) k Plain y (carrying flag l)) there.is
+          ∙ each-token n x k (get_or rows 0 0) (take (num_of rows) text) there.others (carrying flag l) (omega (arith, fewer))
+          ∙ ap (λ (y : ℕ). whole k (token_out x (get_or rows 0 0) (take y text) (carrying flag l))) (sym e)
 
-      gone-first : t.refusal ≡ 0 → Gone x flag f n rows text at out (run_of 8 u t.at t.flag 0) out'
+      gone-first : r ≡ Ok tt → Gone x flag f n rows text o (span 8 u) b o2
       gone-first z =
           let g = passed (uniform-token x (get_or rows 0 0) (take u text) flag) m z in
           record {
@@ -128,192 +132,157 @@ module _ {rows text : List ℕ} (given : RunGiven rows text) (mark : get_or rows
             spells = subst (λ (y : ℕ). SpellsAll there.others (drop 8 rows) (drop y text)) (sym e) there.rest;
             fits = omega (arith, fewer);
             written = g.written;
-            wrote = g.wrote;
-            is = λ l o. goes_on l o ∙ ap (whole o) (g.is l);
+            wrote = g.puts;
+            is = λ l k. goes_on l k ∙ ap (whole k) (g.is l);
           }
 
-    pub first_runs : t.refusal ≡ 0 → RunGoes x flag rows text at out (run_of 8 u t.at t.flag 0) out'
+    pub first_runs : r ≡ Ok tt → Ran x flag rows text o b o2 (span 8 u)
     first_runs z =
         record {
           high = rows-eight given.spells given.some;
           stop = first-fits;
-          some = λ y. omega arith;
-          refuses = λ y. absurd (y refl);
-          goes = λ y f n sp q. gone-first f n sp q z;
+          some = omega arith;
+          goes = λ f n sp q. gone-first f n sp q z;
         }
 
-    pub first-refused : (t.refusal ≡ 0 → ⊥) → RunGoes x flag rows text at out (run_of 0 0 at flag t.refusal) out'
+    pub first-refused : {y : Reason} → r ≡ Err y → Stops x flag rows text (refusal_number y) 0
     first-refused z =
+        let some = given.some in
         record {
           high = omega arith;
-          stop = omega arith;
-          some = λ y. absurd (z y);
-          refuses = λ y f n l o sp q. goes_on f n sp q l o ∙ ap (whole f n sp q o) (refused-so (m l) z);
-          goes = λ y. absurd (z y);
+          refuses = λ f n l k sp q. goes_on f n sp q l k ∙ ap (whole f n sp q k) (refused-so (m l) z);
         }
 
 -- ---- how far a loop has gone
 
--- the loop over what is spelt goes on behind the rows and the text of r
-pub record Ran (x : Context) (flag : Bool) (rows text : List ℕ) (at : ℕ) (out : List ℕ) (r : TokenRun) (out' : List ℕ) : Type 0 where
-  pub high : r.rows ≤ length rows
-  pub stop : r.text ≤ length text
-  pub whole : r.rows ≡ 8 * (r.rows / 8)
-  pub goes : (f : Forest) (n : ℕ) → SpellsAll f rows text → sizes f ≤ n → Gone x flag f n rows text at out r out'
+-- the loop over what is spelt goes on behind i bytes of rows and j of text
+pub record RanTo (x : Context) (flag : Bool) (rows text : List ℕ) (o : Output) (i j : ℕ) (b : Bool) (o2 : Output) : Type 0 where
+  pub high : i ≤ length rows
+  pub stop : j ≤ length text
+  pub whole : i ≡ 8 * (i / 8)
+  pub goes : (f : Forest) (n : ℕ) → SpellsAll f rows text → sizes f ≤ n → Gone x flag f n rows text o (span i j) b o2
 
-pub ran-start :
-    (x : Context) (flag : Bool) (rows text : List ℕ) (at : ℕ) (out : List ℕ) → at ≤ cap → Ran x flag rows text at out (run_of 0 0 at flag 0) out
-ran-start x flag rows text at out h =
-    record {
-      high = omega arith;
-      stop = omega arith;
-      whole = refl;
-      goes =
-          λ f n sp q. record {
-            forest = f;
-            spells = sp;
-            fits = omega arith;
-            written = [];
-            wrote = wrote-nil at out h;
-            is =
-                λ l o. sym (after-nil (each (convert n x) (o + 0) Plain f (carrying flag l))
-                ∙ ap (λ (m : ℕ). each (convert n x) m Plain f (carrying flag l)) (add-zero o));
-          };
-    }
-
-pub runs_as :
-    {x : Context} {flag : Bool} {rows text : List ℕ} {at : ℕ} {out : List ℕ} {r r' : TokenRun} {out' : List ℕ} → r ≡ r'
-    → RunGoes x flag rows text at out r' out' → RunGoes x flag rows text at out r out'
-runs_as {x} {flag} {rows} {text} {at} {out} {r} {r'} {out'} e m = subst (λ (y : TokenRun). RunGoes x flag rows text at out y out') (sym e) m
-
-module _ {x : Context} {flag : Bool} {rows text : List ℕ} {at : ℕ} {out : List ℕ} {r : TokenRun} {out' : List ℕ} (given : RunGiven rows text)
-    (p : Ran x flag rows text at out r out') where
-  gone-given : Gone x flag given.forest (sizes given.forest) rows text at out r out'
+module _ {x : Context} {flag : Bool} {rows text : List ℕ} {o : Output} {i j : ℕ} {b : Bool} {o2 : Output} (given : RunGiven rows text)
+    (p : RanTo x flag rows text o i j b o2) where
+  gone-given : Gone x flag given.forest (sizes given.forest) rows text o (span i j) b o2
   gone-given = p.goes given.forest (sizes given.forest) given.spells (omega arith)
 
-  pub ran-low : r.at ≤ cap
-  ran-low = wrote-low gone-given.wrote
-
-  pub ran-long : length out' ≡ length out
-  ran-long = wrote-long gone-given.wrote
-
-  pub row-fits : r.rows < length rows → r.rows + 8 ≤ length rows
+  pub row-fits : i < length rows → i + 8 ≤ length rows
   row-fits h =
-      let l = length-drop r.rows rows in
+      let l = length-drop i rows in
       omega (arith, rows-eight gone-given.spells (omega arith))
 
   -- what a further run is given, and as a part of the rows and of the text
-  rest_plain : r.rows < length rows → RunGiven (drop r.rows rows) (drop r.text text)
+  rest_plain : i < length rows → RunGiven (drop i rows) (drop j text)
   rest_plain h =
       record {
         forest = gone-given.forest;
         spells = gone-given.spells;
-        few = omega (arith, given.few, length-drop r.rows rows);
-        short = omega (arith, given.short, length-drop r.text text);
-        some = omega (arith, length-drop r.rows rows);
+        few = omega (arith, given.few, length-drop i rows);
+        short = omega (arith, given.short, length-drop j text);
+        some = omega (arith, length-drop i rows);
       }
 
-  pub rest-given :
-      r.rows < length rows
-      → RunGiven (take (length rows - r.rows) (drop r.rows rows)) (take (length text - r.text) (drop r.text text))
+  pub rest-given : i < length rows → RunGiven (take (length rows - i) (drop i rows)) (take (length text - j) (drop j text))
   rest-given h =
-      subst (λ (y : List ℕ). RunGiven y (take (length text - r.text) (drop r.text text))) (sym (part-rest rows r.rows))
-      (subst (λ (y : List ℕ). RunGiven (drop r.rows rows) y) (sym (part-rest text r.text)) (rest_plain h))
+      subst (λ (y : List ℕ). RunGiven y (take (length text - j) (drop j text))) (sym (part-rest rows i))
+      (subst (λ (y : List ℕ). RunGiven (drop i rows) y) (sym (part-rest text j)) (rest_plain h))
 
-  pub rest-mark : get_or rows (r.rows + 1) 0 ≡ 1 → get_or (take (length rows - r.rows) (drop r.rows rows)) 1 0 ≡ 1
-  rest-mark mark = ap (λ (y : List ℕ). get_or y 1 0) (part-rest rows r.rows) ∙ get_or-drop r.rows rows 1 0 ∙ mark
+  pub rest-mark : get_or rows (i + 1) 0 ≡ 1 → get_or (take (length rows - i) (drop i rows)) 1 0 ≡ 1
+  rest-mark mark = ap (λ (y : List ℕ). get_or y 1 0) (part-rest rows i) ∙ get_or-drop i rows 1 0 ∙ mark
 
-  -- where no token stands: the first was one, so some are behind
-  pub ran-done :
-      get_or rows 1 0 ≡ 1 → (r.rows < length rows → get_or rows (r.rows + 1) 0 ≡ 1 → ⊥) → r.refusal ≡ 0 → RunGoes x flag rows text at out r out'
-  ran-done mark other z =
-      record {
-        high = p.high;
-        stop = p.stop;
-        some =
-            λ y. elim (dec_le 8 r.rows) [
-              | yes le ↦ le
-              | no gt ↦
-                  let none_yet : 0 ≡ r.rows = omega (arith, p.whole) in
-                  absurd (other (omega (arith, given.some)) (subst (λ (i : ℕ). get_or rows (i + 1) 0 ≡ 1) none_yet mark))
-            ];
-        refuses = λ y. absurd (y z);
-        goes = λ y. p.goes;
-      }
+-- a run that begins where the loop has gone to, by the parts that the code has
+module _ {x : Context} {flag : Bool} {rows text : List ℕ} {o : Output} {i j : ℕ} {b : Bool} {o2 : Output} (given : RunGiven rows text)
+    (p : RanTo x flag rows text o i j b o2) where
+  module _ {s : Span} {d : Bool} {o3 : Output}
+      (part : Ran x b (take (length rows - i) (drop i rows)) (take (length text - j) (drop j text)) o2 d o3 s) where
+    q : Ran x b (drop i rows) (drop j text) o2 d o3 s
+    q =
+        subst (λ (y : List ℕ). Ran x b y (drop j text) o2 d o3 s) (part-rest rows i)
+        (subst (λ (y : List ℕ). Ran x b (take (length rows - i) (drop i rows)) y o2 d o3 s) (part-rest text j) part)
 
--- by the parts that the code has
-pub runs-part :
-    {x : Context} {flag : Bool} (rows text : List ℕ) (i j : ℕ) {at : ℕ} {out : List ℕ} {r : TokenRun} {out' : List ℕ}
-    → RunGoes x flag (take (length rows - i) (drop i rows)) (take (length text - j) (drop j text)) at out r out'
-    → RunGoes x flag (drop i rows) (drop j text) at out r out'
-runs-part {x} {flag} rows text i j {at} {out} {r} {out'} q =
-    subst (λ (y : List ℕ). RunGoes x flag y (drop j text) at out r out') (part-rest rows i)
-    (subst (λ (y : List ℕ). RunGoes x flag (take (length rows - i) (drop i rows)) y at out r out') (part-rest text j) q)
+    -- where it ends
+    pub part-high : i + s.rows ≤ length rows
+    part-high = omega (arith, q.high, length-drop i rows, p.high)
 
--- a run that begins where the loop has gone to
-module _ {x : Context} {flag : Bool} {rows text : List ℕ} {at : ℕ} {out : List ℕ} {i j w : ℕ} {b : Bool} {out₁ : List ℕ} {r : TokenRun}
-    {out₂ : List ℕ} (given : RunGiven rows text) (long : length out ≤ cap) (p : Ran x flag rows text at out (run_of i j w b 0) out₁)
-    (q : RunGoes x b (drop i rows) (drop j text) w out₁ r out₂) where
-  -- where it ends
-  pub part-high : i + r.rows ≤ length rows
-  part-high = omega (arith, q.high, length-drop i rows, p.high)
+    pub part-stop : j + s.text ≤ length text
+    part-stop = omega (arith, q.stop, length-drop j text, p.stop)
 
-  pub part-stop : j + r.text ≤ length text
-  part-stop = omega (arith, q.stop, length-drop j text, p.stop)
+    -- what it spells are whole rows
+    part-whole : s.rows ≡ 8 * (s.rows / 8)
+    part-whole =
+        let g = p.goes given.forest (sizes given.forest) given.spells (omega arith) in
+        let k = q.goes g.forest (sizes g.forest) g.spells (omega arith) in
+        omega (
+          arith,
+          q.high,
+          length-drop s.rows (drop i rows),
+          ap length g.spells.rows_are,
+          length-rowss g.forest,
+          ap length k.spells.rows_are,
+          length-rowss k.forest,
+        )
 
-  -- what it spells are whole rows
-  part-whole : r.refusal ≡ 0 → r.rows ≡ 8 * (r.rows / 8)
-  part-whole z =
-      let g = p.goes given.forest (sizes given.forest) given.spells (omega arith) in
-      let k = q.goes z g.forest (sizes g.forest) g.spells (omega arith) in
-      omega (
-        arith,
-        q.high,
-        length-drop r.rows (drop i rows),
-        ap length g.spells.rows_are,
-        length-rowss g.forest,
-        ap length k.spells.rows_are,
-        length-rowss k.forest,
-      )
+    gone-on :
+        (f : Forest) (n : ℕ) → SpellsAll f rows text → sizes f ≤ n → Gone x flag f n rows text o (span (i + s.rows) (j + s.text)) d o3
+    gone-on f n sp h =
+        let g = p.goes f n sp h in
+        let k = q.goes g.forest n g.spells (omega (arith, g.fits)) in
+        record {
+          forest = k.forest;
+          spells =
+              subst (λ (y : List ℕ). SpellsAll k.forest y (drop (j + s.text) text)) (drop-drop s.rows i rows)
+              (subst (λ (y : List ℕ). SpellsAll k.forest (drop s.rows (drop i rows)) y) (drop-drop s.text j text) k.spells);
+          fits = omega (arith, g.fits, k.fits);
+          written = g.written ++ k.written;
+          wrote = puts_then g.wrote k.wrote;
+          is =
+              λ c m.
+              let row : m + i / 8 + s.rows / 8 ≡ m + (i + s.rows) / 8 = omega (arith, p.whole) in
+              g.is c m
+              ∙ ap (after g.written) (k.is c (m + i / 8))
+              ∙ after-after g.written k.written (each (convert n x) (m + i / 8 + s.rows / 8) Plain k.forest (carrying d c))
+              ∙ ap (λ (y : ℕ). after (g.written ++ k.written) (each (convert n x) y Plain k.forest (carrying d c))) row;
+        }
 
-  gone-on :
-      r.refusal ≡ 0 → (f : Forest) (n : ℕ) → SpellsAll f rows text → sizes f ≤ n
-      → Gone x flag f n rows text at out (run_of (i + r.rows) (j + r.text) r.at r.flag 0) out₂
-  gone-on z f n sp h =
-      let g = p.goes f n sp h in
-      let k = q.goes z g.forest n g.spells (omega (arith, g.fits)) in
-      record {
-        forest = k.forest;
-        spells =
-            subst (λ (y : List ℕ). SpellsAll k.forest y (drop (j + r.text) text)) (drop-drop r.rows i rows)
-            (subst (λ (y : List ℕ). SpellsAll k.forest (drop r.rows (drop i rows)) y) (drop-drop r.text j text) k.spells);
-        fits = omega (arith, g.fits, k.fits);
-        written = g.written ++ k.written;
-        wrote = wrote_then long g.wrote k.wrote;
-        is =
-            λ c o.
-            let row : o + i / 8 + r.rows / 8 ≡ o + (i + r.rows) / 8 = omega (arith, p.whole) in
-            g.is c o
-            ∙ ap (after g.written) (k.is c (o + i / 8))
-            ∙ after-after g.written k.written (each (convert n x) (o + i / 8 + r.rows / 8) Plain k.forest (carrying r.flag c))
-            ∙ ap (λ (y : ℕ). after (g.written ++ k.written) (each (convert n x) y Plain k.forest (carrying r.flag c))) row;
-      }
+    pub ran-part : RanTo x flag rows text o (i + s.rows) (j + s.text) d o3
+    ran-part = record { high = part-high; stop = part-stop; whole = omega (arith, p.whole, part-whole); goes = gone-on }
 
-  pub ran-part : r.refusal ≡ 0 → Ran x flag rows text at out (run_of (i + r.rows) (j + r.text) r.at r.flag 0) out₂
-  ran-part z = record { high = part-high; stop = part-stop; whole = omega (arith, p.whole, part-whole z); goes = gone-on z }
+  -- or its first element is refused, so many rows behind `row`
+  module _ {number : ℕ} (part : Stops x b (take (length rows - i) (drop i rows)) (take (length text - j) (drop j text)) number 0) where
+    r : Stops x b (drop i rows) (drop j text) number 0
+    r =
+        subst (λ (y : List ℕ). Stops x b y (drop j text) number 0) (part-rest rows i)
+        (subst (λ (y : List ℕ). Stops x b (take (length rows - i) (drop i rows)) y number 0) (part-rest text j) part)
 
-  pub ran-part-refused : (r.refusal ≡ 0 → ⊥) → RunGoes x flag rows text at out (run_of (i + r.rows) j w b r.refusal) out₂
-  ran-part-refused z =
-      record {
-        high = part-high;
-        stop = p.stop;
-        some = λ y. absurd (z y);
-        refuses =
-            λ y f n c o sp h.
-            let g = p.goes f n sp h in
-            let row : o + i / 8 + r.rows / 8 ≡ o + (i + r.rows) / 8 = omega (arith, p.whole) in
-            g.is c o
-            ∙ ap (after g.written) (q.refuses z g.forest n c (o + i / 8) g.spells (omega (arith, g.fits)))
-            ∙ ap (refused r.refusal) row;
-        goes = λ y. absurd (z y);
-      }
+    stops-part : Stops x flag rows text number (i / 8)
+    stops-part =
+        record {
+          high = omega (arith, r.high, length-drop i rows, p.whole);
+          refuses =
+              λ f n c m sp h.
+              let g = p.goes f n sp h in
+              let row : m + i / 8 + 0 ≡ m + i / 8 = omega arith in
+              g.is c m
+              ∙ ap (after g.written) (r.refuses g.forest n c (m + i / 8) g.spells (omega (arith, g.fits)))
+              ∙ ap (refused number) row;
+        }
+
+    pub stops_at : {e : Refusal} (row : ℕ) → refusal_number e.reason ≡ number → (row + length rows < 2 ^ 64 → e.row ≡ row + 1 + i / 8)
+        → StopsAt x flag rows text row e
+    stops_at {e} row h k =
+        record { below = i / 8; stops = subst (λ (y : ℕ). Stops x flag rows text y (i / 8)) (sym h) stops-part; is = k }
+
+-- ---- the converter, of which the flag alone moves
+
+pub flag-on :
+    {a b : Converter} (c : Converter) → a ≡ with_flag a.skip_next_space b → b ≡ with_flag b.skip_next_space c → a ≡ with_flag a.skip_next_space c
+flag-on {a} c e f = e ∙ ap (with_flag a.skip_next_space) f
+
+module _ (rs : List Rule) {b : Converter} (c : Converter) (e : b ≡ with_flag b.skip_next_space c) {flag : Bool} {rows text : List ℕ} where
+  pub ran-in :
+      {o o2 : Output} {d : Bool} {s : Span} → Ran (context_of rs b) flag rows text o d o2 s → Ran (context_of rs c) flag rows text o d o2 s
+  ran-in {o} {o2} {d} {s} m = subst (λ (x : Context). Ran x flag rows text o d o2 s) (ap (context_of rs) e) m
+
+  pub stops_in : {number below : ℕ} → Stops (context_of rs b) flag rows text number below → Stops (context_of rs c) flag rows text number below
+  stops_in {number} {below} m = subst (λ (x : Context). Stops x flag rows text number below) (ap (context_of rs) e) m

@@ -1,39 +1,53 @@
 -- Each character and a space, character by character: what is written so far, and what is to come (`Partly`).
 use mathlib.Core.Path.{◌≡◌, refl, sym, ap, subst, ◌∙◌}
+use mathlib.Core.Bool.{true, false}
 use mathlib.Core.List.{List, [], ◌∷◌, ◌++◌, append_assoc, append-nil}
-use Prim.Native.Nat.{ℕ, ◌≤◌, ◌<◌}
+use Prim.Native.Nat.{ℕ, zero, suc, ◌<◌}
 use native.Mathlib.Omega.{arith}
+use borrow.Author.Tests.{eqb-true}
+use lib.Dec.{eqb}
 use lib.ListN.{length, take, drop}
-use Rattle.text.specs.Writing.{cap, Wrote}
-use Rattle.text.proofs.Writing.{wrote_as, wrote-nil, wrote_then, wrote-room}
+use Rattle.text.specs.Outputs.{Puts}
+use Rattle.text.specs.declared.output.Output.{Output}
+use Rattle.text.proofs.Outputs.{puts_nil, puts_then, puts_as}
 use Rattle.utf8.specs.Chars.{chars, char_len}
 use Rattle.utf8.proofs.Chars.{char_len-first}
 use Rattle.mitex_meaning.specs.Texts.{space}
 use Rattle.mitex_meaning.specs.Tokens.{spaced}
 
+-- the test for no bytes
+pub is-none : {n : ℕ} → eqb n 0 ≡ true → n ≡ 0
+is-none {n} e = eqb-true n 0 e
+
+pub is-some : {n : ℕ} → eqb n 0 ≡ false → 0 < n
+is-some {n} e = on n e
+  where
+    on : (k : ℕ) → eqb k 0 ≡ false → 0 < k
+    on zero e = cc
+    on (suc k) e = omega arith
+
 -- of the characters of s those before t are written
-pub record Partly (at : ℕ) (out₀ s : List ℕ) (p : ℕ) (out t : List ℕ) : Type 0 where
+pub record Partly (o : Output) (s : List ℕ) (o2 : Output) (t : List ℕ) : Type 0 where
   pub text : List ℕ
-  pub wrote : Wrote at out₀ text p out
+  pub puts : Puts o text o2
   pub rest : spaced (chars s) ≡ text ++ spaced (chars t)
 
-pub spaced-start : (at : ℕ) (out s : List ℕ) → at ≤ cap → Partly at out s at out s
-spaced-start at out s h = record { text = []; wrote = wrote-nil at out h; rest = refl }
+pub spaced-start : (o : Output) (s : List ℕ) → Partly o s o s
+spaced-start o s = record { text = []; puts = puts_nil; rest = refl }
 
 spaced-step : (t : List ℕ) → 0 < length t → spaced (chars t) ≡ (take (char_len t) t ++ space) ++ spaced (chars (drop (char_len t) t))
 unfolding spaced
 spaced-step t h =
     ap spaced (char_len-first t h).parts ∙ sym (append_assoc (take (char_len t) t) space (spaced (chars (drop (char_len t) t))))
 
-module _ {at : ℕ} {out₀ s : List ℕ} {p : ℕ} {out t : List ℕ} (m : Partly at out₀ s p out t) where
+module _ {o : Output} {s : List ℕ} {o2 : Output} {t : List ℕ} (m : Partly o s o2 t) where
   -- a character and a space more
   pub spaced-more :
-      {n p₁ p₂ : ℕ} {out₁ out₂ : List ℕ} → length out₀ ≤ cap → 0 < length t → n ≡ char_len t → Wrote p out (take n t) p₁ out₁
-      → Wrote p₁ out₁ space p₂ out₂ → Partly at out₀ s p₂ out₂ (drop n t)
-  spaced-more {n} {p₁} {p₂} {out₁} {out₂} long some e w v =
+      {n : ℕ} {o3 o4 : Output} → 0 < length t → n ≡ char_len t → Puts o2 (take n t) o3 → Puts o3 space o4 → Partly o s o4 (drop n t)
+  spaced-more {n} some e w v =
       record {
         text = m.text ++ (take n t ++ space);
-        wrote = wrote_then long m.wrote (wrote_then (wrote-room m.wrote long) w v);
+        puts = puts_then m.puts (puts_then w v);
         rest =
             m.rest
             ∙ ap (λ (l : List ℕ). m.text ++ l)
@@ -41,9 +55,9 @@ module _ {at : ℕ} {out₀ s : List ℕ} {p : ℕ} {out t : List ℕ} (m : Part
             ∙ sym (append_assoc m.text (take n t ++ space) (spaced (chars (drop n t))));
       }
 
-  pub spaced-all : length t ≡ 0 → Wrote at out₀ (spaced (chars s)) p out
+  pub spaced-all : length t ≡ 0 → Puts o (spaced (chars s)) o2
   unfolding spaced chars
-  spaced-all h = wrote_as (sym (m.rest ∙ ap (λ (l : List ℕ). m.text ++ spaced (chars l)) (none t h) ∙ append-nil m.text)) m.wrote
+  spaced-all h = puts_as (sym (m.rest ∙ ap (λ (l : List ℕ). m.text ++ spaced (chars l)) (none t h) ∙ append-nil m.text)) m.puts
     where
       none : (t : List ℕ) → length t ≡ 0 → t ≡ []
       none [] h = refl

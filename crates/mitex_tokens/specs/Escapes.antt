@@ -1,6 +1,7 @@
--- How code picks the escape of a token, by one byte. The law in proofs/Tokens.antt says that this gives the text of the definitions.
-use Rattle.std.specs.Prelude.{cond, List, [], ◌∷◌, ℕ, eqb}
+-- How code picks the escape of a token, by one byte: that this gives the text of the definitions is what `escaped` promises.
+use Rattle.std.specs.Prelude.{List, [], ◌∷◌, ℕ, Option, Some, None}
 
--- a backslash and the byte; 0 is none
-abbrev pub escape_of : ℕ → List ℕ
-escape_of b = cond (eqb b 0) [] (92 ∷ b ∷ [])
+-- a backslash and the byte, if there is one
+abbrev pub escape_of : Option ℕ → List ℕ
+escape_of None = []
+escape_of (Some b) = 92 ∷ b ∷ []

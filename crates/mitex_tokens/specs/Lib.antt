@@ -1,4 +1,4 @@
 pub mod Escapes
-pub mod Puts
+pub mod Comes
 pub mod Running
 pub mod Runs

@@ -1,62 +1,52 @@
 // What a token writes: a leaf of the converter, since a token has no children. And what tokens that stand one behind the other write.
 #![tactic(auto)]
 
-ghost use Rattle.std.specs.Prelude.{◌≡◌, true, false, List, ◌++◌, ◌+◌, ◌≤◌, ◌<◌, length, get_or};
+ghost use Rattle.std.specs.Prelude.{◌≡◌, true, false, List, ◌++◌, ◌+◌, ◌≤◌, ◌<◌, length, get_or, OnErr};
 ghost use Rattle.std.proofs.Math.Option.Option.{some};
-ghost use Rattle.text.specs.Writing.{cap, Wrote, spaces};
+ghost use Rattle.text.specs.Writing.{spaces};
+ghost use Rattle.text.specs.Outputs.{Puts};
 ghost use Rattle.utf8.specs.Chars.{chars};
 ghost use Rattle.mitex_spec.specs.Rules.{Rule};
 ghost use Rattle.mitex_spec.specs.RuleFile.{rules_of};
-ghost use Rattle.mitex_spec.specs.Index.{SomeRules};
 ghost use Rattle.mitex_syntax.specs.Syntax.{TokenApostrophe};
 ghost use Rattle.mitex_meaning.specs.Outcome.{Context, Label};
-ghost use Rattle.mitex_meaning.specs.Outcome.Outcome.{done};
+ghost use Rattle.mitex_meaning.specs.State.{context_of, with_flag};
 ghost use Rattle.mitex_meaning.specs.Texts.{escape, tilde, ampersand, new_line};
 ghost use Rattle.mitex_meaning.specs.Tokens.{spaced, word, token_text, white_space, command_sym, token_out};
-ghost use Rattle.mitex_meaning.specs.declared.LaTeXMode.TheVariants.{Text};
 ghost use Rattle.mitex_tokens.specs.Escapes.{escape_of};
-ghost use Rattle.mitex_tokens.specs.Puts.{inside, carrying, Puts};
-ghost use Rattle.mitex_tokens.specs.Running.{is_copied, run_of};
-ghost use Rattle.mitex_tokens.specs.Runs.{RunGiven, Copies, RunGoes};
+ghost use Rattle.mitex_tokens.specs.Comes.{carrying, Comes, Unrefused};
+ghost use Rattle.mitex_tokens.specs.Running.{is_copied};
+ghost use Rattle.mitex_tokens.specs.Runs.{RunGiven, Copies, PartGoes, RunGoes};
 
-use mitex_meaning::{LaTeXEnv, LaTeXMode};
-use mitex_spec::Found;
+use mitex_meaning::{Converter, LaTeXEnv, LaTeXMode};
+use mitex_spec::Rules;
 use mitex_syntax::{
-    CLAUSE_COMMAND_NAME, ITEM_NEW_LINE, TOKEN_AMPERSAND, TOKEN_APOSTROPHE, TOKEN_ASTERISK,
+    CLAUSE_COMMAND_NAME, ITEM_NEW_LINE, Span, TOKEN_AMPERSAND, TOKEN_APOSTROPHE, TOKEN_ASTERISK,
     TOKEN_AT_SIGN, TOKEN_CARET, TOKEN_COMMA, TOKEN_COMMAND_SYM, TOKEN_DITTO, TOKEN_ERROR,
     TOKEN_HASH, TOKEN_LBRACKET, TOKEN_LINE_BREAK, TOKEN_LPAREN, TOKEN_RBRACKET, TOKEN_RPAREN,
     TOKEN_SEMICOLON, TOKEN_SLASH, TOKEN_TILDE, TOKEN_UNDERSCORE, TOKEN_WHITE_SPACE, TOKEN_WORD,
 };
-
-// What a token comes to, while the label stays as it is: the next place and the flag, with refusal 0; or a refusal.
-#[derive(Clone, Copy)]
-pub struct TokenPut {
-    pub at: usize,
-    pub flag: bool,
-    pub refusal: u8,
-}
+use refusals::{Reason, Refusal};
+use text::Output;
 
 // Each character of `s` and a space.
-pub fn put_spaced(out: &mut [u8], at: usize, s: &[u8]) -> usize
-    requires { (at ≤ cap) × (length out.old ≤ cap) }
-    ensures { Wrote at out.old (spaced (chars s.now)) result out.new }
+pub fn put_spaced(out: &mut Output, s: &[u8])
+    ensures { Puts out.old (spaced (chars s.now)) out.new }
 {
-    let mut p = at;
     let mut t = s;
-    while 0 < t.len() {
+    while !t.is_empty() {
         let n = utf8::char_len(t);
-        p = text::put(out, p, &t[..n]);
-        p = text::put_byte(out, p, b' ');
+        out.put(&t[..n]);
+        out.put_byte(b' ');
         t = &t[n..];
     }
-    p
 }
 
-// The byte that is escaped for a token of this kind, 0 where none is.
-fn escaped(kind: u8) -> u8
+// The byte that is escaped for a token of this kind, if one is.
+fn escaped(kind: u8) -> Option<u8>
     ensures { (kind ≡ TokenApostrophe → ⊥) → escape_of result ≡ escape kind }
 {
-    match kind {
+    let b = match kind {
         TOKEN_COMMA => b',',
         TOKEN_SLASH => b'/',
         TOKEN_CARET => b'^',
@@ -70,277 +60,159 @@ fn escaped(kind: u8) -> u8
         TOKEN_RPAREN => b')',
         TOKEN_LBRACKET => b'[',
         TOKEN_RBRACKET => b']',
-        _ => 0,
-    }
+        _ => return None,
+    };
+    Some(b)
 }
 
 // The escape of a token of this kind; most kinds have none.
-pub fn put_escape(out: &mut [u8], at: usize, kind: u8) -> usize
-    requires { (at ≤ cap) × (length out.old ≤ cap) }
-    ensures { Wrote at out.old (escape kind) result out.new }
+pub fn put_escape(out: &mut Output, kind: u8)
+    ensures { Puts out.old (escape kind) out.new }
 {
     if kind == TOKEN_APOSTROPHE {
-        return text::put_byte(out, at, b'\'');
+        out.put_byte(b'\'');
+    } else if let Some(b) = escaped(kind) {
+        out.put_byte(b'\\');
+        out.put_byte(b);
     }
-    let b = escaped(kind);
-    if b == 0 {
-        return at;
-    }
-    let p = text::put_byte(out, at, b'\\');
-    text::put_byte(out, p, b)
 }
 
 // A word; in Math each character and a space.
-fn put_word(out: &mut [u8], at: usize, s: &[u8], mode: LaTeXMode) -> usize
-    requires { (at ≤ cap) × (length out.old ≤ cap) }
-    ensures { Wrote at out.old (word mode s.now) result out.new }
+fn put_word(out: &mut Output, s: &[u8], mode: LaTeXMode)
+    ensures { Puts out.old (word mode s.now) out.new }
 {
     match mode {
-        LaTeXMode::Text => text::put(out, at, s),
-        LaTeXMode::Math => put_spaced(out, at, s),
+        LaTeXMode::Text => out.put(s),
+        LaTeXMode::Math => put_spaced(out, s),
     }
 }
 
 // A tilde.
-fn put_tilde(out: &mut [u8], at: usize, mode: LaTeXMode) -> usize
-    requires { (at ≤ cap) × (length out.old ≤ cap) }
-    ensures { Wrote at out.old (tilde mode) result out.new }
+fn put_tilde(out: &mut Output, mode: LaTeXMode)
+    ensures { Puts out.old (tilde mode) out.new }
 {
     match mode {
-        LaTeXMode::Text => text::put(out, at, b"\\~"),
-        LaTeXMode::Math => text::put(out, at, b"space.nobreak "),
+        LaTeXMode::Text => out.put(b"\\~"),
+        LaTeXMode::Math => out.put(b"space.nobreak "),
     }
 }
 
 // An ampersand.
-fn put_ampersand(out: &mut [u8], at: usize, env: LaTeXEnv) -> usize
-    requires { (at ≤ cap) × (length out.old ≤ cap) }
-    ensures { Wrote at out.old (ampersand env) result out.new }
+fn put_ampersand(out: &mut Output, env: LaTeXEnv)
+    ensures { Puts out.old (ampersand env) out.new }
 {
     match env {
-        LaTeXEnv::Matrix => text::put(out, at, b"zws ,"),
-        _ => text::put(out, at, b"&"),
+        LaTeXEnv::Matrix => out.put(b"zws ,"),
+        _ => out.put(b"&"),
     }
 }
 
 // A new line, `\\`.
-fn put_new_line(out: &mut [u8], at: usize, env: LaTeXEnv) -> usize
-    requires { (at ≤ cap) × (length out.old ≤ cap) }
-    ensures { Wrote at out.old (new_line env) result out.new }
+fn put_new_line(out: &mut Output, env: LaTeXEnv)
+    ensures { Puts out.old (new_line env) out.new }
 {
     match env {
-        LaTeXEnv::Matrix => text::put(out, at, b"zws ;"),
-        LaTeXEnv::Cases => text::put(out, at, b","),
-        LaTeXEnv::MathCurlyGroup => at,
-        _ => text::put(out, at, b"\\ "),
+        LaTeXEnv::Matrix => out.put(b"zws ;"),
+        LaTeXEnv::Cases => out.put(b","),
+        LaTeXEnv::MathCurlyGroup => {}
+        _ => out.put(b"\\ "),
     }
 }
 
 // The tokens that only write.
-pub fn put_token_text(
-    out: &mut [u8],
-    at: usize,
-    kind: u8,
-    s: &[u8],
-    mode: LaTeXMode,
-    env: LaTeXEnv,
-) -> usize
-    requires { (at ≤ cap) × (length out.old ≤ cap) }
-    ensures { (x : Context) → x.mode ≡ mode → x.env ≡ env → Wrote at out.old (token_text x kind s.now) result out.new }
+pub fn put_token_text(out: &mut Output, kind: u8, s: &[u8], mode: LaTeXMode, env: LaTeXEnv)
+    ensures { (x : Context) → x.mode ≡ mode → x.env ≡ env → Puts out.old (token_text x kind s.now) out.new }
 {
     match kind {
-        TOKEN_WORD => put_word(out, at, s, mode),
-        TOKEN_TILDE => put_tilde(out, at, mode),
-        TOKEN_AMPERSAND => put_ampersand(out, at, env),
-        ITEM_NEW_LINE => put_new_line(out, at, env),
-        _ => put_escape(out, at, kind),
+        TOKEN_WORD => put_word(out, s, mode),
+        TOKEN_TILDE => put_tilde(out, mode),
+        TOKEN_AMPERSAND => put_ampersand(out, env),
+        ITEM_NEW_LINE => put_new_line(out, env),
+        _ => put_escape(out, kind),
     }
 }
 
 // White space: with the flag set it clears it and writes nothing.
-fn put_space(out: &mut [u8], at: usize, s: &[u8], flag: bool) -> TokenPut
-    requires { (at ≤ cap) × (length out.old ≤ cap) }
-    ensures { (l : Label) → Puts result l at out.old out.new (white_space flag s.now (carrying flag l)) }
+fn put_space(c: &mut Converter, out: &mut Output, s: &[u8])
+    ensures comes { (l : Label) → Comes (Ok tt) c.new.skip_next_space l out.old out.new
+        (white_space c.old.skip_next_space s.now (carrying c.old.skip_next_space l)) }
+    ensures flag_alone { c.new ≡ with_flag c.new.skip_next_space c.old }
 {
-    if flag {
-        return TokenPut {
-            at,
-            flag: false,
-            refusal: 0,
-        };
-    }
-    let p = text::put(out, at, s);
-    TokenPut {
-        at: p,
-        flag: false,
-        refusal: 0,
+    if c.skip_next_space {
+        c.skip_next_space = false;
+    } else {
+        out.put(s);
     }
 }
 
 // A line break: its text and the indent; the next space is skipped.
-fn put_break(out: &mut [u8], at: usize, s: &[u8], indent: usize) -> TokenPut
-    requires { (at ≤ cap) × (length out.old ≤ cap) }
-    ensures { (l : Label) → Puts result l at out.old out.new (done (carrying true l) (s.now ++ spaces indent)) }
+fn put_break(c: &mut Converter, out: &mut Output, s: &[u8])
+    ensures puts { Puts out.old (s.now ++ spaces c.old.indent) out.new }
+    ensures flag_set { c.new ≡ with_flag true c.old }
 {
-    let p = text::put(out, at, s);
-    let q = text::put_spaces(out, p, indent);
-    TokenPut {
-        at: q,
-        flag: true,
-        refusal: 0,
-    }
-}
-
-// Text that clears the flag.
-fn put_plain(out: &mut [u8], at: usize, s: &[u8]) -> TokenPut
-    requires { (at ≤ cap) × (length out.old ≤ cap) }
-    ensures { (l : Label) → Puts result l at out.old out.new (done (carrying false l) s.now) }
-{
-    let p = text::put(out, at, s);
-    TokenPut {
-        at: p,
-        flag: false,
-        refusal: 0,
-    }
-}
-
-// A token that is refused.
-fn put_none(at: usize, number: u8) -> TokenPut
-    ensures { result.refusal ≡ number }
-{
-    TokenPut {
-        at,
-        flag: false,
-        refusal: number,
-    }
-}
-
-// A command symbol like `\alpha`: its name must be a command in the rules.
-fn put_symbol(out: &mut [u8], at: usize, s: &[u8], rules: &[u8], index: &[u32]) -> TokenPut
-    requires at_le_cap { (at ≤ cap) × (length out.old ≤ cap) }
-    requires some_rules { SomeRules rules.now index.now }
-    ensures puts { (x : Context) (l : Label) → rules_of rules.now ≡ some x.rules → Puts result l at out.old out.new (command_sym x s.now (carrying false l)) }
-    ensures untouched { (result.refusal ≡ 0 → ⊥) → out.new ≡ out.old }
-{
-    let name = mitex_loops::past_first(s);
-    let found = mitex_spec::get_cmd(rules, index, name);
-    match found {
-        Found::Absent => put_none(at, 9),
-        Found::Plain { class: _ } => put_plain(out, at, name),
-        Found::Aliased {
-            class: _,
-            at: start,
-            size,
-        } => put_plain(out, at, &rules[start..start + size]),
-    }
+    out.put(s);
+    out.put_spaces(c.indent);
+    c.skip_next_space = true;
 }
 
 // The tokens that only write, which clear the flag.
-fn put_mark(
-    out: &mut [u8],
-    at: usize,
-    kind: u8,
-    s: &[u8],
-    mode: LaTeXMode,
-    env: LaTeXEnv,
-) -> TokenPut
-    requires { (at ≤ cap) × (length out.old ≤ cap) }
-    ensures { (x : Context) (l : Label) → x.mode ≡ mode → x.env ≡ env → Puts result l at out.old out.new (done (carrying false l) (token_text x kind s.now)) }
+fn put_mark(c: &mut Converter, out: &mut Output, kind: u8, s: &[u8])
+    ensures puts { (x : Context) → x.mode ≡ c.old.mode → x.env ≡ c.old.env → Puts out.old (token_text x kind s.now) out.new }
+    ensures flag_clear { c.new ≡ with_flag false c.old }
 {
-    let p = put_token_text(out, at, kind, s, mode, env);
-    TokenPut {
-        at: p,
-        flag: false,
-        refusal: 0,
+    put_token_text(out, kind, s, c.mode, c.env);
+    c.skip_next_space = false;
+}
+
+// A token that is never refused: any but an error, the name of a command and a command symbol.
+fn put_plain(c: &mut Converter, out: &mut Output, kind: u8, s: &[u8])
+    ensures comes { (rs : List Rule) (l : Label) → Unrefused kind
+        → Comes (Ok tt) c.new.skip_next_space l out.old out.new (token_out (context_of rs c.old) kind s.now (carrying c.old.skip_next_space l)) }
+    ensures flag_alone { c.new ≡ with_flag c.new.skip_next_space c.old }
+{
+    match kind {
+        TOKEN_WHITE_SPACE => put_space(c, out, s),
+        TOKEN_LINE_BREAK => put_break(c, out, s),
+        _ => put_mark(c, out, kind, s),
     }
+}
+
+// A command symbol like `\alpha`: its name must be a command in the rules. It clears the flag.
+fn put_symbol(c: &mut Converter, out: &mut Output, s: &[u8], rules: Rules) -> Result<(), Reason>
+    ensures comes { (x : Context) (l : Label) → rules_of rules.entry.file.now ≡ some x.rules
+        → Comes result false l out.old out.new (command_sym x s.now (carrying false l)) }
+    ensures flag_clear { c.new ≡ with_flag false c.old }
+    ensures untouched { OnErr result (out.new ≡ out.old) }
+{
+    c.skip_next_space = false;
+    let name = mitex_loops::past_first(s);
+    let Some(found) = rules.get_cmd(name) else {
+        return Err(Reason::NoCommand);
+    };
+    out.put(mitex_spec::written_name(name, found));
+    Ok(())
 }
 
 // A token. Every one but white space clears the flag first.
 pub fn put_token(
-    out: &mut [u8],
-    at: usize,
+    c: &mut Converter,
+    out: &mut Output,
     kind: u8,
     s: &[u8],
-    rules: &[u8],
-    index: &[u32],
-    mode: LaTeXMode,
-    env: LaTeXEnv,
-    indent: usize,
-    flag: bool,
-) -> TokenPut
-    requires at_le_cap { (at ≤ cap) × (length out.old ≤ cap) }
-    requires some_rules { SomeRules rules.now index.now }
-    ensures puts { (rs : List Rule) (l : Label) → rules_of rules.now ≡ some rs → Puts result l at out.old out.new (token_out (inside rs mode env indent) kind s.now (carrying flag l)) }
-    ensures untouched { (result.refusal ≡ 0 → ⊥) → out.new ≡ out.old }
+    rules: Rules,
+) -> Result<(), Reason>
+    ensures comes { (rs : List Rule) (l : Label) → rules_of rules.entry.file.now ≡ some rs
+        → Comes result c.new.skip_next_space l out.old out.new (token_out (context_of rs c.old) kind s.now (carrying c.old.skip_next_space l)) }
+    ensures flag_alone { c.new ≡ with_flag c.new.skip_next_space c.old }
+    ensures untouched { OnErr result (out.new ≡ out.old) }
 {
     match kind {
-        TOKEN_WHITE_SPACE => put_space(out, at, s, flag),
-        TOKEN_LINE_BREAK => put_break(out, at, s, indent),
-        TOKEN_ERROR => put_none(at, 7),
-        CLAUSE_COMMAND_NAME => put_none(at, 7),
-        TOKEN_COMMAND_SYM => put_symbol(out, at, s, rules, index),
-        _ => put_mark(out, at, kind, s, mode, env),
-    }
-}
-
-// A word, which clears the flag.
-fn put_letters(out: &mut [u8], at: usize, s: &[u8], mode: LaTeXMode) -> TokenPut
-    requires { (at ≤ cap) × (length out.old ≤ cap) }
-    ensures { (l : Label) → Puts result l at out.old out.new (done (carrying false l) (word mode s.now)) }
-{
-    let p = put_word(out, at, s, mode);
-    TokenPut {
-        at: p,
-        flag: false,
-        refusal: 0,
-    }
-}
-
-// A token of a run. Most are white space or words: they are told first, and take no further call.
-fn put_next(
-    out: &mut [u8],
-    at: usize,
-    kind: u8,
-    s: &[u8],
-    rules: &[u8],
-    index: &[u32],
-    mode: LaTeXMode,
-    env: LaTeXEnv,
-    indent: usize,
-    flag: bool,
-) -> TokenPut
-    requires at_le_cap { (at ≤ cap) × (length out.old ≤ cap) }
-    requires some_rules { SomeRules rules.now index.now }
-    ensures { (rs : List Rule) (l : Label) → rules_of rules.now ≡ some rs → Puts result l at out.old out.new (token_out (inside rs mode env indent) kind s.now (carrying flag l)) }
-{
-    match kind {
-        TOKEN_WHITE_SPACE => put_space(out, at, s, flag),
-        TOKEN_WORD => put_letters(out, at, s, mode),
-        _ => put_token(out, at, kind, s, rules, index, mode, env, indent, flag),
-    }
-}
-
-// Tokens one behind the other, as children in a plain loop: how many bytes of rows and of text they have, the next place and the flag
-// behind them, with refusal 0; or a refusal, and how many bytes of rows stand before the token that is refused.
-#[derive(Clone, Copy)]
-pub struct TokenRun {
-    pub rows: usize,
-    pub text: usize,
-    pub at: usize,
-    pub flag: bool,
-    pub refusal: u8,
-}
-
-// A run up to here.
-fn ran(rows: usize, text: usize, at: usize, flag: bool, refusal: u8) -> TokenRun
-    ensures { result ≡ run_of rows text at flag refusal }
-{
-    TokenRun {
-        rows,
-        text,
-        at,
-        flag,
-        refusal,
+        TOKEN_ERROR | CLAUSE_COMMAND_NAME => Err(Reason::Misplaced),
+        TOKEN_COMMAND_SYM => put_symbol(c, out, s, rules),
+        _ => {
+            put_plain(c, out, kind, s);
+            Ok(())
+        }
     }
 }
 
@@ -350,36 +222,14 @@ fn token_at(rows: &[u8], i: usize) -> bool
     ensures i_in_bounds { result ≡ true → (i < length rows.now) × (get_or rows.now (i + 1) 0 ≡ 1) }
     ensures ends { result ≡ false → i < length rows.now → get_or rows.now (i + 1) 0 ≡ 1 → ⊥ }
 {
-    if rows.len() <= i {
-        return false;
-    }
-    rows[i + 1] == 1
+    i < rows.len() && rows[i + 1] == 1
 }
 
 // Whether a token of this kind writes its text as it is, in Text and while the flag is not set.
 fn is_copied(kind: u8) -> bool
     ensures { result ≡ is_copied kind }
 {
-    match kind {
-        TOKEN_WORD => true,
-        TOKEN_WHITE_SPACE => true,
-        _ => false,
-    }
-}
-
-// The same by the mode and the flag.
-fn copies(mode: LaTeXMode, flag: bool, kind: u8) -> bool
-    ensures { result ≡ true → (mode ≡ Text) × (flag ≡ false) × (is_copied kind ≡ true) }
-{
-    match mode {
-        LaTeXMode::Text => {
-            if flag {
-                return false;
-            }
-            is_copied(kind)
-        }
-        LaTeXMode::Math => false,
-    }
+    matches!(kind, TOKEN_WORD | TOKEN_WHITE_SPACE)
 }
 
 // Whether the row at `i` is such a token's.
@@ -387,18 +237,15 @@ fn copied_at(rows: &[u8], i: usize) -> bool
     requires { (i ≤ length rows.now) × (i < length rows.now → i + 8 ≤ length rows.now) }
     ensures { result ≡ true → (i < length rows.now) × (get_or rows.now (i + 1) 0 ≡ 1) × (is_copied (get_or rows.now i 0) ≡ true) }
 {
-    if !token_at(rows, i) {
-        return false;
-    }
-    is_copied(rows[i])
+    token_at(rows, i) && is_copied(rows[i])
 }
 
-// Words and white space in Text: their texts stand one behind the other, and are copied at once.
-fn put_copied(out: &mut [u8], at: usize, rows: &[u8], text: &[u8]) -> TokenRun
-    requires at_le_cap { (at ≤ cap) × (length out.old ≤ cap) }
+// Words and white space in Text: their texts stand one behind the other, and are copied at once. The index is a part of the answer, so
+// that an iterator would have to be counted beside.
+fn put_copied(out: &mut Output, rows: &[u8], text: &[u8]) -> Span
     requires run_given { RunGiven rows.now text.now × (get_or rows.now 1 0 ≡ 1) }
     requires rows_value { is_copied (get_or rows.now 0 0) ≡ true }
-    ensures { Copies rows.now text.now at out.old result out.new }
+    ensures { Copies rows.now text.now out.old result out.new }
 {
     let mut i = 8;
     let mut j = mitex_syntax::number(rows, 0);
@@ -406,84 +253,62 @@ fn put_copied(out: &mut [u8], at: usize, rows: &[u8], text: &[u8]) -> TokenRun
         j += mitex_syntax::number(rows, i);
         i += 8;
     }
-    let p = text::put(out, at, &text[..j]);
-    ran(i, j, p, false, 0)
+    out.put(&text[..j]);
+    Span { rows: i, text: j }
 }
 
 // The token that these rows begin with; where it is copied, with those behind it that are copied too.
 fn put_part(
-    out: &mut [u8],
-    at: usize,
+    c: &mut Converter,
+    out: &mut Output,
     rows: &[u8],
     text: &[u8],
-    rules: &[u8],
-    index: &[u32],
-    mode: LaTeXMode,
-    env: LaTeXEnv,
-    indent: usize,
-    flag: bool,
-) -> TokenRun
-    requires at_le_cap { (at ≤ cap) × (length out.old ≤ cap) }
-    requires some_rules { SomeRules rules.now index.now }
+    rules: Rules,
+) -> Result<Span, Reason>
     requires run_given { RunGiven rows.now text.now × (get_or rows.now 1 0 ≡ 1) }
-    ensures { (rs : List Rule) → rules_of rules.now ≡ some rs → RunGoes (inside rs mode env indent) flag rows.now text.now at out.old result out.new }
+    ensures goes { (rs : List Rule) → rules_of rules.entry.file.now ≡ some rs
+        → PartGoes (context_of rs c.old) c.old.skip_next_space rows.now text.now out.old result c.new.skip_next_space out.new }
+    ensures flag_alone { c.new ≡ with_flag c.new.skip_next_space c.old }
+    ensures lent { out.new.buffer.ghost_name ≡ out.old.buffer.ghost_name }
 {
     let kind = rows[0];
-    if copies(mode, flag, kind) {
-        return put_copied(out, at, rows, text);
+    if c.mode == LaTeXMode::Text && !c.skip_next_space && is_copied(kind) {
+        return Ok(put_copied(out, rows, text));
     }
     let u = mitex_syntax::number(rows, 0);
-    let s = &text[..u];
-    let t = put_next(out, at, kind, s, rules, index, mode, env, indent, flag);
-    if t.refusal != 0 {
-        return ran(0, 0, at, flag, t.refusal);
-    }
-    ran(8, u, t.at, t.flag, 0)
+    put_token(c, out, kind, &text[..u], rules)?;
+    Ok(Span { rows: 8, text: u })
 }
 
-// The tokens from the first row on, up to the first node or to the end, as children in a plain loop. No token touches the held
-// label, so nothing of it is given.
+// The tokens from the first row on, up to the first node or to the end, as children in a plain loop: how many bytes of rows and of text
+// they have. A refusal's row is counted from `row`, which stands right before them, as far as a number goes.
 pub fn convert_tokens(
-    out: &mut [u8],
-    at: usize,
+    c: &mut Converter,
+    out: &mut Output,
     rows: &[u8],
     text: &[u8],
-    rules: &[u8],
-    index: &[u32],
-    mode: LaTeXMode,
-    env: LaTeXEnv,
-    indent: usize,
-    flag: bool,
-) -> TokenRun
-    requires at_le_cap { (at ≤ cap) × (length out.old ≤ cap) }
-    requires some_rules { SomeRules rules.now index.now }
+    row: usize,
+    rules: Rules,
+) -> Result<Span, Refusal>
     requires run_given { RunGiven rows.now text.now × (get_or rows.now 1 0 ≡ 1) }
-    ensures { (rs : List Rule) → rules_of rules.now ≡ some rs → RunGoes (inside rs mode env indent) flag rows.now text.now at out.old result out.new }
+    ensures goes { (rs : List Rule) → rules_of rules.entry.file.now ≡ some rs
+        → RunGoes (context_of rs c.old) c.old.skip_next_space rows.now text.now row out.old result c.new.skip_next_space out.new }
+    ensures flag_alone { c.new ≡ with_flag c.new.skip_next_space c.old }
+    ensures lent { out.new.buffer.ghost_name ≡ out.old.buffer.ghost_name }
 {
-    let mut w = at;
-    let mut f = flag;
     let mut i = 0;
     let mut j = 0;
     while token_at(rows, i) {
-        let r = put_part(
-            out,
-            w,
-            &rows[i..],
-            &text[j..],
-            rules,
-            index,
-            mode,
-            env,
-            indent,
-            f,
-        );
-        if r.refusal != 0 {
-            return ran(i + r.rows, j, w, f, r.refusal);
+        match put_part(c, out, &rows[i..], &text[j..], rules) {
+            Ok(part) => {
+                i += part.rows;
+                j += part.text;
+            }
+            Err(reason) => {
+                let row = row.saturating_add(1 + i / 8);
+                return Err(Refusal { reason, row });
+            }
         }
-        w = r.at;
-        f = r.flag;
-        i += r.rows;
-        j += r.text;
     }
-    ran(i, j, w, f, 0)
+    Ok(Span { rows: i, text: j })
 }

@@ -4,6 +4,7 @@ use mathlib.Core.Path.{◌≡◌, refl, ◌∙◌}
 use mathlib.Core.Bool.{false}
 use mathlib.Core.List.{List, []}
 use Prim.Native.Nat.{ℕ, ◌*◌, ◌≤◌, ◌<◌}
+use Rattle.std.specs.Prelude.{Result, Ok, Err}
 use native.Mathlib.Omega.{arith}
 use lib.ListN.{length}
 use lib.Seq.{sets}
@@ -11,9 +12,10 @@ use Rattle.text.specs.Writing.{cap}
 use Rattle.mitex_meaning.specs.State.{carry_of}
 use Rattle.ledger.specs.Ledger.{row_size, encode_row}
 use Rattle.passes.specs.Passes.{BlocksUpTo, Pieced, Steps, Measures, Writes}
+use Rattle.refusals.specs.declared.Refusal.{Refusal}
 use Rattle.passes.specs.declared.Standing.{Standing}
 use Rattle.passes.proofs.Measuring.{BlocksPassed, blocks-passed-start, blocks-passed-end, blocks-passed-refused, blocks-passed-next}
-use Rattle.passes.proofs.Rewriting.{BlocksLeft, blocks-left-start, blocks-left-next, blocks-left-end, row-left, went-well}
+use Rattle.passes.proofs.Rewriting.{BlocksLeft, blocks-left-start, blocks-left-next, blocks-left-end, row-left, never-refused}
 
 module _ (rules index rows text : List ℕ) (from : Standing) (n : ℕ) (out₀ ledger₀ : List ℕ) where
   -- the pass has come to s, and the buffers are as long as they were
@@ -28,28 +30,28 @@ module _ (rules index rows text : List ℕ) (from : Standing) (n : ℕ) (out₀ 
 
 module _ {rules index rows text : List ℕ} {from : Standing} {n : ℕ} {out₀ ledger₀ : List ℕ} {s : Standing} {out ledger : List ℕ}
     (d : Drafted rules index rows text from n out₀ ledger₀ s out ledger) where
-  -- what the pass promises of a standing at which it ends
-  abbrev DraftEnds : Standing → List ℕ → Type 0
+  -- what the pass promises where it ends
+  abbrev DraftEnds : Result Standing Refusal → List ℕ → Type 0
   DraftEnds r out' =
       Measures rules index rows text from n n false [] r × Writes rules index rows text from n out₀ ledger₀ out' ledger
 
-  pub drafted-end : n ≤ s.block → DraftEnds s out
+  pub drafted-end : n ≤ s.block → DraftEnds (Ok s) out
   drafted-end h = (λ w. blocks-passed-end (d.passed w) h, λ w. blocks-left-end w out₀ (d.left w) h)
 
-  module _ (h : s.block < n) {out' : List ℕ} {r : Standing} (p : Steps rules index rows text s out r out') where
-    pub drafted-refused : (r.walked.refusal ≡ 0 → ⊥) → DraftEnds r out'
-    drafted-refused z = (λ w. blocks-passed-refused (d.passed w) h p z, λ w. absurd (z (went-well (d.left w).here h p)))
+  module _ (h : s.block < n) {out' : List ℕ} where
+    pub drafted-refused : {e : Refusal} → Steps rules index rows text s out (Err e) out' → DraftEnds (Err e) out'
+    drafted-refused p = (λ w. blocks-passed-refused (d.passed w) h p, λ w. absurd (never-refused (d.left w).here h p))
 
     -- where pieces were given, the row can say where the text ends
     pub drafted-next :
-        {ledger' : List ℕ} → r.walked.refusal ≡ 0 → length out' ≡ length out → length ledger' ≡ length ledger
-        → (r.walked.at < cap
-        → ledger'
-        ≡ sets ledger (row_size * s.block) (encode_row (record { end = r.walked.at; carry = carry_of r.walked.converter })))
+        {r : Standing} (p : Steps rules index rows text s out (Ok r) out') {ledger' : List ℕ} → length out' ≡ length out
+        → length ledger' ≡ length ledger
+        → (r.at < cap
+        → ledger' ≡ sets ledger (row_size * s.block) (encode_row (record { end = r.at; carry = carry_of r.converter })))
         → Drafted rules index rows text from n out₀ ledger₀ r out' ledger'
-    drafted-next z long ledger_long e =
+    drafted-next p long ledger_long e =
         record {
-          passed = λ w. blocks-passed-next (d.passed w) h p z false refl refl;
+          passed = λ w. blocks-passed-next (d.passed w) h p false refl refl;
           left = λ w. blocks-left-next w out₀ (d.left w) h p (e (row-left (d.left w).here h p).1);
           long = long ∙ d.long;
           ledger_long = ledger_long ∙ d.ledger_long;

@@ -2,7 +2,7 @@
 use mathlib.Core.Path.{◌≡◌, sym, ap, ◌∙◌}
 use mathlib.Core.Bool.{true}
 use mathlib.Core.List.{List}
-use Prim.Native.Nat.{ℕ, zero, suc, ◌-◌, ◌≤◌, ◌<◌}
+use Prim.Native.Nat.{ℕ, zero, suc, ◌≤◌, ◌<◌}
 use native.Mathlib.Omega.{arith}
 use Rattle.ledger.specs.Ledger.{row_at, decode_rows, fits}
 use Rattle.ledger.proofs.Fitting.{fits-end, fits-rise}
@@ -13,10 +13,9 @@ use Rattle.passes.specs.Passes.{EndsBefore}
 pub ends-first : (k : ℕ) (l : List ℕ) → k ≡ 0 → EndsBefore l k 0
 ends-first k l e n i = sym (ap (λ j. end_before j (decode_rows n l)) e)
 
-pub ends-before : (k : ℕ) (l : List ℕ) {r : ℕ} → 0 < k → r ≡ (row_at (k - 1) l).end → EndsBefore l k r
-ends-before zero l h e n i = absurd (omega arith)
-ends-before (suc k) l h e n i =
-    let z : suc k - 1 ≡ k = omega arith in e ∙ ap (λ j. (row_at j l).end) z ∙ sym (end_before-at n k l (omega arith))
+pub ends-before : (k last : ℕ) (l : List ℕ) {r : ℕ} → suc last ≡ k → r ≡ (row_at last l).end → EndsBefore l k r
+ends-before k last l z e n i =
+    e ∙ sym (end_before-at n last l (omega arith)) ∙ ap (λ j. end_before j (decode_rows n l)) z
 
 module _ (n kept : ℕ) (l : List ℕ) (e : fits n kept l ≡ true) where
   pub ends-rise : (i j : ℕ) → i ≤ j → j ≤ n → end_before i (decode_rows n l) ≤ end_before j (decode_rows n l)

@@ -4,6 +4,7 @@ use mathlib.Core.Path.{◌≡◌, refl, sym, ap, subst}
 use mathlib.Core.Bool.{Bool, true, false, cond}
 use mathlib.Core.List.{List, [], ◌∷◌}
 use Prim.Native.Nat.{ℕ, ◌+◌, ◌≤◌, ◌<◌, min}
+use Rattle.std.specs.Prelude.{Ok, Err}
 use native.Mathlib.Omega.{arith}
 use lib.ListN.{length}
 use Rattle.text.specs.Writing.{cap}
@@ -18,6 +19,8 @@ use Rattle.edit_meaning.specs.Walk.Walk.{stopped, pieces}
 use Rattle.passes.specs.Passes.{FirstPieces, walk_by, Came}
 use Rattle.passes.specs.Passes.FirstPieces.{none_yet, one_more}
 use Rattle.passes.specs.Passes.Came.{came_stopped, came_through}
+use Rattle.refusals.specs.Refusals.{refusal_number}
+use Rattle.refusals.specs.declared.Refusal.{Refusal}
 use Rattle.passes.specs.declared.Standing.{Standing}
 
 module _ (𝓒 : BlockConverter) where
@@ -97,17 +100,14 @@ some-until 𝓒 c r (b ∷ bs) d ds qs h e = some_next (𝓒.convert c b) r d (�
 
 -- ---- what a measuring pass came to
 
-pub came_refused :
-    {from r : Standing} {v : Walk} → Came from r v → (r.walked.refusal ≡ 0 → ⊥) → v ≡ stopped r.walked.refusal r.walked.row
-came_refused (came_stopped h n i) z = λ k. stopped (sym n k) (sym i k)
-came_refused (came_through w b p) z = absurd (z w)
+pub came_refused : {from : Standing} {e : Refusal} {v : Walk} → Came from (Err e) v → v ≡ stopped (refusal_number e.reason) e.row
+came_refused (came_stopped n i) = λ k. stopped (sym n k) (sym i k)
 
 pub record Came-to (from r : Standing) (v : Walk) : Type 0 where
   pub ps : List Piece
   pub are : v ≡ pieces ps
   pub block : r.block ≡ from.block + length ps
-  pub place : r.walked.at ≡ min cap (from.walked.at + length (written ps))
+  pub place : r.at ≡ min cap (from.at + length (written ps))
 
-pub came-pieces : {from r : Standing} {v : Walk} → Came from r v → r.walked.refusal ≡ 0 → Came-to from r v
-came-pieces (came_stopped h n i) z = absurd (omega arith)
-came-pieces (came_through {ps = ps} w b p) z = record { ps = ps; are = refl; block = b; place = p }
+pub came-pieces : {from r : Standing} {v : Walk} → Came from (Ok r) v → Came-to from r v
+came-pieces (came_through {ps = ps} b p) = record { ps = ps; are = refl; block = b; place = p }

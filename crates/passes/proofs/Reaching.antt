@@ -2,7 +2,7 @@
 -- (`Reached`), and in whatever forest the rows spell (`Reaches`).
 use mathlib.Core.Path.{◌≡◌, refl, sym, ap, subst, ◌∙◌}
 use mathlib.Core.List.{List, [], ◌∷◌, ◌++◌}
-use Prim.Native.Nat.{ℕ, ◌+◌, ◌*◌, ◌≤◌, ◌<◌}
+use Prim.Native.Nat.{ℕ, ◌+◌, ◌≤◌, ◌<◌}
 use native.Mathlib.Omega.{arith}
 use lib.ListN.{length, take, drop, length-drop}
 use lib.Seq.{drop-drop, take-add}
@@ -12,12 +12,11 @@ use Rattle.mitex_syntax.specs.Spells.{SpellsAll}
 use Rattle.mitex_syntax.specs.Rows.{extent_of, token_sum, Spans}
 use Rattle.mitex_syntax.proofs.Trees.{ElementAt, element, all-begins, spans, rows-e, text-n, past-exact, length-rowss, size-some, size-more}
 use Rattle.text.specs.Trailer.{file_most}
-use Rattle.mitex_meaning.specs.Contract.{Went}
 use Rattle.mitex_meaning.specs.declared.Converter.{Converter}
 use Rattle.edit_meaning.specs.Walk.{rows_all}
 use Rattle.manuscript.specs.Manuscript.{listed}
 use Rattle.manuscript.proofs.Manuscript.{listed-count}
-use Rattle.passes.specs.Passes.{SomeBlocks, Reached, Reaches, StandsBefore}
+use Rattle.passes.specs.Passes.{Document, Reached, Reaches, StandsBefore}
 use Rattle.passes.specs.declared.Standing.{Standing}
 
 -- ---- counting blocks and their rows
@@ -90,34 +89,35 @@ stood-reaches s blocks text sp many short =
 pub reaches-start : {rows : List ℕ} {block : ℕ} → Reaches rows block 0 0 0
 reaches-start blocks text sp many short = reached-start sp
 
-module _ {rows : List ℕ} {block k i j : ℕ} (g : SomeBlocks rows block) (r : Reaches rows block k i j) where
-  -- of the one that is given
-  given : Reached g.blocks rows g.text k i j
-  given = r g.blocks g.text g.spells g.many g.short
+module _ {rules index rows text : List ℕ} {n : ℕ} (d : Document rules index rows text n) {block k i j : ℕ} (within : block ≤ n)
+    (r : Reaches rows block k i j) where
+  -- of the document's own
+  given : Reached d.blocks rows text k i j
+  given = r d.blocks text d.spells (omega (arith, d.many)) d.short
 
   pub reaches-low : i ≤ file_most
-  reaches-low = omega (arith, given.low, g.few)
+  reaches-low = omega (arith, given.low, d.few)
 
   pub reaches-begun : j ≤ file_most
-  reaches-begun = omega (arith, given.begun, g.short)
+  reaches-begun = omega (arith, given.begun, d.short)
 
   module _ (h : k < block) where
     pub reaches-spans : Spans rows i
     reaches-spans =
-        let few = g.few in
-        let short = g.short in
-        spans (reached-element given (omega (arith, g.many)) few short) (omega arith) (omega arith)
+        let few = d.few in
+        let short = d.short in
+        spans (reached-element given (omega (arith, d.many)) few short) (omega arith) (omega arith)
 
     pub reaches-next :
-        {e n : ℕ} → e ≡ extent_of (drop i rows) → n ≡ token_sum (take (extent_of (drop i rows)) (drop i rows))
-        → Reaches rows block (k + 1) (i + e) (j + n)
-    reaches-next is_e is_n blocks text sp many short = reached-next (r blocks text sp many short) (omega arith) g.few short _ _ is_e is_n
+        {e m : ℕ} → e ≡ extent_of (drop i rows) → m ≡ token_sum (take (extent_of (drop i rows)) (drop i rows))
+        → Reaches rows block (k + 1) (i + e) (j + m)
+    reaches-next is_e is_m blocks text sp many short = reached-next (r blocks text sp many short) (omega arith) d.few short _ _ is_e is_m
 
 -- after the last turn
 pub reaches-stands :
     {rows : List ℕ} {block k at : ℕ} {c : Converter} {r : Standing} → Reaches rows block k r.i r.j → k ≡ block → r.block ≡ block
-    → Went c at r.walked → StandsBefore rows block at c r
-reaches-stands {rows} {block} {r = r} x e b w blocks text sp many short =
+    → r.converter ≡ c → r.at ≡ at → StandsBefore rows block at c r
+reaches-stands {rows} {block} {r = r} x e b c a blocks text sp many short =
     let y = subst (λ (m : ℕ). Reached blocks rows text m r.i r.j) e (x blocks text sp many short) in
     record {
       left = y.left;
@@ -128,5 +128,6 @@ reaches-stands {rows} {block} {r = r} x e b w blocks text sp many short =
       low = y.low;
       begun = y.begun;
       block = b;
-      went = w;
+      gives = c;
+      next = a;
     }

@@ -1,27 +1,29 @@
 -- Laws of one block's turn: the block at which a pass stands is an element of the rows, it has room to be converted, and after it
 -- the pass can go on (`onward`).
-use mathlib.Core.Path.{◌≡◌, refl, ap, subst, ◌∙◌}
+use mathlib.Core.Path.{◌≡◌, refl, sym, ap, subst, ◌∙◌}
 use mathlib.Core.List.{List}
 use Prim.Native.Nat.{ℕ, ◌+◌, ◌/◌, ◌≤◌, ◌<◌}
+use Rattle.std.specs.Prelude.{Ok, Err}
 use native.Mathlib.Omega.{arith}
 use lib.ListN.{length, take, drop, length-drop}
 use Rattle.text.specs.Writing.{cap}
 use Rattle.mitex_spec.specs.Rules.{Rule}
 use Rattle.mitex_syntax.specs.Tree.{Tree, Forest}
-use Rattle.mitex_syntax.specs.Tree.Forest.{more}
+use Rattle.mitex_syntax.specs.Tree.Forest.{none, more}
 use Rattle.mitex_syntax.specs.Spells.{SpellsAll}
 use Rattle.mitex_syntax.specs.Rows.{extent_of, token_sum, Spans}
-use Rattle.mitex_syntax.proofs.Trees.{ElementAt, element, first-spelt, size-some, all-begins, spans, rows-e, text-n, part, part-spells, past-exact, ChildPart, child-part}
+use Rattle.mitex_syntax.proofs.Trees.{ElementAt, element, first-spelt, size-some, all-begins, spans, rows-e, text-n, part, part-spells, past-exact, ChildPart, child-part, spells-alone}
 use Rattle.mitex_meaning.specs.Outcome.{Context}
 use Rattle.mitex_meaning.specs.State.{context_of, carry_of}
-use Rattle.mitex_meaning.specs.Contract.{place_of, Agrees}
-use Rattle.mitex_meaning.specs.declared.Place.{Place}
+use Rattle.mitex_meaning.specs.Contract.{Place, place_of, Agrees, went_with, walked_by}
 use Rattle.mitex_meaning.specs.Conversion.{convert, levels, start_context}
+use Rattle.manuscript.specs.Manuscript.{block}
 use Rattle.mitex_meaning.specs.declared.Converter.{Converter}
-use Rattle.mitex_meaning.specs.declared.Walked.{Walked}
-use Rattle.mitex_meaning.proofs.Agreeing.{Good, agrees-good}
-use Rattle.mitex.specs.Walks.{Room, ConvertsElement}
+use Rattle.mitex_meaning.specs.Contract.{Walked}
+use Rattle.mitex_meaning.proofs.Agreeing.{Good, agrees-good, agrees-stops}
+use Rattle.mitex.specs.Walks.{Room, Siblings, ConvertsElement}
 use Rattle.passes.specs.Passes.{Outside, BlocksGiven, row_no, Stepped}
+use Rattle.refusals.specs.declared.Refusal.{Refusal}
 use Rattle.passes.specs.declared.Standing.{Standing}
 
 -- outside of all environments the context is the first one
@@ -47,23 +49,30 @@ module _ {rules index rows text : List ℕ} {s : Standing} (w : BlocksGiven rule
       pub next-child : ChildPart rows text s.i s.j e n
       next-child = child-part next-element e n is_e is_n
 
-      pub next-room :
-          (out : List ℕ) → length out ≤ cap
-          → Room 0 (part rows s.i e) (part text s.j n) out s.walked.at (s.i / 8) s.walked.converter
-      next-room out k =
+      pub next-room : Room 0 (part rows s.i e) s.converter
+      next-room =
           let x = next-child in
           let f = w.few in
-          let g = w.short in
           let o = w.outside in
-          record {
-            few = omega (arith, x.rows_long, x.end);
-            short = omega (arith, x.text_long, x.stop);
-            room = k;
-            place = w.place;
-            low = omega (arith, x.rows_long, x.end);
-            deep = omega (arith, x.rows_long, x.end, o.indent);
-            label = o.label;
-          }
+          record { deep = omega (arith, x.rows_long, x.end, o.indent); label = o.label }
+
+      -- as the walk has it
+      pub next-low : s.i / 8 + 8 + length (part rows s.i e) ≤ cap
+      next-low =
+          let x = next-child in
+          let f = w.few in
+          omega (arith, x.rows_long, x.end)
+
+      pub next-short : length (part text s.j n) < cap
+      next-short =
+          let x = next-child in
+          let g = w.short in
+          omega (arith, x.text_long, x.stop)
+
+      pub next-siblings : Siblings (part rows s.i e) (part text s.j n)
+      next-siblings =
+          let x = next-child.given in
+          record { forest = more x.tree none; spells = spells-alone x.spells }
 
   module _ (t : Tree) (g : Forest) (is : w.blocks ≡ more t g) where
     abbrev named-element : ElementAt w.blocks rows text s.i s.j
@@ -86,34 +95,52 @@ module _ {rules index rows text : List ℕ} {s : Standing} (w : BlocksGiven rule
 
     module _ (e n : ℕ) (is_e : e ≡ extent_of (drop s.i rows))
         (is_n : n ≡ token_sum (take (extent_of (drop s.i rows)) (drop s.i rows))) where
-      pub stepped :
-          {a : Walked} {out out' : List ℕ}
-          → ConvertsElement rules index (part rows s.i e) (part text s.j n) (1 + s.i / 8) s.walked.converter s.walked.at out a out'
-          → Stepped rules index rows text s w.rs t g out (record { block = s.block + 1; i = s.i + e; j = s.j + n; walked = a }) out'
-      stepped {a} {out} {out'} m =
+      -- the block was converted, or refused
+      abbrev Converted : Walked → List ℕ → List ℕ → Type 0
+      Converted a out out' =
+          ConvertsElement rules index (part rows s.i e) (part text s.j n) (1 + s.i / 8) s.converter s.at out a out'
+
+      converted : {a : Walked} {out out' : List ℕ} → Converted a out out'
+          → Agrees a (place_of s.converter) (row_no s) s.at out out' (block s.converter.mode w.rs (carry_of s.converter) t)
+      converted {a} {out} {out'} m =
+          let x = named-element in
+          let c = s.converter in
+          subst (λ (y : Context). Agrees a (place_of c) (row_no s) s.at out out' (convert levels y t (carry_of c)))
+          (outside-context w.rs c w.outside)
+          (m w.rs w.ready t (part-spells x e n is_e is_n) levels (omega (arith, x.end, w.few)))
+
+      pub stepped-on :
+          {out out' out'' : List ℕ} {c : Converter} {at : ℕ} → out'' ≡ out' → Converted (went_with c at) out out'
+          → Stepped rules index rows text s w.rs t g out
+          (Ok (record { block = s.block + 1; i = s.i + e; j = s.j + n; at = at; converter = c })) out''
+      stepped-on {out} {c = c} {at} q m =
           let x = named-element in
           let re = rows-e x e n is_e is_n in
           let tn = text-n x e n is_e is_n in
-          let c = s.walked.converter in
           record {
-            counted = refl;
-            row = omega arith;
-            spells = past-exact x e n is_e is_n w.spells;
-            low = omega (arith, x.end);
-            begun = omega (arith, x.stop);
+            past = record {
+              counted = refl;
+              row = omega arith;
+              spells = past-exact x e n is_e is_n w.spells;
+              low = omega (arith, x.end);
+              begun = omega (arith, x.stop);
+            };
             agrees =
-                subst (λ (y : Context). Agrees a (place_of c) (row_no s) s.walked.at out out' (convert levels y t (carry_of c)))
-                (outside-context w.rs c w.outside)
-                (m w.rs w.ready t (part-spells x e n is_e is_n) levels (omega (arith, x.end, w.few)));
+                let o = block s.converter.mode w.rs (carry_of s.converter) t in
+                subst (λ x. Agrees (went_with c at) (place_of s.converter) (row_no s) s.at out x o) (sym q) (converted m);
           }
 
-    -- after the block
-    module _ {out out' : List ℕ} {r : Standing} (p : Stepped rules index rows text s w.rs t g out r out')
-        (z : r.walked.refusal ≡ 0) where
-      pub fine : Good r.walked (place_of s.walked.converter)
-      fine = agrees-good p.agrees z
+      pub stepped-refused :
+          {out out' out'' : List ℕ} {c : Converter} {at : ℕ} (f : Refusal) → Converted (walked_by c at (Err f)) out out'
+          → Stepped rules index rows text s w.rs t g out (Err f) out''
+      stepped-refused f m = record { past = tt; agrees = agrees-stops f (converted m) }
 
-      pub same-mode : r.walked.converter.mode ≡ s.walked.converter.mode
+    -- after the block
+    module _ {out out' : List ℕ} {r : Standing} (p : Stepped rules index rows text s w.rs t g out (Ok r) out') where
+      pub fine : Good (went_with r.converter r.at) (place_of s.converter)
+      fine = agrees-good p.agrees refl
+
+      pub same-mode : r.converter.mode ≡ s.converter.mode
       same-mode = ap (λ (q : Place). q.mode) fine.placed_so
 
       abbrev pub onward : BlocksGiven rules index rows text r
@@ -122,12 +149,11 @@ module _ {rules index rows text : List ℕ} {s : Standing} (w : BlocksGiven rule
             rs = w.rs;
             ready = w.ready;
             blocks = g;
-            spells = p.spells;
-            low = p.low;
-            begun = p.begun;
+            spells = p.past.spells;
+            low = p.past.low;
+            begun = p.past.begun;
             few = w.few;
             short = w.short;
-            well = z;
             place = fine.place;
             outside = record {
               env = ap (λ (q : Place). q.env) fine.placed_so ∙ w.outside.env;

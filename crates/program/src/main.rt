@@ -2,8 +2,8 @@
 // `m`), and writes the text alone; or the number and the row of a refusal.
 #![tactic(auto)]
 
-use calls::Converted;
 use console::ANSWER_MOST;
+use refusals::Refusal;
 use std::io;
 use std::rt::Files;
 use text::FILE_MOST;
@@ -22,9 +22,9 @@ fn read_mode(rt: &impl Input) -> u8 {
 }
 
 // Writes the line of a refusal.
-fn print_refusal(rt: &impl Print, number: u8, row: usize) -> io::Result<()> {
+fn print_refusal(rt: &impl Print, refusal: Refusal) -> io::Result<()> {
     let mut line = [0u8; ANSWER_MOST];
-    let n = console::put_refusal(&mut line, number, row);
+    let n = console::put_refusal(&mut line, u8::from(refusal.reason), refusal.row);
     rt.write_all(&line[..n])
 }
 
@@ -33,8 +33,8 @@ fn convert<'a>(rt: &impl Print, mode: u8, rules: &'a [u8], tree: &'a [u8]) -> io
     let mut text = [0u8; BUFFER_MOST];
     let mut ledger = [0u8; BUFFER_MOST];
     match calls::convert(mode, rules, tree, &mut text, &mut ledger) {
-        Converted::Refused { number, row } => print_refusal(rt, number, row),
-        Converted::Done { length, blocks: _ } => rt.write_all(&text[..length]),
+        Ok(converted) => rt.write_all(&text[..converted.length]),
+        Err(refusal) => print_refusal(rt, refusal),
     }
 }
 

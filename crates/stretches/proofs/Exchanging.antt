@@ -6,11 +6,10 @@ use mathlib.Core.List.{List, ◌++◌}
 use mathlib.Core.Option.Option.{some}
 use Prim.Native.Nat.{ℕ, suc, ◌+◌, ◌*◌, ◌-◌, ◌≤◌, ◌<◌}
 use native.Mathlib.Omega.{arith}
-use lib.ListN.{length, take, drop, get_or, length-append, length-drop}
-use lib.Seq.{sets, length-sets, length-take-le, get_or-drop}
+use lib.ListN.{length, take, drop, length-append, length-drop}
+use lib.Seq.{sets, length-sets, length-take-le, take_all}
 use lib.Dec.{ltb}
 use Rattle.text.specs.Writing.{cap}
-use Rattle.text.proofs.Writing.{part-rest}
 use Rattle.mitex_meaning.specs.Parts.{between}
 use Rattle.mitex_meaning.specs.declared.LaTeXMode.{LaTeXMode}
 use Rattle.ledger.specs.Ledger.{Row, row_size, HasRow, decode_rows, encode_rows, Movable, move_rows, written, rows_from}
@@ -27,26 +26,31 @@ use Rattle.manuscript.proofs.Manuscript.{keeps-short}
 use Rattle.passes.specs.Passes.{EndsBefore}
 use Rattle.passes.proofs.Ends.{ends-rise, ends-kept, ends-row}
 use Rattle.passes.proofs.Pieces.{gives-short}
-use Rattle.stretches.specs.Plans.{next_block, rest_text, rest_rows, note_size, LaidOut}
+use Rattle.stretches.specs.Plans.{next_block, rest_text, rest_rows, LaidOut}
 use Rattle.stretches.specs.Plans.{Writable, WritesStretch, Exchangeable, Exchanged, Exchanges}
+use Rattle.stretches.specs.declared.Note.{Note}
 use Rattle.stretches.proofs.Storing.{lowered_long, lowered-rest, stored-around}
-use Rattle.stretches.proofs.Laying.{carry-short, kept_text, rest_text-first, rest_rows-first}
+use Rattle.stretches.proofs.Laying.{note_in, carry-short, kept_text, rest_text-first, rest_rows-first}
 use Rattle.stretches.proofs.Laying.{LaidFrom, LaidFirst, laid_from, laid-first, laid_none, laid_same}
 
--- in a plan: the first block after its first stretch, the bytes of that one's text, and the first block of the next
-abbrev after_in : List ℕ → ℕ
-after_in plan = get_or plan 1 0
+-- in a plan: the notes after its first one, the first block after its first stretch, the bytes of that one's text, and the first block of
+-- the next
+abbrev pub rest_in : List Note → List Note
+rest_in plan = take (length plan - 1) (drop 1 plan)
 
-abbrev size_in : List ℕ → ℕ
-size_in plan = get_or plan 2 0
+abbrev pub after_in : List Note → ℕ
+after_in plan = (note_in plan).after
 
-abbrev next_in : List ℕ → ℕ
-next_in plan = get_or plan 5 0
+abbrev pub size_in : List Note → ℕ
+size_in plan = (note_in plan).size
 
-module _ {rules index rows text : List ℕ} {m : LaTeXMode} {n : ℕ} {plan : List ℕ} {at : ℕ} {out ledger : List ℕ}
+abbrev pub next_in : List Note → ℕ
+next_in plan = (note_in (rest_in plan)).block
+
+module _ {rules index rows text : List ℕ} {m : LaTeXMode} {n : ℕ} {plan : List Note} {at : ℕ} {out ledger : List ℕ}
     (w : Exchangeable rules index rows text m n plan at out ledger) where
   -- no stretch is left
-  pub none-exchanged : n ≤ get_or plan 0 0 → Exchanged n w.kept at w.ss out ledger out ledger
+  pub none-exchanged : n ≤ (note_in plan).block → Exchanged n w.kept at w.ss out ledger out ledger
   none-exchanged z =
       let e = laid_none w.laid z in
       record {
@@ -58,7 +62,7 @@ module _ {rules index rows text : List ℕ} {m : LaTeXMode} {n : ℕ} {plan : Li
   plan-some = (laid_from w.laid).some
 
   -- there is one, and others after it: its text and its rows as they come
-  module _ (h : get_or plan 0 0 < n) where
+  module _ (h : (note_in plan).block < n) where
     abbrev first : LaidFirst w.document m ledger w.from w.ss plan
     first = laid-first w.laid h
 
@@ -75,14 +79,20 @@ module _ {rules index rows text : List ℕ} {m : LaTeXMode} {n : ℕ} {plan : Li
     kept-rows = decode_rows n ledger
 
     -- the blocks that the plan names
-    next-from : LaidFrom n (block_after first.s) others (drop note_size plan)
+    next-from : LaidFrom n (block_after first.s) others (drop 1 plan)
     next-from = laid_from first.laid
 
-    pub plan-long : 5 < length plan
-    plan-long = first.noted.long
+    pub plan-long : 1 < length plan
+    plan-long = omega (arith, next-from.some, length-drop 1 plan)
+
+    pub rest-is : rest_in plan ≡ drop 1 plan
+    rest-is = take_all (length plan - 1) (drop 1 plan) (omega (arith, length-drop 1 plan))
+
+    pub rest-some : 0 < length (rest_in plan)
+    rest-some = omega (arith, plan-long, ap length rest-is, length-drop 1 plan)
 
     next-is : next_in plan ≡ next_block n others
-    next-is = sym (get_or-drop note_size plan 0 0) ∙ next-from.says
+    next-is = ap (λ ns. (note_in ns).block) rest-is ∙ next-from.says
 
     pub after_next : (after_in plan ≤ next_in plan) × (next_in plan ≤ n)
     after_next = let f = next-from in (omega (arith, first.noted.after, next-is), omega (arith, next-is))
@@ -171,7 +181,7 @@ module _ {rules index rows text : List ℕ} {m : LaTeXMode} {n : ℕ} {plan : Li
             (omega (arith, end_is))
 
         -- so the other stretches may be exchanged
-        abbrev pub deeper : Exchangeable rules index rows text m n (take (length plan - 5) (drop 5 plan)) place out₁ ledger
+        abbrev pub deeper : Exchangeable rules index rows text m n (rest_in plan) place out₁ ledger
         deeper =
             record {
               document = w.document;
@@ -180,14 +190,14 @@ module _ {rules index rows text : List ℕ} {m : LaTeXMode} {n : ℕ} {plan : Li
               inside = omega (arith, out₁-long, w.inside);
               from = block_after first.s;
               ss = others;
-              laid = subst (LaidOut w.document m ledger (block_after first.s) others) (sym (part-rest plan 5)) first.laid;
+              laid = subst (LaidOut w.document m ledger (block_after first.s) others) (sym rest-is) first.laid;
               room = omega (arith, ap length rest-same, out₁-long, place_rest.0);
               small = omega (arith, ap length rest-same, place_rest.1);
             }
 
         -- and they were
         module _ {out₂ ledger₂ : List ℕ}
-            (exchanges : Exchanges rules index rows text m n (take (length plan - 5) (drop 5 plan)) place out₁ ledger out₂ ledger₂) where
+            (exchanges : Exchanges rules index rows text m n (rest_in plan) place out₁ ledger out₂ ledger₂) where
           abbrev others-exchanged : Exchanged n w.kept place others out₁ ledger out₂ ledger₂
           others-exchanged = exchanges deeper
 
@@ -255,7 +265,7 @@ module _ {rules index rows text : List ℕ} {m : LaTeXMode} {n : ℕ} {plan : Li
                 ∙ sets-before moved-rows rest-rows ledger a (row_size * next_in plan) moved-end
 
             -- so the first stretch may be written
-            abbrev pub writable : Writable rules index rows text m n plan at to out₃ ledger₃
+            abbrev pub writable : Writable rules index rows text m n (note_in plan) at to out₃ ledger₃
             writable =
                 let far : row_size * first.s.block ≤ row_size * after_in plan = omega (arith, first.noted.after) in
                 record {
@@ -295,7 +305,7 @@ module _ {rules index rows text : List ℕ} {m : LaTeXMode} {n : ℕ} {plan : Li
                 ++ rest_rows n kept-rows (at + sym size_is i + (sym end_is i - sym old-is i)) others ledger))
 
             pub exchanged :
-                {out₄ ledger₄ : List ℕ} → WritesStretch rules index rows text m n plan at to out₃ ledger₃ out₄ ledger₄
+                {out₄ ledger₄ : List ℕ} → WritesStretch rules index rows text m n (note_in plan) at to out₃ ledger₃ out₄ ledger₄
                 → Exchanged n w.kept at w.ss out ledger out₄ ledger₄
             exchanged writes =
                 let v = writes writable in

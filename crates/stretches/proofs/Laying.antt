@@ -17,8 +17,9 @@ use Rattle.edit_meaning.specs.Changes.{Stretch, block_after}
 use Rattle.edit_meaning.proofs.Bytes.{end_before-at, carry_before-at}
 use Rattle.passes.specs.Passes.{Document}
 use Rattle.passes.proofs.Ends.{ends-rise}
-use Rattle.stretches.specs.Plans.{next_block, rest_text, rest_rows, note_size, Noted, LaidOut}
+use Rattle.stretches.specs.Plans.{next_block, rest_text, rest_rows, Noted, LaidOut}
 use Rattle.stretches.specs.Plans.LaidOut.{laid_end, laid_more}
+use Rattle.stretches.specs.declared.Note.{Note}
 use Rattle.stretches.proofs.Storing.{rest-later}
 
 -- ---- a ledger that fits
@@ -69,43 +70,51 @@ rest_rows-first n rs at s (s₂ ∷ ss) l =
 
 -- ---- the plan
 
+-- what is read where a plan has no note
+abbrev pub no_note : Note
+no_note = record { block = 0; after = 0; size = 0; i = 0; j = 0 }
+
+-- its first note
+abbrev pub note_in : List Note → Note
+note_in plan = get_or plan 0 no_note
+
 -- it says first at which block its stretches begin
-pub record LaidFrom (n from : ℕ) (ss : List Stretch) (plan : List ℕ) : Type 0 where
+pub record LaidFrom (n from : ℕ) (ss : List Stretch) (plan : List Note) : Type 0 where
   pub later : from ≤ next_block n ss
   pub within : next_block n ss ≤ n
   pub some : 0 < length plan
-  pub says : get_or plan 0 0 ≡ next_block n ss
+  pub says : (note_in plan).block ≡ next_block n ss
 
 -- the first of its stretches, where there is one, and the plan of the others
 module _ {rules index rows text : List ℕ} {n : ℕ} (w : Document rules index rows text n) (m : LaTeXMode) (l : List ℕ) where
-  pub record LaidFirst (from : ℕ) (ss : List Stretch) (plan : List ℕ) : Type 0 where
+  pub record LaidFirst (from : ℕ) (ss : List Stretch) (plan : List Note) : Type 0 where
     pub s : Stretch
     pub others : List Stretch
     pub are : ss ≡ s ∷ others
-    pub noted : Noted w m l from s plan
-    pub laid : LaidOut w m l (block_after s) others (drop note_size plan)
+    pub noted : Noted w m l from s (note_in plan)
+    pub laid : LaidOut w m l (block_after s) others (drop 1 plan)
 
 module _ {rules index rows text : List ℕ} {n : ℕ} {w : Document rules index rows text n} {m : LaTeXMode} {l : List ℕ} where
-  pub laid_from : {from : ℕ} {ss : List Stretch} {plan : List ℕ} → LaidOut w m l from ss plan → LaidFrom n from ss plan
-  laid_from (laid_end h k e) = record { later = h; within = omega arith; some = k; says = e }
+  pub laid_from : {from : ℕ} {ss : List Stretch} {plan : List Note} → LaidOut w m l from ss plan → LaidFrom n from ss plan
+  laid_from (laid_end h e) = record { later = h; within = omega arith; some = omega arith; says = e }
   laid_from (laid_more p q) =
-      record { later = p.later; within = omega (arith, p.within); some = omega (arith, p.long); says = p.block }
+      record { later = p.later; within = omega (arith, p.within); some = omega arith; says = p.block }
 
   pub laid-first :
-      {from : ℕ} {ss : List Stretch} {plan : List ℕ} → LaidOut w m l from ss plan → get_or plan 0 0 < n → LaidFirst w m l from ss plan
-  laid-first (laid_end h k e) z = absurd (omega arith)
+      {from : ℕ} {ss : List Stretch} {plan : List Note} → LaidOut w m l from ss plan → (note_in plan).block < n → LaidFirst w m l from ss plan
+  laid-first (laid_end h e) z = absurd (omega (arith, e))
   laid-first (laid_more {s = s} {ss} p q) z = record { s = s; others = ss; are = refl; noted = p; laid = q }
 
-  pub laid_none : {from : ℕ} {ss : List Stretch} {plan : List ℕ} → LaidOut w m l from ss plan → n ≤ get_or plan 0 0 → ss ≡ []
-  laid_none (laid_end h k e) z = refl
+  pub laid_none : {from : ℕ} {ss : List Stretch} {plan : List Note} → LaidOut w m l from ss plan → n ≤ (note_in plan).block → ss ≡ []
+  laid_none (laid_end h e) z = refl
   laid_none (laid_more p q) z = absurd (omega (arith, p.block, p.within, p.gone, p.some))
 
   -- the rest of the text is read from where its first block begins
   module _ (kept : ℕ) (fit : fits n kept l ≡ true) (t t' : List ℕ) (o : ℕ) (e : drop o t ≡ drop o t') where
     pub laid_same :
-        {from : ℕ} {ss : List Stretch} {plan : List ℕ} → LaidOut w m l from ss plan → o ≤ end_before (next_block n ss) (decode_rows n l)
+        {from : ℕ} {ss : List Stretch} {plan : List Note} → LaidOut w m l from ss plan → o ≤ end_before (next_block n ss) (decode_rows n l)
         → rest_text kept (decode_rows n l) ss t ≡ rest_text kept (decode_rows n l) ss t'
-    laid_same (laid_end h k z) b = refl
+    laid_same (laid_end h z) b = refl
     laid_same (laid_more {s = s} {ss} p q) b =
         let old = end_before (block_after s) (decode_rows n l) in
         let end = end_before (next_block n ss) (decode_rows n l) in

@@ -1,30 +1,32 @@
 -- The plan while it is made, after the first i of the named blocks: its stretches come first, whatever follows (`PlanSoFar`). Each turn puts
 -- one stretch more after them or none (`so-far-next`), or meets a refusal (`so-far-refused`); after the last they are all (`so-far-end`).
 use mathlib.Core.Path.{◌≡◌, refl, sym, ap, subst, ◌∙◌}
-use mathlib.Core.Bool.{Bool, true, false, cond}
+use mathlib.Core.Bool.{Bool, cond}
 use mathlib.Core.List.{List, [], ◌∷◌, ◌++◌, append_assoc}
-use Prim.Native.Nat.{ℕ, zero, suc, ◌+◌, ◌*◌, ◌-◌, ◌≤◌, ◌<◌, min}
+use Prim.Native.Nat.{ℕ, suc, ◌+◌, ◌-◌, ◌≤◌, ◌<◌, min}
+use Rattle.std.specs.Prelude.{Ok, Err}
 use native.Mathlib.Omega.{arith}
 use borrow.Author.Tests.{lt-ltb, le-ltb}
 use lib.ListN.{length, take, drop, get_or, set, length-append, drop_of_length-le}
-use lib.Seq.{sets, sets-eq, drop-cons, drop-nil, take_at, length-take-le, set_split}
+use lib.Seq.{drop-cons, take_at, length-take-le, set_split}
 use lib.Dec.{ltb}
 use Rattle.text.specs.Writing.{cap}
-use Rattle.tree_file.specs.Layout.{blocks_most}
 use Rattle.mitex_meaning.specs.declared.LaTeXMode.{LaTeXMode}
 use Rattle.ledger.specs.Ledger.{Row, decode_rows, Piece, written}
 use Rattle.edit_meaning.specs.Walk.{BlockConverter, Walk}
 use Rattle.edit_meaning.specs.Walk.Walk.{stopped, pieces}
 use Rattle.edit_meaning.specs.Edit.{end_before, again}
-use Rattle.edit_meaning.specs.Changes.{Stretch, block_after, come_count, Remade, before_rest, stretch_then, each_from}
+use Rattle.edit_meaning.specs.Changes.{Stretch, come_count, Remade, before_rest, stretch_then, each_from}
 use Rattle.edit_meaning.specs.Changes.Remade.{halted, remade}
 use Rattle.manuscript.specs.Manuscript.{listed, blocks_in}
-use Rattle.passes.specs.Passes.{Document, Reached, Reaches}
+use Rattle.passes.specs.Passes.{Document, Reaches}
 use Rattle.passes.proofs.Reaching.{reached-start}
-use Rattle.stretches.specs.Plans.{after_all, place_after, note_size, plan_size, Noted, LaidOut, PlanComes, NextNoted, StretchComes, PlanStands}
+use Rattle.stretches.specs.Plans.{after_all, place_after, plan_size, Noted, LaidOut, PlanComes, NextNoted, StretchComes, PlanStands}
 use Rattle.stretches.specs.Plans.LaidOut.{laid_end, laid_more}
 use Rattle.stretches.specs.Plans.PlanComes.{plan_halted, plan_made}
 use Rattle.stretches.specs.Plans.StretchComes.{passed_over, refused_there, noted_there}
+use Rattle.refusals.specs.declared.Refusal.{Refusal}
+use Rattle.stretches.specs.declared.Note.{Note}
 use Rattle.stretches.specs.declared.Planned.{Planned}
 
 -- ---- stretches before others
@@ -59,13 +61,13 @@ module _ {rules index rows text : List ℕ} {n : ℕ} (w : Document rules index 
   each = each_from 𝓒 bs kept
 
   -- the stretches ss of the plan s are those of the first i of the named blocks
-  pub record PlanSoFar (named : List ℕ) (i : ℕ) (s : Planned) (plan : List ℕ) : Type 0 where
+  pub record PlanSoFar (named : List ℕ) (i : ℕ) (s : Planned) (plan : List Note) : Type 0 where
     pub ss : List Stretch
     pub within : i ≤ length named
     pub comes : each 0 named ≡ before_all ss (each s.block (drop i named))
     pub laid :
-        (ss' : List Stretch) (rest : List ℕ) → LaidOut w m ledger s.block ss' rest
-        → LaidOut w m ledger 0 (ss ++ ss') (take (note_size * s.stretches) plan ++ rest)
+        (ss' : List Stretch) (rest : List Note) → LaidOut w m ledger s.block ss' rest
+        → LaidOut w m ledger 0 (ss ++ ss') (take s.stretches plan ++ rest)
     pub after : (ss' : List Stretch) → after_all 0 (ss ++ ss') ≡ after_all s.block ss'
     pub counted : (ss' : List Stretch) → come_count (ss ++ ss') ≡ s.count + come_count ss'
     pub place : ℕ
@@ -73,7 +75,7 @@ module _ {rules index rows text : List ℕ} {n : ℕ} (w : Document rules index 
     pub capped : min cap s.at ≡ min cap place
 
   pub so-far-start :
-      (named : List ℕ) {s : Planned} {plan : List ℕ} → s.stretches ≡ 0 → s.block ≡ 0 → s.count ≡ 0 → s.at ≡ 0 → PlanSoFar named 0 s plan
+      (named : List ℕ) {s : Planned} {plan : List Note} → s.stretches ≡ 0 → s.block ≡ 0 → s.count ≡ 0 → s.at ≡ 0 → PlanSoFar named 0 s plan
   so-far-start named {s} {plan} e₀ e₁ e₂ e₃ =
       record {
         ss = [];
@@ -81,8 +83,8 @@ module _ {rules index rows text : List ℕ} {n : ℕ} (w : Document rules index 
         comes = ap (λ j. each j named) (sym e₁);
         laid =
             λ ss' rest l.
-            subst (λ (j : ℕ). LaidOut w m ledger j ss' (take (note_size * s.stretches) plan ++ rest)) e₁
-            (subst (λ (x : ℕ). LaidOut w m ledger s.block ss' (take (note_size * x) plan ++ rest)) (sym e₀) l);
+            subst (λ (j : ℕ). LaidOut w m ledger j ss' (take s.stretches plan ++ rest)) e₁
+            (subst (λ (x : ℕ). LaidOut w m ledger s.block ss' (take x plan ++ rest)) (sym e₀) l);
         after = λ ss'. ap (λ j. after_all j ss') (sym e₁);
         counted = λ ss'. omega (arith, e₂);
         place = 0;
@@ -90,12 +92,7 @@ module _ {rules index rows text : List ℕ} {n : ℕ} (w : Document rules index 
         capped = ap (min cap) e₃;
       }
 
-  -- a plan has a number
-  laid-some : {from : ℕ} {ss : List Stretch} {plan : List ℕ} → LaidOut w m ledger from ss plan → 0 < length plan
-  laid-some (laid_end h g e) = g
-  laid-some (laid_more q l) = omega (arith, q.long)
-
-  module _ {named : List ℕ} {i : ℕ} {s : Planned} {plan : List ℕ} (p : PlanSoFar named i s plan) where
+  module _ {named : List ℕ} {i : ℕ} {s : Planned} {plan : List Note} (p : PlanSoFar named i s plan) where
     -- block k is named next
     module _ (h : i < length named) {k : ℕ} (e : k ≡ get_or named i 0) where
       next : each s.block (drop i named)
@@ -141,34 +138,33 @@ module _ {rules index rows text : List ℕ} {n : ℕ} (w : Document rules index 
       pub so-far-refused : {number row : ℕ} → s.block ≤ k → again 𝓒 bs k kept ≡ stopped number row → each 0 named ≡ halted number row
       so-far-refused {number} {row} g a = next-fresh g a ∙ before-halted p.ss number row
 
-      module _ {qs : List Piece} {r : Planned} {plan' : List ℕ} (g : s.block ≤ k) (a : again 𝓒 bs k kept ≡ pieces qs)
-          (q : NextNoted w m ledger s k qs r plan plan') (long : note_size * s.stretches + note_size ≤ length plan) where
+      module _ {qs : List Piece} {r : Planned} {plan' : List Note} (g : s.block ≤ k) (a : again 𝓒 bs k kept ≡ pieces qs)
+          (q : NextNoted w m ledger s k qs r plan plan') (long : s.stretches < length plan) where
         abbrev t : Stretch
         t = record { block = k; gone = length qs; come = qs }
 
-        abbrev five : List ℕ
-        five = k ∷ r.block ∷ min cap (length (written qs)) ∷ r.i ∷ r.j ∷ []
+        abbrev note : Note
+        note = record { block = k; after = r.block; size = min cap (length (written qs)); i = r.i; j = r.j }
 
         assoc : (ss' : List Stretch) → (p.ss ++ (t ∷ [])) ++ ss' ≡ p.ss ++ (t ∷ ss')
         assoc ss' = append_assoc p.ss (t ∷ []) ss'
 
-        -- its numbers stand after those of the stretches before
-        front : take (note_size * r.stretches) plan' ≡ take (note_size * s.stretches) plan ++ five
+        -- its note stands after those of the stretches before
+        front : take r.stretches plan' ≡ take s.stretches plan ++ (note ∷ [])
         front =
-            let i = note_size * s.stretches in
-            ap (take (note_size * r.stretches)) (q.noted ∙ sets-eq five plan i long)
-            ∙ take_at (take i plan ++ five) (drop (i + 5) plan) (note_size * r.stretches)
-            (omega (arith, length-append (take i plan) five, length-take-le i plan (omega arith), q.stretches))
+            let i = s.stretches in
+            ap (take r.stretches) (q.noted ∙ set_split plan i note long ∙ sym (append_assoc (take i plan) (note ∷ []) (drop (suc i) plan)))
+            ∙ take_at (take i plan ++ (note ∷ [])) (drop (suc i) plan) r.stretches
+            (omega (arith, length-append (take i plan) (note ∷ []), length-take-le i plan (omega arith), q.stretches))
 
-        noted : (rest : List ℕ) → 0 < length rest → Noted w m ledger s.block t (five ++ rest)
-        noted rest z =
+        noted : Noted w m ledger s.block t note
+        noted =
             record {
               later = g;
               gone = refl;
               some = q.some;
               within = q.within;
               are = q.are;
-              long = omega arith;
               block = refl;
               after = q.block;
               size = refl;
@@ -176,15 +172,15 @@ module _ {rules index rows text : List ℕ} {n : ℕ} (w : Document rules index 
             }
 
         laid_next :
-            (ss' : List Stretch) (rest : List ℕ) → LaidOut w m ledger r.block ss' rest
-            → LaidOut w m ledger 0 ((p.ss ++ (t ∷ [])) ++ ss') (take (note_size * r.stretches) plan' ++ rest)
+            (ss' : List Stretch) (rest : List Note) → LaidOut w m ledger r.block ss' rest
+            → LaidOut w m ledger 0 ((p.ss ++ (t ∷ [])) ++ ss') (take r.stretches plan' ++ rest)
         laid_next ss' rest l =
-            let there : LaidOut w m ledger s.block (t ∷ ss') (five ++ rest)
-            = laid_more (noted rest (laid-some l)) (subst (λ (j : ℕ). LaidOut w m ledger j ss' rest) q.block l) in
-            let numbers : take (note_size * s.stretches) plan ++ (five ++ rest) ≡ take (note_size * r.stretches) plan' ++ rest
-            = sym (append_assoc (take (note_size * s.stretches) plan) five rest) ∙ ap (λ x. x ++ rest) (sym front) in
-            subst (λ x. LaidOut w m ledger 0 x (take (note_size * r.stretches) plan' ++ rest)) (sym (assoc ss'))
-            (subst (LaidOut w m ledger 0 (p.ss ++ (t ∷ ss'))) numbers (p.laid (t ∷ ss') (five ++ rest) there))
+            let there : LaidOut w m ledger s.block (t ∷ ss') (note ∷ rest)
+            = laid_more noted (subst (λ (j : ℕ). LaidOut w m ledger j ss' rest) q.block l) in
+            let notes : take s.stretches plan ++ (note ∷ rest) ≡ take r.stretches plan' ++ rest
+            = sym (append_assoc (take s.stretches plan) (note ∷ []) rest) ∙ ap (λ x. x ++ rest) (sym front) in
+            subst (λ x. LaidOut w m ledger 0 x (take r.stretches plan' ++ rest)) (sym (assoc ss'))
+            (subst (LaidOut w m ledger 0 (p.ss ++ (t ∷ ss'))) notes (p.laid (t ∷ ss') (note ∷ rest) there))
 
         pub so-far-next : PlanSoFar named (i + 1) r plan'
         so-far-next =
@@ -211,10 +207,10 @@ module _ {rules index rows text : List ℕ} {n : ℕ} (w : Document rules index 
     none_left = refl
 
     pub so-far-end :
-        {plan' : List ℕ} → length named ≤ i → plan' ≡ set plan (note_size * s.stretches) n → PlanStands rows n s → length plan ≡ plan_size
-        → PlanComes w m ledger s plan' (each 0 named)
-    so-far-end {plan'} h e st long =
-        let end : ℕ = note_size * s.stretches in
+        (note : Note) {plan' : List Note} → length named ≤ i → note.block ≡ n → plan' ≡ set plan s.stretches note → PlanStands rows n s
+        → length plan ≡ plan_size → PlanComes w m ledger plan' (Ok s) (each 0 named)
+    so-far-end note {plan'} h f e st long =
+        let end : ℕ = s.stretches in
         let within : end < length plan = omega (arith, long, st.few, st.within, w.most) in
         let all : each 0 named ≡ remade (p.ss ++ [])
         = p.comes
@@ -222,43 +218,31 @@ module _ {rules index rows text : List ℕ} {n : ℕ} (w : Document rules index 
         ∙ ap (before_all p.ss) none_left
         ∙ before-remade p.ss [] in
         let laid : LaidOut w m ledger 0 (p.ss ++ []) plan'
-        = subst (LaidOut w m ledger 0 (p.ss ++ [])) (sym (e ∙ set_split plan end n within))
-        (p.laid [] (n ∷ drop (suc end) plan) (laid_end st.within (omega arith) refl)) in
-        subst (PlanComes w m ledger s plan') (sym all)
-        (plan_made st.well laid (sym (p.after [])) (omega (arith, p.counted [])) (omega (arith, st.low, st.few, st.within, w.most))
+        = subst (LaidOut w m ledger 0 (p.ss ++ [])) (sym (e ∙ set_split plan end note within))
+        (p.laid [] (note ∷ drop (suc end) plan) (laid_end st.within f)) in
+        subst (PlanComes w m ledger plan' (Ok s)) (sym all)
+        (plan_made laid (sym (p.after [])) (omega (arith, p.counted [])) (omega (arith, st.low, st.few, st.within, w.most))
         (p.capped ∙ ap (min cap) (sym (p.placed []))))
 
     -- a turn: unless it met a refusal, the plan goes on
     pub so-far-after :
-        (h : i < length named) {k : ℕ} (e : k ≡ get_or named i 0) {r : Planned} {plan' : List ℕ} → StretchComes w m ledger s k plan r plan'
-        → r.refusal ≡ 0 → PlanStands rows n s → length plan ≡ plan_size → PlanSoFar named (i + 1) r plan'
-    so-far-after h e {plan' = plan'} (passed_over g r q) z st long =
-        subst (λ x. PlanSoFar named (i + 1) x plan') (sym r) (subst (PlanSoFar named (i + 1) s) (sym q) (so-far-passed h e g))
-    so-far-after h e (refused_there g a o f f') z st long = absurd (omega arith)
-    so-far-after h e (noted_there g a q) z st long =
-        so-far-next h e g a q (omega (arith, long, st.few, q.some, q.within, w.most))
+        (h : i < length named) {k : ℕ} (e : k ≡ get_or named i 0) {r : Planned} {plan' : List Note}
+        → StretchComes w m ledger s k plan (Ok r) plan' → PlanStands rows n s → length plan ≡ plan_size → PlanSoFar named (i + 1) r plan'
+    so-far-after h e (passed_over g q) st long = subst (PlanSoFar named (i + 1) s) (sym q) (so-far-passed h e g)
+    so-far-after h e (noted_there g a q) st long = so-far-next h e g a q (omega (arith, long, st.few, q.some, q.within, w.most))
 
     pub so-far-halted :
-        (h : i < length named) {k : ℕ} (e : k ≡ get_or named i 0) {r : Planned} {plan' : List ℕ} → s.refusal ≡ 0
-        → StretchComes w m ledger s k plan r plan' → (r.refusal ≡ 0 → ⊥) → PlanComes w m ledger r plan' (each 0 named)
-    so-far-halted h e {r} y (passed_over g q q') z = absurd (z (ap (λ x. x.refusal) q ∙ y))
-    so-far-halted h e {r} {plan'} y (refused_there g a o f f') z =
-        subst (PlanComes w m ledger r plan') (sym (so-far-refused h e g a)) (plan_halted o f f')
-    so-far-halted h e y (noted_there g a q) z = absurd (z q.well)
+        (h : i < length named) {k : ℕ} (e : k ≡ get_or named i 0) {f : Refusal} {plan' : List Note}
+        → StretchComes w m ledger s k plan (Err f) plan' → PlanComes w m ledger plan' (Err f) (each 0 named)
+    so-far-halted h e {f} {plan'} (refused_there g a o u) =
+        subst (PlanComes w m ledger plan' (Err f)) (sym (so-far-refused h e g a)) (plan_halted o u)
 
 -- ---- the numbers of a plan while it is made
 
-pub plan-starts :
-    {rows : List ℕ} {n : ℕ} {s : Planned} → s.refusal ≡ 0 → s.stretches ≡ 0 → s.count ≡ 0 → s.block ≡ 0 → s.at ≡ 0 → s.from ≡ 0
-    → s.i ≡ 0 → s.j ≡ 0 → PlanStands rows n s
-plan-starts {rows} {s = s} e₀ e₁ e₂ e₃ e₄ e₅ e₆ e₇ =
+pub plan-starts : {rows : List ℕ} {n : ℕ} → PlanStands rows n (record { stretches = 0; count = 0; block = 0; at = 0; from = 0; i = 0; j = 0 })
+plan-starts =
     record {
-      well = e₀;
-      reaches =
-          λ blocks text sp many short.
-          subst (λ (k : ℕ). Reached blocks rows text k s.i s.j) (sym e₅)
-          (subst (λ (i : ℕ). Reached blocks rows text 0 i s.j) (sym e₆)
-          (subst (λ (j : ℕ). Reached blocks rows text 0 0 j) (sym e₇) (reached-start sp)));
+      reaches = λ blocks text sp many short. reached-start sp;
       started = omega arith;
       within = omega arith;
       few = omega arith;
@@ -268,13 +252,10 @@ plan-starts {rows} {s = s} e₀ e₁ e₂ e₃ e₄ e₅ e₆ e₇ =
 
 pub plan-goes-on :
     {rules index rows text : List ℕ} {n : ℕ} (w : Document rules index rows text n) (m : LaTeXMode) (ledger : List ℕ) {s r : Planned}
-    {k : ℕ} {plan plan' : List ℕ} → PlanStands rows n s → StretchComes w m ledger s k plan r plan' → r.refusal ≡ 0
-    → PlanStands rows n r
-plan-goes-on {rows = rows} {n = n} w m ledger st (passed_over g q q') z = subst (PlanStands rows n) (sym q) st
-plan-goes-on w m ledger st (refused_there g a o q q') z = absurd (omega arith)
-plan-goes-on {rows = rows} w m ledger {s} {r} {k} st (noted_there {qs} g a q) z =
+    {k : ℕ} {plan plan' : List Note} → PlanStands rows n s → StretchComes w m ledger s k plan (Ok r) plan' → PlanStands rows n r
+plan-goes-on w m ledger st (passed_over g q) = st
+plan-goes-on {rows = rows} w m ledger {s} {r} {k} st (noted_there {qs = qs} g a q) =
     record {
-      well = z;
       reaches = subst (λ (j : ℕ). Reaches rows j j r.i r.j) (sym q.from) q.reaches;
       started = omega (arith, q.from, q.block);
       within = omega (arith, q.block, q.within);

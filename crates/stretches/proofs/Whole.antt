@@ -19,22 +19,23 @@ use Rattle.edit_meaning.specs.Changes.{Stretch, block_after, come_count, gone_co
 use Rattle.manuscript.specs.Manuscript.{blocks_in}
 use Rattle.manuscript.proofs.Manuscript.{keeps-short}
 use Rattle.passes.specs.Passes.{Document}
-use Rattle.passes.proofs.Ends.{ends-rise, ends-kept}
+use Rattle.passes.proofs.Ends.{ends-kept}
 use Rattle.passes.proofs.Pieces.{gives-short}
-use Rattle.stretches.specs.Plans.{next_block, after_all, place_after, rest_text, rest_rows, note_size, Noted, LaidOut}
+use Rattle.stretches.specs.Plans.{next_block, after_all, place_after, rest_text, rest_rows, Noted, LaidOut}
 use Rattle.stretches.specs.Plans.LaidOut.{laid_end, laid_more}
+use Rattle.stretches.specs.declared.Note.{Note}
 use Rattle.stretches.proofs.Laying.{ends_last, carry-short, kept_text, kept_rows, place_next, rest_text-first, rest_rows-first, laid_from}
 
 -- ---- the blocks of a plan
 
 module _ {rules index rows text : List ℕ} {n : ℕ} {w : Document rules index rows text n} {m : LaTeXMode} {l : List ℕ} where
-  pub after-within : {from : ℕ} {ss : List Stretch} {plan : List ℕ} → LaidOut w m l from ss plan → after_all from ss ≤ n
-  after-within (laid_end h k e) = h
+  pub after-within : {from : ℕ} {ss : List Stretch} {plan : List Note} → LaidOut w m l from ss plan → after_all from ss ≤ n
+  after-within (laid_end h e) = h
   after-within (laid_more p q) = after-within q
 
   -- as many blocks come as go
-  pub laid-even : {from : ℕ} {ss : List Stretch} {plan : List ℕ} → LaidOut w m l from ss plan → gone_count ss ≡ come_count ss
-  laid-even (laid_end h k e) = refl
+  pub laid-even : {from : ℕ} {ss : List Stretch} {plan : List Note} → LaidOut w m l from ss plan → gone_count ss ≡ come_count ss
+  laid-even (laid_end h e) = refl
   laid-even (laid_more p q) = ap₂ (λ a b. a + b) p.gone (laid-even q)
 
 -- ---- both buffers
@@ -85,7 +86,8 @@ module _ {rules index rows text : List ℕ} {n : ℕ} (w : Document rules index 
 
   -- the rest of the text is that of a stretch, what is kept up to the next, and the rest from there on
   rest-long :
-      {from : ℕ} {s : Stretch} {ss : List Stretch} {plan : List ℕ} → Noted w m l from s plan → LaidOut w m l (block_after s) ss (drop note_size plan)
+      {from : ℕ} {s : Stretch} {ss : List Stretch} {note : Note} {plan : List Note} → Noted w m l from s note
+      → LaidOut w m l (block_after s) ss plan
       → length (rest_text kept rs (s ∷ ss) out)
       ≡ length (written s.come) + (first ss - end_before (block_after s) rs) + length (rest_text kept rs ss out)
   rest-long {s = s} {ss} p q =
@@ -101,18 +103,18 @@ module _ {rules index rows text : List ℕ} {n : ℕ} (w : Document rules index 
       )
 
   rest-place :
-      {from : ℕ} {ss : List Stretch} {plan : List ℕ} (at : ℕ) → LaidOut w m l from ss plan
+      {from : ℕ} {ss : List Stretch} {plan : List Note} (at : ℕ) → LaidOut w m l from ss plan
       → at + (first ss - end_before from rs) + length (rest_text kept rs ss out)
       ≡ place_after rs at from ss + (kept - end_before (after_all from ss) rs)
-  rest-place at (laid_end h k e) = omega (arith, ends_last n kept l fit)
+  rest-place at (laid_end h e) = omega (arith, ends_last n kept l fit)
   rest-place {from} at (laid_more {s = s} {ss} p q) =
       omega (arith, rest-long p q, rest-place (at + (end_before s.block rs - end_before from rs) + length (written s.come)) q)
 
-  first-within : {from : ℕ} {ss : List Stretch} {plan : List ℕ} → LaidOut w m l from ss plan → first ss ≤ kept
+  first-within : {from : ℕ} {ss : List Stretch} {plan : List Note} → LaidOut w m l from ss plan → first ss ≤ kept
   first-within {ss = ss} q = ends-kept n kept l fit (next_block n ss) (laid_from q).within
 
   pub over_first :
-      {from : ℕ} {ss : List Stretch} {plan : List ℕ} → LaidOut w m l from ss plan
+      {from : ℕ} {ss : List Stretch} {plan : List Note} → LaidOut w m l from ss plan
       → length (text_over kept rs ss out) ≡ first ss + length (rest_text kept rs ss out)
   over_first {ss = ss} q =
       omega (
@@ -123,15 +125,15 @@ module _ {rules index rows text : List ℕ} {n : ℕ} (w : Document rules index 
       )
 
   pub over-long :
-      {ss : List Stretch} {plan : List ℕ} → LaidOut w m l 0 ss plan
+      {ss : List Stretch} {plan : List Note} → LaidOut w m l 0 ss plan
       → length (text_over kept rs ss out) ≡ place_after rs 0 0 ss + (kept - end_before (after_all 0 ss) rs)
   over-long q = omega (arith, over_first q, rest-place 0 q)
 
   -- the rest of the rows goes up to the last
   rows_long :
-      {from : ℕ} {ss : List Stretch} {plan : List ℕ} (at : ℕ) → LaidOut w m l from ss plan → at + length (rest_text kept rs ss out) < cap
+      {from : ℕ} {ss : List Stretch} {plan : List Note} (at : ℕ) → LaidOut w m l from ss plan → at + length (rest_text kept rs ss out) < cap
       → row_size * next_block n ss + length (rest_rows n rs at ss l) ≡ row_size * n
-  rows_long at (laid_end h k e) z = omega arith
+  rows_long at (laid_end h e) z = omega arith
   rows_long at (laid_more {s = s} {ss} p q) z =
       let f = laid_from q in
       let here = rest-long p q in
@@ -156,7 +158,7 @@ module _ {rules index rows text : List ℕ} {n : ℕ} (w : Document rules index 
 
   -- ---- both buffers
 
-  module _ {ss : List Stretch} {plan : List ℕ} (q : LaidOut w m l 0 ss plan) where
+  module _ {ss : List Stretch} {plan : List Note} (q : LaidOut w m l 0 ss plan) where
     abbrev new : List ℕ
     new = text_over kept rs ss out
 

@@ -1,17 +1,15 @@
--- The first stretch of a plan, written: the row before it is that of the kept ledger, so it begins with the kept carry, and the pieces
+-- A stretch, written: the row before it is that of the kept ledger, so it begins with the kept carry, and the pieces
 -- that were measured are given (`pieced`).
 use mathlib.Core.Path.{◌≡◌, refl, sym, ap, subst, subst₃, ◌∙◌}
 use mathlib.Core.List.{List, ◌++◌}
 use Prim.Native.Nat.{ℕ, zero, suc, ◌*◌, ◌-◌, ◌≤◌, ◌<◌}
 use native.Mathlib.Omega.{arith}
-use lib.ListN.{take, drop, get_or}
+use lib.ListN.{take, drop}
 use lib.Seq.{sets}
 use Rattle.mitex_meaning.specs.Outcome.{Carry}
 use Rattle.mitex_meaning.specs.State.{new_of, carry_of, Carried}
-use Rattle.mitex_meaning.specs.Contract.{went_with}
 use Rattle.mitex_meaning.specs.declared.LaTeXMode.{LaTeXMode}
 use Rattle.mitex_meaning.specs.declared.Converter.{Converter}
-use Rattle.mitex_meaning.specs.declared.Walked.{Walked}
 use Rattle.mitex_syntax.specs.Tree.{Tree}
 use Rattle.ledger.specs.Ledger.{row_size, RowFits, decode_rows, encode_rows, written, rows_from}
 use Rattle.ledger.proofs.Fitting.{fits-long, fits-row}
@@ -21,6 +19,7 @@ use Rattle.edit_meaning.specs.Edit.{carry_before}
 use Rattle.edit_meaning.proofs.Bytes.{carry_before-at}
 use Rattle.manuscript.specs.Manuscript.{listed, blocks_in}
 use Rattle.passes.specs.Passes.{FirstPieces, Pieced, CarriesBefore, Stood, Writes}
+use Rattle.stretches.specs.declared.Note.{Note}
 use Rattle.passes.specs.declared.Standing.{Standing}
 use Rattle.passes.proofs.Starting.{blocks-begin, begins-carry}
 use Rattle.stretches.specs.Plans.{Writable, WroteStretch}
@@ -34,8 +33,8 @@ carry_same n (suc i) {l} {kept} h e f =
     ∙ row-same-carry (suc i) e i (omega arith) (f i (omega arith))
     ∙ sym (carry_before-at n i kept (omega arith))
 
-module _ {rules index rows text : List ℕ} {m : LaTeXMode} {n : ℕ} {plan : List ℕ} {at to : ℕ} {out ledger : List ℕ}
-    (w : Writable rules index rows text m n plan at to out ledger) where
+module _ {rules index rows text : List ℕ} {m : LaTeXMode} {n : ℕ} {note : Note} {at to : ℕ} {out ledger : List ℕ}
+    (w : Writable rules index rows text m n note at to out ledger) where
   abbrev block : ℕ
   block = w.s.block
 
@@ -48,14 +47,14 @@ module _ {rules index rows text : List ℕ} {m : LaTeXMode} {n : ℕ} {plan : Li
   kept_row : (i : ℕ) → i < n → RowFits i w.kept
   kept_row i h = fits-row n w.fitting.kept w.kept w.fitting.fitting i h
 
-  pub row_before : 0 < get_or plan 0 0 → RowFits (get_or plan 0 0 - 1) ledger
+  pub row_before : 0 < note.block → RowFits (note.block - 1) ledger
   row_before z =
       let b = block_within in
-      row-same-fits block rows-front (get_or plan 0 0 - 1) (omega (arith, w.noted.block)) w.long
-      (kept_row (get_or plan 0 0 - 1) (omega (arith, w.noted.block)))
+      row-same-fits block rows-front (note.block - 1) (omega (arith, w.noted.block)) w.long
+      (kept_row (note.block - 1) (omega (arith, w.noted.block)))
 
   -- the converter as it was read, and the walk that begins with it
-  module _ {c : Converter} (carries : CarriesBefore ledger (get_or plan 0 0) m c) {walked : Walked} (is : walked ≡ went_with c at) where
+  module _ {c : Converter} (carries : CarriesBefore ledger note.block m c) where
     pub carried : Carried (new_of m) (carry_before block (decode_rows n w.kept)) c
     carried =
         subst (λ (d : Carry). Carried (new_of m) d c)
@@ -63,7 +62,7 @@ module _ {rules index rows text : List ℕ} {m : LaTeXMode} {n : ℕ} {plan : Li
         (carries n (omega (arith, w.noted.block, block_within)))
 
     abbrev from : Standing
-    from = record { block = get_or plan 0 0; i = get_or plan 3 0; j = get_or plan 4 0; walked = walked }
+    from = record { block = note.block; i = note.i; j = note.j; at = at; converter = c }
 
     abbrev stood : Stood w.document.blocks rows text block at c from
     stood =
@@ -77,41 +76,39 @@ module _ {rules index rows text : List ℕ} {m : LaTeXMode} {n : ℕ} {plan : Li
           low = r.low;
           begun = r.begun;
           block = w.noted.block;
-          went = record { gives = ap (λ x. x.converter) is; next = ap (λ x. x.at) is; well = ap (λ x. x.refusal) is };
+          gives = refl;
+          next = refl;
         }
 
     -- the stretch's pieces, in a mode, from a carry on, of blocks
     abbrev PiecesOf : LaTeXMode → Carry → List Tree → Type 0
     PiecesOf d e bs = FirstPieces (blocks_in d w.document.rs) e bs w.s.come
 
-    pub gives : PiecesOf walked.converter.mode (carry_of walked.converter) (listed w.noted.reached.left)
+    pub gives : PiecesOf c.mode (carry_of c) (listed w.noted.reached.left)
     gives =
-        let mode : walked.converter.mode ≡ m = ap (λ x. x.converter.mode) is ∙ carried.mode in
-        subst₃ PiecesOf (sym mode) (sym (begins-carry w.document stood carried)) (sym w.noted.reached.are) w.noted.are
+        subst₃ PiecesOf (sym carried.mode) (sym (begins-carry w.document stood carried)) (sym w.noted.reached.are) w.noted.are
 
-    abbrev pub pieced : Pieced rules index rows text from (get_or plan 1 0) ledger
+    abbrev pub pieced : Pieced rules index rows text from note.after ledger
     pieced =
         record {
           given = (blocks-begin w.document stood carried (omega (arith, w.ends, w.small)) block_within).given;
           ps = w.s.come;
           gives = gives;
           many = omega (arith, w.noted.block, w.noted.after, w.noted.gone);
-          end = omega (arith, ap (λ x. x.at) is, w.ends, w.small);
+          end = omega (arith, w.ends, w.small);
           room = omega (arith, w.noted.after, w.noted.within, w.long, fits-long n w.fitting.kept w.kept w.fitting.fitting);
           few = omega (arith, w.noted.after, w.noted.within, w.document.most);
         }
 
     pub wrote :
-        {part ledger' : List ℕ} → Writes rules index rows text from (get_or plan 1 0) (take to out) ledger part ledger'
+        {part ledger' : List ℕ} → Writes rules index rows text from note.after (take to out) ledger part ledger'
         → WroteStretch w.s at out ledger (part ++ drop to out) ledger'
     wrote writes =
         let v = writes pieced in
         let come = written w.s.come in
-        let place = ap (λ x. x.at) is in
         record {
           text =
               ap (λ x. x ++ drop to out) v.text
-              ∙ front-stored out come walked.at to (omega (arith, w.ends)) w.inside
-              ∙ ap (λ k. sets out k come) place;
-          rows = v.rows ∙ (λ i. sets ledger (row_size * w.noted.block i) (encode_rows (rows_from (place i) w.s.come)));
+              ∙ front-stored out come at to (omega (arith, w.ends)) w.inside;
+          rows = v.rows ∙ (λ i. sets ledger (row_size * w.noted.block i) (encode_rows (rows_from at w.s.come)));
         }

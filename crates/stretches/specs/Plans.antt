@@ -1,7 +1,9 @@
--- A plan of several stretches, and what the functions that make it and carry it out are given and promise. Each number of a plan is read
--- by its place: `note_size` numbers for a stretch, and after the last stretch the count of blocks.
-use Rattle.std.specs.Prelude.{◌≡◌, true, List, [], ◌∷◌, ℕ, ◌+◌, ◌*◌, ◌-◌, ◌≤◌, ◌<◌, min, length, take, drop, get_or}
+-- A plan of several stretches, and what the functions that make it and carry it out are given and promise: a note for each stretch, and
+-- after the last stretch one whose block is the count of blocks.
+use Rattle.std.specs.Prelude.{◌≡◌, true, List, [], ◌∷◌, ℕ, ◌+◌, ◌*◌, ◌-◌, ◌≤◌, ◌<◌, min, length, take, drop, set, Result, Ok, Err}
 use Rattle.std.proofs.lemmas.List.Edits.{sets}
+use Rattle.refusals.specs.Refusals.{refusal_number}
+use Rattle.refusals.specs.declared.Refusal.{Refusal}
 use Rattle.text.specs.Writing.{cap}
 use Rattle.tree_file.specs.Layout.{blocks_most}
 use Rattle.mitex_meaning.specs.declared.LaTeXMode.{LaTeXMode}
@@ -12,6 +14,7 @@ use Rattle.edit_meaning.specs.Changes.{Stretch, block_after, come_count, Remade,
 use Rattle.edit_meaning.specs.Changes.Remade.{halted, remade}
 use Rattle.manuscript.specs.Manuscript.{listed, blocks_in}
 use Rattle.passes.specs.Passes.{Document, FirstPieces, Reached, Reaches}
+use Rattle.stretches.specs.declared.Note.{Note}
 use Rattle.stretches.specs.declared.Planned.{Planned}
 
 -- ---- stretches one after the other
@@ -42,13 +45,10 @@ abbrev pub rest_rows : ℕ → List Row → ℕ → List Stretch → List ℕ �
 rest_rows n rows at [] ledger = []
 rest_rows n rows at (s ∷ ss) ledger = ledger_from n rows at s ss ledger
 
--- ---- the numbers of a plan
-
-abbrev pub note_size : ℕ
-note_size = 5
+-- ---- a plan
 
 abbrev pub plan_size : ℕ
-plan_size = note_size * blocks_most + 1
+plan_size = blocks_most + 1
 
 -- a ledger that fits n blocks and some text
 pub record LedgerFits (n : ℕ) (ledger : List ℕ) : Type 0 where
@@ -56,46 +56,44 @@ pub record LedgerFits (n : ℕ) (ledger : List ℕ) : Type 0 where
   pub fitting : fits n kept ledger ≡ true
 
 module _ {rules index rows text : List ℕ} {n : ℕ} (w : Document rules index rows text n) (m : LaTeXMode) (ledger : List ℕ) where
-  -- A stretch that begins at block `from` or later: the pieces of as many blocks as it takes the place of, converted from the kept carry on.
-  -- Its five numbers stand first in the plan: its first block, the first block after it, the bytes of its text, and where its first
-  -- block's rows and text begin.
-  pub record Noted (from : ℕ) (s : Stretch) (plan : List ℕ) : Type 0 where
+  -- A stretch that begins at block `from` or later, and its note: the pieces of as many blocks as it takes the place of, converted from the
+  -- kept carry on. The note says its first block, the first block after it, the bytes of its text, and where its first block's rows and
+  -- text begin.
+  pub record Noted (from : ℕ) (s : Stretch) (note : Note) : Type 0 where
     pub later : from ≤ s.block
     pub gone : s.gone ≡ length s.come
     pub some : 0 < length s.come
     pub within : block_after s ≤ n
     pub are :
         FirstPieces (blocks_in m w.rs) (carry_before s.block (decode_rows n ledger)) (drop s.block (listed w.blocks)) s.come
-    pub long : note_size < length plan
-    pub block : get_or plan 0 0 ≡ s.block
-    pub after : get_or plan 1 0 ≡ block_after s
-    pub size : get_or plan 2 0 ≡ min cap (length (written s.come))
-    pub reached : Reached w.blocks rows text s.block (get_or plan 3 0) (get_or plan 4 0)
+    pub block : note.block ≡ s.block
+    pub after : note.after ≡ block_after s
+    pub size : note.size ≡ min cap (length (written s.come))
+    pub reached : Reached w.blocks rows text s.block note.i note.j
 
   -- the plan of stretches that begin at block `from` or later
-  pub data LaidOut : ℕ → List Stretch → List ℕ → Type 0 where
-    laid_end : {from : ℕ} {plan : List ℕ} → from ≤ n → 0 < length plan → get_or plan 0 0 ≡ n → LaidOut from [] plan
+  pub data LaidOut : ℕ → List Stretch → List Note → Type 0 where
+    laid_end : {from : ℕ} {note : Note} {plan : List Note} → from ≤ n → note.block ≡ n → LaidOut from [] (note ∷ plan)
     laid_more :
-        {from : ℕ} {s : Stretch} {ss : List Stretch} {plan : List ℕ} → Noted from s plan → LaidOut (block_after s) ss (drop note_size plan)
-        → LaidOut from (s ∷ ss) plan
+        {from : ℕ} {s : Stretch} {ss : List Stretch} {note : Note} {plan : List Note} → Noted from s note → LaidOut (block_after s) ss plan
+        → LaidOut from (s ∷ ss) (note ∷ plan)
 
   -- ---- what the measuring comes to
 
   -- A refusal; or the plan of the stretches, how many blocks they have, the first block after them, and where its text begins: the last
   -- as far as a row can say it.
-  pub data PlanComes (r : Planned) (plan : List ℕ) : Remade → Type 0 where
-    plan_halted : {number row : ℕ} → 0 < number → r.refusal ≡ number → r.row ≡ row → PlanComes r plan (halted number row)
+  pub data PlanComes (plan : List Note) : Result Planned Refusal → Remade → Type 0 where
+    plan_halted : {e : Refusal} {number row : ℕ} → refusal_number e.reason ≡ number → e.row ≡ row → PlanComes plan (Err e) (halted number row)
     plan_made :
-        {ss : List Stretch} → r.refusal ≡ 0 → LaidOut 0 ss plan → r.block ≡ after_all 0 ss → r.count ≡ come_count ss
+        {r : Planned} {ss : List Stretch} → LaidOut 0 ss plan → r.block ≡ after_all 0 ss → r.count ≡ come_count ss
         → r.at ≤ 2 * cap * blocks_most → min cap r.at ≡ min cap (place_after (decode_rows n ledger) 0 0 ss)
-        → PlanComes r plan (remade ss)
+        → PlanComes plan (Ok r) (remade ss)
 
   -- the stretch from block k on, put after those of a plan s
-  pub record NextNoted (s : Planned) (k : ℕ) (qs : List Piece) (r : Planned) (plan plan' : List ℕ) : Type 0 where
+  pub record NextNoted (s : Planned) (k : ℕ) (qs : List Piece) (r : Planned) (plan plan' : List Note) : Type 0 where
     pub some : 0 < length qs
     pub within : k + length qs ≤ n
     pub are : FirstPieces (blocks_in m w.rs) (carry_before k (decode_rows n ledger)) (drop k (listed w.blocks)) qs
-    pub well : r.refusal ≡ 0
     pub stretches : r.stretches ≡ s.stretches + 1
     pub count : r.count ≡ s.count + length qs
     pub block : r.block ≡ k + length qs
@@ -106,23 +104,22 @@ module _ {rules index rows text : List ℕ} {n : ℕ} (w : Document rules index 
     pub from : r.from ≡ k
     pub reaches : Reaches rows k k r.i r.j
     pub noted :
-        plan' ≡ sets plan (note_size * s.stretches) (k ∷ r.block ∷ min cap (length (written qs)) ∷ r.i ∷ r.j ∷ [])
+        plan' ≡ set plan s.stretches (record { block = k; after = r.block; size = min cap (length (written qs)); i = r.i; j = r.j })
 
   -- a named block: it was converted already; or its conversion is refused, there or later; or there is one stretch more
-  pub data StretchComes (s : Planned) (k : ℕ) (plan : List ℕ) (r : Planned) (plan' : List ℕ) : Type 0 where
-    passed_over : k < s.block → r ≡ s → plan' ≡ plan → StretchComes s k plan r plan'
+  pub data StretchComes (s : Planned) (k : ℕ) (plan : List Note) : Result Planned Refusal → List Note → Type 0 where
+    passed_over : {plan' : List Note} → k < s.block → plan' ≡ plan → StretchComes s k plan (Ok s) plan'
     refused_there :
-        {number row : ℕ} → s.block ≤ k
-        → again (blocks_in m w.rs) (listed w.blocks) k (decode_rows n ledger) ≡ stopped number row → 0 < number → r.refusal ≡ number
-        → r.row ≡ row → StretchComes s k plan r plan'
+        {e : Refusal} {plan' : List Note} {number row : ℕ} → s.block ≤ k
+        → again (blocks_in m w.rs) (listed w.blocks) k (decode_rows n ledger) ≡ stopped number row → refusal_number e.reason ≡ number
+        → e.row ≡ row → StretchComes s k plan (Err e) plan'
     noted_there :
-        {qs : List Piece} → s.block ≤ k
+        {r : Planned} {plan' : List Note} {qs : List Piece} → s.block ≤ k
         → again (blocks_in m w.rs) (listed w.blocks) k (decode_rows n ledger) ≡ pieces qs → NextNoted s k qs r plan plan'
-        → StretchComes s k plan r plan'
+        → StretchComes s k plan (Ok r) plan'
 
 -- what is known of a plan while it is made
 pub record PlanStands (rows : List ℕ) (n : ℕ) (s : Planned) : Type 0 where
-  pub well : s.refusal ≡ 0
   pub reaches : Reaches rows s.from s.from s.i s.j
   pub started : s.from ≤ s.block
   pub within : s.block ≤ n
@@ -131,27 +128,28 @@ pub record PlanStands (rows : List ℕ) (n : ℕ) (s : Planned) : Type 0 where
   pub low : s.at ≤ 2 * cap * s.stretches
 
 abbrev pub PlansStretch :
-    (rules index rows text ledger : List ℕ) (m : LaTeXMode) (n : ℕ) (s : Planned) (k : ℕ) (plan : List ℕ) (r : Planned) (plan' : List ℕ)
-    → Type 0
+    (rules index rows text ledger : List ℕ) (m : LaTeXMode) (n : ℕ) (s : Planned) (k : ℕ) (plan : List Note)
+    (r : Result Planned Refusal) (plan' : List Note) → Type 0
 PlansStretch rules index rows text ledger m n s k plan r plan' =
     (w : Document rules index rows text n) → StretchComes w m ledger s k plan r plan'
 
 abbrev pub PlansStretches :
-    (rules index rows text ledger : List ℕ) (m : LaTeXMode) (n : ℕ) (named : List ℕ) (r : Planned) (plan : List ℕ) → Type 0
+    (rules index rows text ledger : List ℕ) (m : LaTeXMode) (n : ℕ) (named : List ℕ) (r : Result Planned Refusal)
+    (plan : List Note) → Type 0
 PlansStretches rules index rows text ledger m n named r plan =
     (w : Document rules index rows text n)
-    → PlanComes w m ledger r plan (each_from (blocks_in m w.rs) (listed w.blocks) (decode_rows n ledger) 0 named)
+    → PlanComes w m ledger plan r (each_from (blocks_in m w.rs) (listed w.blocks) (decode_rows n ledger) 0 named)
 
 -- ---- the exchange
 
--- The first stretch of a plan may be written, its text from `at` up to `now`: the rows before it are those of the kept ledger.
-pub record Writable (rules index rows text : List ℕ) (m : LaTeXMode) (n : ℕ) (plan : List ℕ) (at now : ℕ) (out ledger : List ℕ) : Type 0 where
+-- A stretch may be written by its note, its text from `at` up to `now`: the rows before it are those of the kept ledger.
+pub record Writable (rules index rows text : List ℕ) (m : LaTeXMode) (n : ℕ) (note : Note) (at now : ℕ) (out ledger : List ℕ) : Type 0 where
   pub document : Document rules index rows text n
   pub kept : List ℕ
   pub fitting : LedgerFits n kept
   pub from : ℕ
   pub s : Stretch
-  pub noted : Noted document m kept from s plan
+  pub noted : Noted document m kept from s note
   pub same : take (row_size * s.block) ledger ≡ take (row_size * s.block) kept
   pub long : length ledger ≡ length kept
   pub ends : now ≡ at + length (written s.come)
@@ -164,13 +162,13 @@ pub record WroteStretch (s : Stretch) (at : ℕ) (out ledger out' ledger' : List
   pub rows : ledger' ≡ sets ledger (row_size * s.block) (encode_rows (rows_from at s.come))
 
 abbrev pub WritesStretch :
-    (rules index rows text : List ℕ) (m : LaTeXMode) (n : ℕ) (plan : List ℕ) (at now : ℕ) (out ledger out' ledger' : List ℕ) → Type 0
-WritesStretch rules index rows text m n plan at now out ledger out' ledger' =
-    (w : Writable rules index rows text m n plan at now out ledger) → WroteStretch w.s at out ledger out' ledger'
+    (rules index rows text : List ℕ) (m : LaTeXMode) (n : ℕ) (note : Note) (at now : ℕ) (out ledger out' ledger' : List ℕ) → Type 0
+WritesStretch rules index rows text m n note at now out ledger out' ledger' =
+    (w : Writable rules index rows text m n note at now out ledger) → WroteStretch w.s at out ledger out' ledger'
 
 -- The stretches of a plan may take the place of the kept blocks, the first of them from `at` on: the buffers are as they were kept from
 -- there on, and the text has room for all.
-pub record Exchangeable (rules index rows text : List ℕ) (m : LaTeXMode) (n : ℕ) (plan : List ℕ) (at : ℕ) (out ledger : List ℕ) : Type 0 where
+pub record Exchangeable (rules index rows text : List ℕ) (m : LaTeXMode) (n : ℕ) (plan : List Note) (at : ℕ) (out ledger : List ℕ) : Type 0 where
   pub document : Document rules index rows text n
   pub kept : ℕ
   pub fitting : fits n kept ledger ≡ true
@@ -187,6 +185,6 @@ pub record Exchanged (n kept at : ℕ) (ss : List Stretch) (out ledger out' ledg
   pub rows : ledger' ≡ sets ledger (row_size * next_block n ss) (rest_rows n (decode_rows n ledger) at ss ledger)
 
 abbrev pub Exchanges :
-    (rules index rows text : List ℕ) (m : LaTeXMode) (n : ℕ) (plan : List ℕ) (at : ℕ) (out ledger out' ledger' : List ℕ) → Type 0
+    (rules index rows text : List ℕ) (m : LaTeXMode) (n : ℕ) (plan : List Note) (at : ℕ) (out ledger out' ledger' : List ℕ) → Type 0
 Exchanges rules index rows text m n plan at out ledger out' ledger' =
     (w : Exchangeable rules index rows text m n plan at out ledger) → Exchanged n w.kept at w.ss out ledger out' ledger'

@@ -1,17 +1,21 @@
 -- The tests on bytes decide what they say: `same` equality, `precedes` a strict order.
--- The loops go along both texts together, so each test has a law that takes it from a place to the next.
+-- Each is also what std's own comparison of slices says (`same-is` and those like it).
 use mathlib.Core.Path.{◌≡◌, refl, sym, ap, ◌∙◌}
 use mathlib.Core.Bool.{Bool, true, false, ◌&&◌, ◌||◌, cond, beq, false≢true, and-eq-true_iff, or-false}
 use mathlib.Core.Logic.{◌⊎◌, inl, inr, ⊎_elim}
 use mathlib.Core.List.{List, [], ◌∷◌}
-use Prim.Native.Nat.{ℕ, ◌+◌, ◌-◌, ◌≤◌, ◌<◌, min}
+use Prim.Native.Nat.{ℕ, ◌+◌, ◌-◌, ◌≤◌, ◌<◌}
 use native.Mathlib.Decide.{dec_le}
-use native.Mathlib.Numerals.{add-one}
 use native.Mathlib.Omega.{arith}
 use lib.Dec.{eqb, ltb}
-use borrow.Author.Tests.{ltb-true, eqb-true, lt-ltb, le-ltb, le-leb, lt-leb, eq-eqb, ne_eqb}
-use lib.ListN.{length, take, drop, get_or, drop_of_length-le}
-use lib.Seq.{drop-cons}
+use borrow.Author.Tests.{ltb-true, ltb-false, eqb-true, lt-ltb, le-ltb, le-leb, lt-leb, eq-eqb}
+use lib.ListN.{length, take, drop, length-take, length-drop}
+use lib.Pointwise.{pointwise}
+use Rattle.std.proofs.Common.{Some, Less, Equal, Greater, Option, Ordering}
+use Rattle.std.specs.Ordering.{is_lt, nat_cmp, is_some_and, partial_lt, partial_ordering_then}
+use Rattle.std.specs.Cmp.Lexicographic.{slice_partial_cmp}
+use Rattle.std.specs.List.{position, position_or_len}
+use Rattle.std.specs.Option.{unwrap_or}
 use Rattle.text.specs.Compare.{same, precedes, starts_with, ends_with, index_of}
 
 -- a test is true or false
@@ -43,37 +47,19 @@ same_true (x ∷ a) (y ∷ b) e =
 pub same-differ : (a b : List ℕ) → (a ≡ b → ⊥) → same a b ≡ false
 same-differ a b h = by-test (same a b) (λ e. absurd (h (same_true a b e))) (λ e. e)
 
-pub same-lengths : (a b : List ℕ) → (length a ≡ length b → ⊥) → false ≡ same a b
-same-lengths a b h = sym (same-differ a b (λ q. h (ap length q)))
-
--- at a place of both
-same_at :
-    (a b : List ℕ) (i : ℕ) → i < length a → i < length b
-    → same (drop i a) (drop i b) ≡ eqb (get_or a i 0) (get_or b i 0) && same (drop (i + 1) a) (drop (i + 1) b)
+-- as std compares two slices
+pub same-is : (a b : List ℕ) → pointwise eqb a b ≡ same a b
 unfolding same
-same_at a b i ha hb = rw (add-one, drop-cons a i 0 ha, drop-cons b i 0 hb)
+same-is [] [] = refl
+same-is [] (y ∷ b) = refl
+same-is (x ∷ a) [] = refl
+same-is (x ∷ a) (y ∷ b) = ap (λ t. eqb x y && t) (same-is a b)
 
-pub same_next :
-    (a b : List ℕ) (i : ℕ) → i < length a → length a ≡ length b → get_or a i 0 ≡ get_or b i 0 → same a b ≡ same (drop i a) (drop i b)
-    → same a b ≡ same (drop (i + 1) a) (drop (i + 1) b)
-same_next a b i h l q p =
-    p
-    ∙ same_at a b i h (omega arith)
-    ∙ ap (λ t. t && same (drop (i + 1) a) (drop (i + 1) b)) (eq-eqb (get_or a i 0) (get_or b i 0) q)
-
-pub same_stop :
-    (a b : List ℕ) (i : ℕ) → i < length a → length a ≡ length b → (get_or a i 0 ≡ get_or b i 0 → ⊥) → same a b ≡ same (drop i a) (drop i b)
-    → false ≡ same a b
-same_stop a b i h l q p =
-    sym
-    (p
-    ∙ same_at a b i h (omega arith)
-    ∙ ap (λ t. t && same (drop (i + 1) a) (drop (i + 1) b)) (ne_eqb (get_or a i 0) (get_or b i 0) q))
-
-pub same_end : (a b : List ℕ) (i : ℕ) → length a ≤ i → length a ≡ length b → same a b ≡ same (drop i a) (drop i b) → true ≡ same a b
-unfolding same
-same_end a b i h l p =
-    sym (p ∙ ap (λ x. same x (drop i b)) (drop_of_length-le a h) ∙ ap (same []) (drop_of_length-le b {i = i} (omega arith)))
+pub same-sym : (a b : List ℕ) → same a b ≡ same b a
+same-sym a b =
+    by-test (same a b)
+    (λ e. ap (λ x. same x b) (same_true a b e) ∙ ap (same b) (sym (same_true a b e)))
+    (λ e. e ∙ sym (same-differ b a (λ q. false≢true (sym e ∙ ap (same a) q ∙ same_refl a))))
 
 -- ---- precedes
 
@@ -91,9 +77,6 @@ step_less x y t h = ap (λ s. s || (eqb x y && t)) (lt-ltb x y h)
 step-equal : (x y : ℕ) (t : Bool) → x ≡ y → (ltb x y || (eqb x y && t)) ≡ t
 step-equal x y t q =
     ap (λ s. s || (eqb x y && t)) (le-ltb x y (omega arith)) ∙ ap (λ s. s && t) (eq-eqb x y q)
-
-step-differ : (x y : ℕ) (t : Bool) → (x ≡ y → ⊥) → (ltb x y || (eqb x y && t)) ≡ ltb x y
-step-differ x y t q = ap (λ s. ltb x y || (s && t)) (ne_eqb x y q) ∙ or-false (ltb x y)
 
 pub precedes-self : (a : List ℕ) → precedes a a ≡ false
 unfolding precedes
@@ -123,45 +106,21 @@ precedes-trans (x ∷ a) (y ∷ b) (z ∷ c) p q =
 pub precedes-not-same : (a b : List ℕ) → precedes a b ≡ true → a ≡ b → ⊥
 precedes-not-same a b p e = false≢true (sym (precedes-self a) ∙ ap (precedes a) e ∙ p)
 
--- at a place of both
-precedes-at :
-    (a b : List ℕ) (i : ℕ) → i < length a → i < length b
-    → precedes (drop i a) (drop i b) ≡ (ltb (get_or a i 0) (get_or b i 0) || (eqb (get_or a i 0) (get_or b i 0) && precedes (drop (i + 1) a) (drop (i + 1) b)))
+-- as std compares two slices
+step-is :
+    (l e : Bool) (o : Option Ordering) (t : Bool) → is_some_and is_lt o ≡ t
+    → is_some_and is_lt (partial_ordering_then (Some (cond l Less (cond e Equal Greater))) o) ≡ (l || (e && t))
+step-is true e o t p = refl
+step-is false true o t p = p
+step-is false false o t p = refl
+
+pub precedes-is : (a b : List ℕ) → partial_lt (slice_partial_cmp (λ x y. Some (nat_cmp x y))) a b ≡ precedes a b
 unfolding precedes
-precedes-at a b i ha hb = rw (add-one, drop-cons a i 0 ha, drop-cons b i 0 hb)
-
-pub precedes-next :
-    (a b : List ℕ) (i n : ℕ) → n ≡ min (length a) (length b) → i < n → get_or a i 0 ≡ get_or b i 0
-    → precedes a b ≡ precedes (drop i a) (drop i b) → precedes a b ≡ precedes (drop (i + 1) a) (drop (i + 1) b)
-precedes-next a b i n l h q p = p ∙ precedes-at a b i (omega arith) (omega arith) ∙ step-equal (get_or a i 0) (get_or b i 0) _ q
-
-pub precedes-stop :
-    (a b : List ℕ) (i n : ℕ) → n ≡ min (length a) (length b) → i < n → (get_or a i 0 ≡ get_or b i 0 → ⊥)
-    → precedes a b ≡ precedes (drop i a) (drop i b) → ltb (get_or a i 0) (get_or b i 0) ≡ precedes a b
-precedes-stop a b i n l h q p =
-    sym (p ∙ precedes-at a b i (omega arith) (omega arith) ∙ step-differ (get_or a i 0) (get_or b i 0) _ q)
-
-precedes-nil : (a : List ℕ) → precedes a [] ≡ false
-unfolding precedes
-precedes-nil [] = refl
-precedes-nil (x ∷ a) = refl
-
-pub precedes-end :
-    (a b : List ℕ) (i n : ℕ) → n ≡ min (length a) (length b) → i ≤ n → n ≤ i → precedes a b ≡ precedes (drop i a) (drop i b)
-    → ltb (length a) (length b) ≡ precedes a b
-unfolding precedes
-precedes-end a b i n l lo hi p =
-    elim (dec_le (length b) (length a)) [
-      | yes le ↦
-          le-ltb (length a) (length b) le
-          ∙ sym (p ∙ ap (precedes (drop i a)) (drop_of_length-le b {i = i} (omega arith)) ∙ precedes-nil (drop i a))
-      | no gt ↦
-          lt-ltb (length a) (length b) (omega arith)
-          ∙ sym
-          (p
-          ∙ ap (λ x. precedes x (drop i b)) (drop_of_length-le a {i = i} (omega arith))
-          ∙ ap (precedes []) (drop-cons b i 0 (omega arith)))
-    ]
+precedes-is [] [] = refl
+precedes-is [] (y ∷ b) = refl
+precedes-is (x ∷ a) [] = refl
+precedes-is (x ∷ a) (y ∷ b) =
+    step-is (ltb x y) (eqb x y) (slice_partial_cmp (λ x y. Some (nat_cmp x y)) a b) (precedes a b) (precedes-is a b)
 
 -- ---- what a text begins and ends with
 
@@ -186,22 +145,54 @@ pub ends-short : (s p : List ℕ) → length s < length p → ends_with s p ≡ 
 unfolding ends_with
 ends-short s p h = ap (λ t. t && same (drop (length s - length p) s) p) (lt-leb (length p) (length s) h)
 
+-- as std answers
+pub starts-is : (s p : List ℕ) → pointwise eqb p (take (length p) s) ≡ starts_with s p
+starts-is s p =
+    same-is p (take (length p) s)
+    ∙ same-sym p (take (length p) s)
+    ∙ elim (dec_le (length p) (length s)) [
+      | yes le ↦ sym (starts-same s p le)
+      | no gt ↦
+          same-differ (take (length p) s) p (λ e. absurd (omega (arith, length-take (length p) s, ap length e)))
+          ∙ sym (starts-short s p (omega arith))
+    ]
+
+pub ends-is : (s p : List ℕ) → pointwise eqb p (drop (length s - length p) s) ≡ ends_with s p
+ends-is s p =
+    same-is p (drop (length s - length p) s)
+    ∙ same-sym p (drop (length s - length p) s)
+    ∙ elim (dec_le (length p) (length s)) [
+      | yes le ↦ sym (ends_same s p le)
+      | no gt ↦
+          same-differ (drop (length s - length p) s) p
+          (λ e. absurd (omega (arith, length-drop (length s - length p) s, ap length e)))
+          ∙ sym (ends-short s p (omega arith))
+    ]
+
 -- ---- where a byte stands
 
-index_at : (b : ℕ) (s : List ℕ) (i : ℕ) → i < length s → index_of b (drop i s) ≡ cond (eqb (get_or s i 0) b) 0 (1 + index_of b (drop (i + 1) s))
+index-prefix : (b : ℕ) (s : List ℕ) → position_or_len (λ x. eqb x b) s ≡ index_of b s
 unfolding index_of
-index_at b s i h = rw (add-one, drop-cons s i 0 h)
+index-prefix b [] = refl
+index-prefix b (x ∷ s) =
+    by-test (eqb x b)
+    (λ e. rw e refl)
+    (λ e. rw e (ap (λ n. 1 + n) (index-prefix b s)))
 
-pub index-next :
-    (b : ℕ) (s : List ℕ) (i : ℕ) → i < length s → (get_or s i 0 ≡ b → ⊥) → index_of b s ≡ i + index_of b (drop i s)
-    → index_of b s ≡ i + 1 + index_of b (drop (i + 1) s)
-index-next b s i h q p =
-    let e = index_at b s i h ∙ ap (λ t. cond t 0 (1 + index_of b (drop (i + 1) s))) (ne_eqb (get_or s i 0) b q) in omega arith
+prefix-most : (p : ℕ → Bool) (s : List ℕ) → position_or_len p s ≤ length s
+prefix-most p [] = omega arith
+prefix-most p (x ∷ s) = let h = prefix-most p s in by-test (p x) (λ e. rw e (omega arith)) (λ e. rw e (omega arith))
 
-pub index-here : (b : ℕ) (s : List ℕ) (i : ℕ) → i < length s → get_or s i 0 ≡ b → index_of b s ≡ i + index_of b (drop i s) → i ≡ index_of b s
-index-here b s i h q p =
-    let e = index_at b s i h ∙ ap (λ t. cond t 0 (1 + index_of b (drop (i + 1) s))) (eq-eqb (get_or s i 0) b q) in omega arith
+-- the place of the first byte that passes, as std finds it, or the length
+pub found-or-length : (p : ℕ → Bool) (s : List ℕ) → unwrap_or (position p s) (length s) ≡ position_or_len p s
+found-or-length p s =
+    by-test (ltb (position_or_len p s) (length s))
+    (λ e. rw e refl)
+    (λ e. rw e (let h = prefix-most p s in let g = ltb-false (position_or_len p s) (length s) e in omega arith))
 
-pub index-end : (b : ℕ) (s : List ℕ) (i : ℕ) → length s ≤ i → index_of b s ≡ i + index_of b (drop i s) → i ≡ index_of b s
-unfolding index_of
-index-end b s i h p = let e = ap (index_of b) (drop_of_length-le s h) in omega arith
+-- as std answers
+pub index-is : (b : ℕ) (s : List ℕ) → unwrap_or (position (λ x. eqb x b) s) (length s) ≡ index_of b s
+index-is b s = found-or-length (λ x. eqb x b) s ∙ index-prefix b s
+
+-- std's comparisons and searches are these tests
+pub ruleset compares = (same-is, precedes-is, starts-is, ends-is, index-is)

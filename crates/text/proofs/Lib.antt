@@ -3,4 +3,4 @@ pub mod Trailer
 pub mod Compare
 pub mod Writing
 pub mod Decimal
-pub mod Moving
+pub mod Outputs

@@ -1,17 +1,17 @@
 -- What is written in parts is written as a whole (`wrote_then`), and what falls outside changes nothing, so that writing
--- the part that falls inside is writing all (`wrote-inside`).
+-- the part that falls inside is writing all (`sets-part`).
 use mathlib.Core.Path.{◌≡◌, refl, sym, ap, subst, ◌∙◌}
-use mathlib.Core.List.{List, [], ◌∷◌, ◌++◌}
-use mathlib.Core.Logic.{◌⊎◌, ⊎_elim}
-use Prim.Native.Nat.{ℕ, suc, ◌+◌, ◌-◌, ◌/◌, ◌%◌, ◌≤◌, ◌<◌, min}
+use mathlib.Core.List.{List, [], ◌∷◌, ◌++◌, append_assoc}
+use Prim.Native.Nat.{ℕ, suc, ◌+◌, ◌-◌, ◌≤◌, ◌<◌, min}
 use native.Mathlib.Decide.{dec_le}
 use native.Mathlib.Numerals.{add-one}
 use native.Mathlib.Omega.{arith}
-use lib.ListN.{length, take, drop, get_or, set, replicate, length-append, length-drop, take-append-drop}
-use lib.ListN.{replicate-append-replicate, length-replicate, get_or-replicate}
-use lib.Seq.{sets, length-sets, set_out, take-suc, take-suc-set, take_all, length-take-le}
-use Rattle.text.specs.Numbers.{four}
-use Rattle.text.specs.Writing.{cap, Wrote, spaces}
+use lib.ListN.{length, take, drop, get_or, set, length-append, length-drop, take-append-drop}
+use lib.Seq.{sets, length-sets, set_out, take-suc, take_all, length-take-le, drop-drop}
+use borrow.Rule.Slice.PartMut.{put_mid}
+use Rattle.std.specs.List.{copy_within}
+use Rattle.std.proofs.lemmas.List.Edits.{sets-eq}
+use Rattle.text.specs.Writing.{cap, Wrote}
 
 -- ---- storing a run of bytes
 
@@ -38,11 +38,6 @@ sets-long out₀ out at w e = ap length e ∙ length-sets out₀ at w
 
 pub wrote-nil : (at : ℕ) (out : List ℕ) → at ≤ cap → Wrote at out [] at out
 wrote-nil at out h = record { next = omega arith; over = refl }
-
-pub wrote-byte :
-    (at : ℕ) (out : List ℕ) (b at' : ℕ) (out' : List ℕ) → at' ≡ min cap (at + 1) → out' ≡ set out at b
-    → Wrote at out (b ∷ []) at' out'
-wrote-byte at out b at' out' p q = record { next = p; over = q }
 
 pub wrote_then :
     {at : ℕ} {out w : List ℕ} {at₁ : ℕ} {out₁ v : List ℕ} {at₂ : ℕ} {out₂ : List ℕ} → length out ≤ cap → Wrote at out w at₁ out₁
@@ -83,69 +78,29 @@ rest-length s k = ap length (part-rest s k) ∙ length-drop k s
 pub take_more : (s : List ℕ) (i : ℕ) → i < length s → take (i + 1) s ≡ take i s ++ (get_or s i 0 ∷ [])
 take_more s i h = ap (λ k. take k s) (add-one i) ∙ take-suc s i 0 h
 
-pub sets_more :
-    (s out₀ out : List ℕ) (at i : ℕ) → i < length s → out ≡ sets out₀ at (take i s)
-    → set out (at + i) (get_or s i 0) ≡ sets out₀ at (take (i + 1) s)
-sets_more s out₀ out at i h e =
-    let l = length-take-le i s (omega arith) in
-    ap (λ o. set o (at + i) (get_or s i 0)) e
-    ∙ ap (λ n. set (sets out₀ at (take i s)) (at + n) (get_or s i 0)) (sym l)
-    ∙ sym (sets-append (take i s) (get_or s i 0 ∷ []) out₀ at)
-    ∙ ap (sets out₀ at) (sym (take_more s i h))
-
-pub sets-space :
-    (n : ℕ) (out₀ out : List ℕ) (at i : ℕ) → i < n → out ≡ sets out₀ at (take i (spaces n))
-    → set out (at + i) 32 ≡ sets out₀ at (take (i + 1) (spaces n))
-sets-space n out₀ out at i h e =
-    ap (set out (at + i)) (sym (get_or-replicate n i 32 0 h)) ∙ sets_more (spaces n) out₀ out at i (simp length-replicate h) e
-
 -- ---- as far as they fall inside
 
-sets-part : (s out : List ℕ) (at n : ℕ) → n ≤ length s → length out ≤ at + n → sets out at (take n s) ≡ sets out at s
+pub sets-part : (s out : List ℕ) (at n : ℕ) → n ≤ length s → length out ≤ at + n → sets out at (take n s) ≡ sets out at s
 sets-part s out at n h far =
     let l = length-take-le n s h in
     sym (sets-out (drop n s) (sets out at (take n s)) (at + length (take n s)) (omega (arith, length-sets out at (take n s))))
     ∙ sym (sets-append (take n s) (drop n s) out at)
     ∙ ap (sets out at) (take-append-drop n s)
 
--- the n bytes that fall inside were written, i of them by now
-pub wrote-inside :
-    (s out₀ out : List ℕ) (at n i r : ℕ) → n ≤ length s → (length s ≤ n) ⊎ (length out₀ ≤ at + n) → i ≤ n → n ≤ i
-    → out ≡ sets out₀ at (take i s) → r ≡ min cap (at + length s) → Wrote at out₀ s r out
-wrote-inside s out₀ out at n i r h far lo hi e p =
-    let q : i ≡ n = omega arith in
-    let o : out ≡ sets out₀ at (take n s) = e ∙ ap (λ m. sets out₀ at (take m s)) q in
-    record {
-      next = p;
-      over = o ∙ ⊎_elim (λ z. ap (sets out₀ at) (take_all n s z)) (λ z. sets-part s out₀ at n h z) far;
-    }
+-- ---- a part overwritten
 
-pub wrote-spaces :
-    (k : ℕ) (out₀ out : List ℕ) (at n i r : ℕ) → n ≤ k → (k ≤ n) ⊎ (length out₀ ≤ at + n) → i ≤ n → n ≤ i
-    → out ≡ sets out₀ at (take i (spaces k)) → r ≡ min cap (at + k) → Wrote at out₀ (spaces k) r out
-wrote-spaces k out₀ out at n i r h far lo hi e p =
-    wrote-inside (spaces k) out₀ out at n i r (simp length-replicate h) (simp length-replicate far) lo hi e (simp length-replicate p)
+-- a part of a buffer with other bytes in its place
+pub put_mid-sets : (a k : ℕ) (l ys : List ℕ) → length ys ≡ k → a + k ≤ length l → put_mid a k l ys ≡ sets l a ys
+put_mid-sets a k l ys e h =
+    ap (λ r. take a l ++ (ys ++ r)) (drop-drop k a l ∙ ap (λ n. drop (a + n) l) (sym e))
+    ∙ sym (append_assoc (take a l) ys (drop (a + length ys) l))
+    ∙ sym (sets-eq ys l a (omega arith))
 
--- ---- the bytes of a number
-
-pub sets-four :
-    {a b c d : ℕ} (out : List ℕ) (i n : ℕ) → a ≡ n % 256 → b ≡ n / 256 % 256 → c ≡ n / 256 / 256 % 256
-    → d ≡ n / 256 / 256 / 256 % 256 → set (set (set (set out i a) (i + 1) b) (i + 2) c) (i + 3) d ≡ sets out i (four n [])
-sets-four {a} {b} {c} {d} out i n ea eb ec ed =
-    let s₁ : i + 1 ≡ suc i = omega arith in
-    let s₂ : i + 2 ≡ suc (suc i) = omega arith in
-    let s₃ : i + 3 ≡ suc (suc (suc i)) = omega arith in
-    cc
-
--- ---- zeros, from a place to the next
-
-pub zeros-more : (out : List ℕ) (i : ℕ) → i < length out → take i out ≡ replicate i 0 → take (i + 1) (set out i 0) ≡ replicate (i + 1) 0
-zeros-more out i h e =
-    ap (λ n. take n (set out i 0)) (add-one i)
-    ∙ take-suc-set out i 0 h
-    ∙ ap (λ x. x ++ (0 ∷ [])) e
-    ∙ replicate-append-replicate i 1 0
-
-pub zeros-all :
-    (out : List ℕ) (i n : ℕ) → length out ≡ n → length out ≤ i → i ≤ length out → take i out ≡ replicate i 0 → out ≡ replicate n 0
-zeros-all out i n l lo hi e = let q : i ≡ n = omega arith in sym (take_all i out lo) ∙ e ∙ ap (λ k. replicate k 0) q
+-- bytes copied within a buffer; the two parts may overlap
+pub copied-sets : (l : List ℕ) (old new n : ℕ) → old + n ≤ length l → new + n ≤ length l → copy_within l old (old + n) new ≡ sets l new (take n (drop old l))
+copied-sets l old new n h k =
+    let m : old + n - old ≡ n = omega arith in
+    let w : length (take n (drop old l)) ≡ n = length-take-le n (drop old l) (simp length-drop (omega arith)) in
+    ap (λ i. take new l ++ take i (drop old l) ++ drop (new + i) l) m
+    ∙ ap (λ i. take new l ++ take n (drop old l) ++ drop (new + i) l) (sym w)
+    ∙ sym (sets-eq (take n (drop old l)) l new (omega arith))

@@ -3,4 +3,5 @@ pub mod Numbers
 pub mod Compare
 pub mod Writing
 pub mod Trailer
+pub mod Outputs
 pub mod Examples

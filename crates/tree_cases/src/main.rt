@@ -2,49 +2,22 @@
 // refusal (0: accepted), its row and the file's length, each in four bytes, and the file.
 #![tactic(auto)]
 
-ghost use Rattle.std.specs.Prelude.{◌+◌, ◌≤◌, ◌<◌};
-
+use refusals::Refusal;
 use std::io;
-use tree_file::Checked;
+use tree_file::Whole;
 
 // How many cases there were, and how many of them failed.
 #[derive(Clone, Copy)]
-pub struct Tally {
-    pub cases: usize,
-    pub failed: usize,
+struct Tally {
+    cases: usize,
+    failed: usize,
 }
 
 // Whether an answer is the one that a case names.
-fn agrees(answer: Checked, number: usize, row: usize) -> bool {
+fn agrees(answer: Result<Whole, Refusal>, number: usize, row: usize) -> bool {
     match answer {
-        Checked::Whole {
-            start: _,
-            rows: _,
-            blocks: _,
-        } => number == 0,
-        Checked::Refused { number: n, row: r } => {
-            if text::wide(n) == number {
-                return r == row;
-            }
-            false
-        }
-    }
-}
-
-// One case more.
-fn tallied(t: Tally, good: bool) -> Tally
-    requires { (t.cases < 65536) × (t.failed < 65536) }
-    ensures { (result.cases ≤ t.cases + 1) × (result.failed ≤ t.failed + 1) }
-{
-    if good {
-        return Tally {
-            cases: t.cases + 1,
-            failed: t.failed,
-        };
-    }
-    Tally {
-        cases: t.cases + 1,
-        failed: t.failed + 1,
+        Ok(_) => number == 0,
+        Err(refusal) => usize::from(u8::from(refusal.reason)) == number && refusal.row == row,
     }
 }
 
@@ -54,26 +27,18 @@ fn replay_all(cases: &[u8]) -> Tally {
         cases: 0,
         failed: 0,
     };
-    let mut i = 0;
-    let mut turns: usize = 0;
-    while turns < 1000 {
-        turns += 1;
-        if cases.len() - i < 12 {
+    let mut rest = cases;
+    for turn in 0..1000 {
+        if rest.len() < 12 || rest.len() - 12 < text::read_u32(rest, 8) {
             return t;
         }
-        let number = text::read_u32(cases, i);
-        let row = text::read_u32(cases, i + 4);
-        let from = i + 12;
-        let n = text::read_u32(cases, i + 8);
-        if cases.len() - from < n {
-            return t;
+        let end = 12 + text::read_u32(rest, 8);
+        let answer = tree_file::check_tree(&rest[12..end]);
+        t.cases = turn + 1;
+        if !agrees(answer, text::read_u32(rest, 0), text::read_u32(rest, 4)) {
+            t.failed = t.failed.saturating_add(1);
         }
-        let to = from + n;
-        t = tallied(
-            t,
-            agrees(tree_file::check_tree(&cases[from..to]), number, row),
-        );
-        i = to;
+        rest = &rest[end..];
     }
     t
 }

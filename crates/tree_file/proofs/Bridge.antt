@@ -21,9 +21,10 @@ use Rattle.text.specs.Trailer.{file_most, start_of}
 use Rattle.tree_file.specs.Layout.{blocks_most, decode, Laid, Rooted}
 use Rattle.tree_file.specs.Depth.{depth, depth_most}
 use Rattle.tree_file.specs.Shape.{lowest, Shaped, ShapedAll}
-use Rattle.tree_file.specs.Check.{Verdict, by_depth, by_shape, check_tree, blocks_of, checked_answer}
+use Rattle.tree_file.specs.Check.{Verdict, by_depth, by_shape, check_tree, blocks_of, accepted_as, checked_answer}
 use Rattle.tree_file.specs.Check.Verdict.{refused, accepted}
-use Rattle.tree_file.specs.declared.Checked.TheVariants.{Whole}
+use Rattle.refusals.specs.Refusals.{refusal_number, reason_of}
+use Rattle.tree_file.specs.declared.Whole.{Whole}
 use Rattle.tree_file.proofs.Decode.{decoded, decode-sound, decode-complete}
 use Rattle.tree_file.proofs.Shaped.{lowest-shaped, shaped-lowest, shaped-under}
 
@@ -104,9 +105,26 @@ unfolding check_tree
 refuses-5 b t r l d s =
     ap by_depth (decode-complete b t l) ∙ ap (λ x. cond x (by_shape t (lowest 0 0 t)) (refused 4 0)) (le-leb (depth t) depth_most d) ∙ ap (by_shape t) s
 
+-- a refusal is one of these three
+numbers-shape : (t : Tree) (o : Option ℕ) {n r : ℕ} → by_shape t o ≡ refused n r → refusal_number (reason_of n) ≡ n
+numbers-shape t nothing e = no-verdict (sym e)
+numbers-shape t (some x) {n} e = let z : 5 ≡ n = cc in ap (λ m. refusal_number (reason_of m)) (sym z) ∙ z
+
+numbers-depth : (t : Tree) (d : Bool) {n r : ℕ} → cond d (by_shape t (lowest 0 0 t)) (refused 4 0) ≡ refused n r → refusal_number (reason_of n) ≡ n
+numbers-depth t true e = numbers-shape t (lowest 0 0 t) e
+numbers-depth t false {n} e = let z : 4 ≡ n = cc in ap (λ m. refusal_number (reason_of m)) (sym z) ∙ z
+
+pub refused-number : (b : List ℕ) (n r : ℕ) → check_tree b ≡ refused n r → refusal_number (reason_of n) ≡ n
+unfolding check_tree
+refused-number b n r e = go (decode b) e
+  where
+    go : (o : Option Tree) → by_depth o ≡ refused n r → refusal_number (reason_of n) ≡ n
+    go nothing q = let z : 3 ≡ n = cc in ap (λ m. refusal_number (reason_of m)) (sym z) ∙ z
+    go (some t) q = numbers-depth t (leb (depth t) depth_most) q
+
 -- ---- from the code's answer
 
--- an answer `Whole` is about a tree that is accepted
+-- an answer `accepts` is about a tree that is accepted
 pub record Answered (b : List ℕ) (start rows blocks : ℕ) : Type 0 where
   pub tree : Tree
   pub is : check_tree b ≡ accepted tree
@@ -114,12 +132,21 @@ pub record Answered (b : List ℕ) (start rows blocks : ℕ) : Type 0 where
   pub rows_are : rows ≡ size tree
   pub blocks_are : blocks ≡ count (blocks_of tree)
 
-pub answered : (b : List ℕ) (start rows blocks : ℕ) → checked_answer (check_tree b) ≡ Whole start rows blocks → Answered b start rows blocks
+pub answered : (b : List ℕ) (start rows blocks : ℕ) → checked_answer (check_tree b) ≡ accepted_as start rows blocks → Answered b start rows blocks
 answered b start rows blocks e = go (check_tree b) refl e
   where
-    go : (v : Verdict) → check_tree b ≡ v → checked_answer v ≡ Whole start rows blocks → Answered b start rows blocks
+    go : (v : Verdict) → check_tree b ≡ v → checked_answer v ≡ accepted_as start rows blocks → Answered b start rows blocks
     go (refused n r) p q = absurd (let z : ◌≡◌ {A = ℕ} 0 1 = cc in omega arith)
-    go (accepted t) p q = record { tree = t; is = p; start_is = cc; rows_are = cc; blocks_are = cc }
+    go (accepted t) p q =
+        let w : ◌≡◌ {A = Whole} (record { start = start; rows = rows; blocks = blocks })
+        (record { start = length (text_of t); rows = size t; blocks = count (blocks_of t) }) = cc in
+        record {
+          tree = t;
+          is = p;
+          start_is = ap (λ (x : Whole). x.start) w;
+          rows_are = ap (λ (x : Whole). x.rows) w;
+          blocks_are = ap (λ (x : Whole). x.blocks) w;
+        }
 
 -- ---- the blocks
 

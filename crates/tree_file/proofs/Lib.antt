@@ -6,6 +6,7 @@ pub mod Runs
 pub mod Roots
 pub mod Shapes
 pub mod Scanning
+pub mod Children
 pub mod Answers
 pub mod Rules
 pub mod Shaped

@@ -5,6 +5,7 @@ use mathlib.Core.Bool.{Bool, true, false}
 use mathlib.Core.Option.{Option}
 use mathlib.Core.Option.Option.{none as nothing, some}
 use mathlib.Core.List.{List, [], ◌∷◌, ◌++◌}
+use Rattle.std.specs.Prelude.{Result, Ok, Err, ⊤}
 use Prim.Native.Nat.{ℕ, zero, suc, ◌+◌, ◌*◌, ◌-◌, ◌≤◌, ◌<◌, max}
 use native.Mathlib.Omega.{arith}
 use native.Mathlib.Decide.{dec_le}
@@ -13,7 +14,7 @@ use borrow.Author.Tests.{ne_eqb, le-leb, lt-leb}
 use lib.ListN.{length, take, drop, length-drop, take-append-drop, length-take}
 use lib.Seq.{take_at, drop_at, drop-drop}
 use Rattle.text.specs.Numbers.{four}
-use Rattle.text.proofs.Numbers.{four-says}
+use Rattle.text.proofs.Numbers.{eight, four-says}
 use Rattle.mitex_syntax.specs.Tree.{Tree, Forest, size, sizes}
 use Rattle.mitex_syntax.specs.Tree.Tree.{token, node}
 use Rattle.mitex_syntax.specs.Tree.Forest.{none, more}
@@ -23,8 +24,8 @@ use Rattle.tree_file.specs.Layout.Cut.{cut}
 use Rattle.tree_file.specs.Depth.{depth, depths}
 use Rattle.tree_file.specs.Shape.{is_some}
 use Rattle.tree_file.specs.Parts.{bytes_of, LinesFit, under_of, Nested}
-use Rattle.tree_file.specs.declared.Nest.{Nest}
-use Rattle.tree_file.specs.declared.Nest.TheVariants.{Deep, Fine}
+use Rattle.tree_file.specs.declared.Unnested.{Unnested}
+use Rattle.tree_file.specs.declared.Unnested.TheVariants.{Broken, Deep}
 use Rattle.tree_file.proofs.Grow.{join, no-some, none-forest_ahead, lines_of, lines_ofs, forest_ahead, cut_of, grow-cut}
 use Rattle.tree_file.proofs.Grow.{grow-sound, length-liness, split-sound, sizes-join, join-assoc, join-none}
 use Rattle.tree_file.proofs.Rows.{fits-drop}
@@ -211,7 +212,7 @@ at-grows {ls} {left} {rest} {n} a h =
     a.same ∙ ap (forest_ahead a.done) (grow-step a.line a.ns (omega arith)
     ∙ ap (λ k. built a.line (cut_of (grow (take k a.ns)) (grow (drop k a.ns)))) (sym m))
 
-pub at-broken :
+at-broken :
     {ls : List Line} {left : ℕ} {rest : List ℕ} {n : ℕ} → (a : At ls left rest n) → 8 + 8 * n ≤ length rest → grow (take n a.ns) ≡ nothing
     → grow ls ≡ nothing
 at-broken {ls} {left} {rest} {n} a h e = at-grows a h ∙ ap (λ o. forest_ahead a.done (built a.line (cut_of o (grow (drop n a.ns))))) e
@@ -231,13 +232,13 @@ depth-child (token_line k s) g left h p = h
 depth-child (node_line k n) g left h p = omega arith
 
 -- a row that has none under it
-pub none-under : (ns : List Line) (n left : ℕ) → n ≤ 0 → Nested (grow (take n ns)) left Fine
+pub none-under : (ns : List Line) (n left : ℕ) → n ≤ 0 → Nested (grow (take n ns)) left (Ok tt)
 unfolding grow depth
-none-under ns n left h = let z : 0 ≡ n = omega arith in subst (λ m. Nested (grow (take m ns)) left Fine) z (none, (refl, omega arith))
+none-under ns n left h = let z : 0 ≡ n = omega arith in subst (λ m. Nested (grow (take m ns)) left (Ok tt)) z (none, (refl, omega arith))
 
 pub at_next :
     {ls : List Line} {left : ℕ} {rest : List ℕ} {n : ℕ} → (a : At ls left rest n) → 8 + 8 * n ≤ length rest → 1 ≤ left
-    → Nested (grow (take n a.ns)) (left - 1) Fine
+    → Nested (grow (take n a.ns)) (left - 1) (Ok tt)
     → Turn ls left (take (length rest - (8 + 8 * n)) (drop (8 + 8 * n) rest))
 unfolding depth
 at_next {ls} {left} {rest} {n} a h one w =
@@ -278,9 +279,9 @@ deep-tree (token_line k s) n ns g left e p q h =
     absurd (omega (arith, ap depths w))
 deep-tree (node_line k m) n ns g left e p q h = omega arith
 
-pub at-deep :
+at-deep :
     {ls : List Line} {left : ℕ} {rest : List ℕ} {n : ℕ} → (a : At ls left rest n) → 8 + 8 * n ≤ length rest → 1 ≤ left
-    → Nested (grow (take n a.ns)) (left - 1) Deep → Nested (grow ls) left Deep
+    → Nested (grow (take n a.ns)) (left - 1) (Err Deep) → Nested (grow ls) left (Err Deep)
 unfolding depth
 at-deep {ls} {left} {rest} {n} a h one w f e =
     let b = forest_ahead-some a.done (built a.line (cut_of (grow (take n a.ns)) (grow (drop n a.ns)))) f (sym (at-grows a h) ∙ e) in
@@ -301,7 +302,7 @@ depths-some none h = absurd (omega arith)
 depths-some (more t f) h = omega (arith, depth-some t)
 
 -- rows where none may be
-pub turn-deep : {ls : List Line} {left : ℕ} {rest : List ℕ} → Turn ls left rest → 8 ≤ length rest → left ≡ 0 → Nested (grow ls) left Deep
+pub turn-deep : {ls : List Line} {left : ℕ} {rest : List ℕ} → Turn ls left rest → 8 ≤ length rest → left ≡ 0 → Nested (grow ls) left (Err Deep)
 turn-deep {ls} {left} {rest} w h z f e =
     let b = forest_ahead-some w.done (grow w.ms) f (sym w.same ∙ e) in
     let u = b.0 in
@@ -310,10 +311,10 @@ turn-deep {ls} {left} {rest} w h z f e =
     let d = depths-some u (omega arith) in
     omega (arith, ap depths b.1.1, depths-join w.done u)
 
-pub turn_end : {ls : List Line} {left : ℕ} {rest : List ℕ} → Turn ls left rest → length rest < 8 → Nested (grow ls) left Fine
+pub turn_end : {ls : List Line} {left : ℕ} {rest : List ℕ} → Turn ls left rest → length rest < 8 → Nested (grow ls) left (Ok tt)
 unfolding grow
 turn_end {ls} {left} {rest} w h =
-    let go : (ms : List Line) → rest ≡ bytes_of ms → grow ls ≡ forest_ahead w.done (grow ms) → Nested (grow ls) left Fine = elim [
+    let go : (ms : List Line) → rest ≡ bytes_of ms → grow ls ≡ forest_ahead w.done (grow ms) → Nested (grow ls) left (Ok tt) = elim [
       | [] ↦ λ p q. (w.done, (q ∙ ap some (join-none w.done), w.low))
       | ◌∷◌ l ns ↦ λ p q. absurd (omega (arith, ap length p, length-bytes (l ∷ ns)))
     ] in
@@ -321,11 +322,18 @@ turn_end {ls} {left} {rest} w h =
 
 -- what a child's answer says of the whole
 pub at-answer :
-    {ls : List Line} {left : ℕ} {rest : List ℕ} {n : ℕ} → (a : At ls left rest n) → 8 + 8 * n ≤ length rest → (r x : Nest)
+    {ls : List Line} {left : ℕ} {rest : List ℕ} {n : ℕ} → (a : At ls left rest n) → 8 + 8 * n ≤ length rest → (r x : Result ⊤ Unnested)
     → ((ms : List Line) → take (8 + 8 * n - 8) (drop 8 rest) ≡ bytes_of ms → LinesFit ms → Nested (grow ms) (left - 1) r) → r ≡ x
     → Nested (grow (take n a.ns)) (left - 1) x
 at-answer {ls} {left} {rest} {n} a h r x f e =
     subst (Nested (grow (take n a.ns)) (left - 1)) e (f (take n a.ns) (at-child a h) (lines-fit-first n a.ns a.fit))
+
+-- and where it is refused the whole is, for the same reason
+pub at-refused :
+    {ls : List Line} {left : ℕ} {rest : List ℕ} {n : ℕ} → (a : At ls left rest n) → 8 + 8 * n ≤ length rest → 1 ≤ left → (x : Unnested)
+    → Nested (grow (take n a.ns)) (left - 1) (Err x) → Nested (grow ls) left (Err x)
+at-refused a h one Broken w = at-broken a h w
+at-refused a h one Deep w = at-deep a h one w
 
 -- the first tree of rows that grow
 pub record FirstGrown (l : Line) (ns : List Line) (g : Forest) : Type 0 where
@@ -498,41 +506,47 @@ row-falls (node_line k n) ns b h e =
     [ nothing ↦ λ q. refl | some f ↦ λ q. is_some-closed k (split n f) ∙ sym (q f refl) ∙ e ] in
     go (grow ns) h
 
-abbrev Landing : List ℕ → ℕ → Bool → Type 0
-Landing rest n b =
-    (ms : List Line) (f : Forest) → take (length rest - 8) (drop 8 rest) ≡ bytes_of ms → LinesFit ms → grow ms ≡ some f → b ≡ is_some (split n f)
+-- how many rows lie under a row, by its own bytes
+pub under-alone : (l : List ℕ) → 8 ≤ length l → under_of (take 8 l) ≡ under_of l
+under-alone l h = let e = eight l h in ap (λ x. under_of (take 8 x)) e ∙ sym (ap under_of e)
 
--- the row at which the walk stands, and whether its rows are whole trees
-record LinesRestAt (ls : List Line) (rest : List ℕ) (b : Bool) : Type 0 where
+abbrev Landing : List ℕ → ℕ → Bool → Type 0
+Landing after n b = (ms : List Line) (f : Forest) → after ≡ bytes_of ms → LinesFit ms → grow ms ≡ some f → b ≡ is_some (split n f)
+
+-- the row at which the walk stands, the rows after it, and whether those under it are whole trees
+record LinesRestAt (ls : List Line) (after : List ℕ) (b : Bool) : Type 0 where
   line : Line
   ns : List Line
-  spelt : take (length rest - 8) (drop 8 rest) ≡ bytes_of ns
+  spelt : after ≡ bytes_of ns
   fit : LinesFit ns
   same : is_some (grow ls) ≡ is_some (grow (line ∷ ns))
   landing : (f : Forest) → grow ns ≡ some f → b ≡ is_some (split (under_line line) f)
 
-lines-rest-at : {ls : List Line} {rest : List ℕ} → LinesRest ls rest → 8 ≤ length rest → (n : ℕ) → n ≡ under_of rest → (b : Bool) → Landing rest n b
-    → LinesRestAt ls rest b
+lines-rest-at :
+    {ls : List Line} {rest after : List ℕ} → LinesRest ls rest → 8 ≤ length rest → after ≡ drop 8 rest → (n : ℕ) → n ≡ under_of rest → (b : Bool)
+    → Landing after n b → LinesRestAt ls after b
 unfolding bytes_of
-lines-rest-at {ls} {rest} w h n e b k =
-    let go : (ms : List Line) → rest ≡ bytes_of ms → LinesFit ms → is_some (grow ls) ≡ is_some (grow ms) → LinesRestAt ls rest b = elim [
+lines-rest-at {ls} {rest} {after} w h past n e b k =
+    let go : (ms : List Line) → rest ≡ bytes_of ms → LinesFit ms → is_some (grow ls) ≡ is_some (grow ms) → LinesRestAt ls after b = elim [
       | [] ↦ λ p q r. absurd (omega (arith, ap length p))
       | ◌∷◌ l ns ↦ λ p q r.
-          let d : take (length rest - 8) (drop 8 rest) ≡ bytes_of ns = part-rest rest 8 ∙ ap (drop 8) p ∙ lines-one l ns in
+          let d : after ≡ bytes_of ns = past ∙ ap (drop 8) p ∙ lines-one l ns in
           let m : n ≡ under_line l = e ∙ ap under_of p ∙ under-is l ns q in
           let fit = fits-drop l ns q in
           record { line = l; ns = ns; spelt = d; fit = fit; same = r; landing = λ f g. k ns f d fit g ∙ ap (λ x. is_some (split x f)) m }
     ] in
     go w.ms w.spelt w.fit w.same
 
-pub lines-rest-falls : {ls : List Line} {rest : List ℕ} → LinesRest ls rest → 8 ≤ length rest → (n : ℕ) → n ≡ under_of rest → (b : Bool) → Landing rest n b
-    → b ≡ false → false ≡ is_some (grow ls)
-lines-rest-falls w h n e b k z = let a = lines-rest-at w h n e b k in sym (a.same ∙ row-falls a.line a.ns b a.landing z)
+pub lines-rest-falls :
+    {ls : List Line} {rest after : List ℕ} → LinesRest ls rest → 8 ≤ length rest → after ≡ drop 8 rest → (n : ℕ) → n ≡ under_of rest → (b : Bool)
+    → Landing after n b → b ≡ false → false ≡ is_some (grow ls)
+lines-rest-falls w h p n e b k z = let a = lines-rest-at w h p n e b k in sym (a.same ∙ row-falls a.line a.ns b a.landing z)
 
-pub lines-rest-next : {ls : List Line} {rest : List ℕ} → LinesRest ls rest → 8 ≤ length rest → (n : ℕ) → n ≡ under_of rest → (b : Bool) → Landing rest n b
-    → b ≡ true → LinesRest ls (take (length rest - 8) (drop 8 rest))
-lines-rest-next w h n e b k z =
-    let a = lines-rest-at w h n e b k in
+pub lines-rest-next :
+    {ls : List Line} {rest after : List ℕ} → LinesRest ls rest → 8 ≤ length rest → after ≡ drop 8 rest → (n : ℕ) → n ≡ under_of rest → (b : Bool)
+    → Landing after n b → b ≡ true → LinesRest ls after
+lines-rest-next w h p n e b k z =
+    let a = lines-rest-at w h p n e b k in
     record { ms = a.ns; spelt = a.spelt; fit = a.fit; same = a.same ∙ row-lands a.line a.ns b a.landing z }
 
 pub lines-rest-end : {ls : List Line} {rest : List ℕ} → LinesRest ls rest → length rest < 8 → true ≡ is_some (grow ls)

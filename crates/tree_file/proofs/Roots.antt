@@ -1,10 +1,14 @@
 -- Rows that spell a forest: counting its trees, and whether it is one root over its blocks.
-use mathlib.Core.Path.{◌≡◌, sym, ap, subst, ◌∙◌, refl}
+use mathlib.Core.Path.{◌≡◌, sym, ap, ◌∙◌, refl}
 use mathlib.Core.List.{List, append-nil}
+use Rattle.std.specs.Prelude.{Some, None}
+use Rattle.std.specs.Bool.{then_some}
 use Prim.Native.Nat.{ℕ, ◌+◌, ◌*◌, ◌-◌, ◌≤◌, ◌<◌}
 use native.Mathlib.Omega.{arith}
 use Rattle.text.proofs.Writing.{part-rest}
-use borrow.Author.Tests.{eq-eqb, ne_eqb, le-leb, lt-leb}
+use mathlib.Core.Bool.{Bool, true, false, cond}
+use lib.Dec.{leb}
+use borrow.Author.Tests.{eq-eqb, ne_eqb}
 use lib.ListN.{length, take, drop, get_or, length-append}
 use lib.Seq.{drop_at}
 use Rattle.mitex_syntax.specs.Syntax.{ScopeRoot}
@@ -16,7 +20,6 @@ use Rattle.mitex_syntax.proofs.Trees.{length-rows, size-some, extent-tree}
 use Rattle.text.specs.Trailer.{file_most}
 use Rattle.tree_file.specs.Layout.{blocks_most}
 use Rattle.tree_file.specs.Parts.{root_blocks}
-use Rattle.tree_file.specs.declared.Blocks.TheVariants.{Amiss, Are}
 
 -- ---- counting
 
@@ -72,19 +75,19 @@ absurd-mark e = absurd (omega arith)
 
 -- ---- the root
 
-pub root_none : (f : Forest) (l : List ℕ) → l ≡ rows_ofs f → length l < 8 → Amiss ≡ root_blocks f
+pub root_none : (f : Forest) (l : List ℕ) → l ≡ rows_ofs f → length l < 8 → None ≡ root_blocks f
 unfolding rows_of
 root_none none l e h = refl
 root_none (more t u) l e h = absurd (omega (arith, ap length e ∙ length-append (rows_of t) (rows_ofs u), length-rows t, size-some t))
 
-pub root-token : (f : Forest) (l : List ℕ) → l ≡ rows_ofs f → 8 ≤ length l → get_or l 1 0 ≡ 1 → Amiss ≡ root_blocks f
+pub root-token : (f : Forest) (l : List ℕ) → l ≡ rows_ofs f → 8 ≤ length l → get_or l 1 0 ≡ 1 → None ≡ root_blocks f
 unfolding rows_of
 root-token none l e h mk = refl
 root-token (more t (more u g)) l e h mk = refl
 root-token (more (token k s) none) l e h mk = refl
 root-token (more (node k c) none) l e h mk = absurd-mark (sym (ap (λ x. get_or x 1 0) e) ∙ mk)
 
-pub root-kind : (f : Forest) (l : List ℕ) → l ≡ rows_ofs f → 8 ≤ length l → (get_or l 0 0 ≡ ScopeRoot → ⊥) → Amiss ≡ root_blocks f
+pub root-kind : (f : Forest) (l : List ℕ) → l ≡ rows_ofs f → 8 ≤ length l → (get_or l 0 0 ≡ ScopeRoot → ⊥) → None ≡ root_blocks f
 unfolding rows_of
 root-kind none l e h ne = refl
 root-kind (more t (more u g)) l e h ne = refl
@@ -105,7 +108,7 @@ root-extent k c u l e lo =
     long ∙ omega (arith, ap extent_of e ∙ extent-tree (node k c) (rows_ofs u) (omega arith))
 
 pub root-short : (f : Forest) (l : List ℕ) → l ≡ rows_ofs f → 8 ≤ length l → length l ≤ file_most → (get_or l 1 0 ≡ 1 → ⊥)
-    → (end : ℕ) → end ≡ extent_of l → (length l ≡ end → ⊥) → Amiss ≡ root_blocks f
+    → (end : ℕ) → end ≡ extent_of l → (length l ≡ end → ⊥) → None ≡ root_blocks f
 unfolding rows_of
 root-short none l e h lo mk n d ne = refl
 root-short (more t (more u g)) l e h lo mk n d ne = refl
@@ -116,8 +119,11 @@ root-short (more (node k c) none) l e h lo mk n d ne = absurd (ne (root-extent k
 pub record Root (f : Forest) (l : List ℕ) : Type 0 where
   pub blocks : Forest
   pub spelt : take (length l - 8) (drop 8 l) ≡ rows_ofs blocks
-  pub few : (m : ℕ) → m ≡ count blocks → m ≤ blocks_most → Are m ≡ root_blocks f
-  pub many : (m : ℕ) → m ≡ count blocks → blocks_most < m → Amiss ≡ root_blocks f
+  pub are : (m : ℕ) → m ≡ count blocks → then_some (leb m blocks_most) m ≡ root_blocks f
+
+some-by : (b : Bool) (m : ℕ) → then_some b m ≡ cond b (Some m) None
+some-by true m = refl
+some-by false m = refl
 
 pub root-of : (f : Forest) (l : List ℕ) → l ≡ rows_ofs f → 8 ≤ length l → length l ≤ file_most → get_or l 0 0 ≡ ScopeRoot → (get_or l 1 0 ≡ 1 → ⊥)
     → (end : ℕ) → end ≡ extent_of l → length l ≡ end → Root f l
@@ -130,6 +136,5 @@ root-of (more (node k c) none) l e h lo kd mk n d q =
     record {
       blocks = c;
       spelt = part-rest l 8 ∙ ap (drop 8) e ∙ append-nil (rows_ofs c);
-      few = λ m p le. let y = le-leb (count c) blocks_most (subst (λ v. v ≤ blocks_most) p le) in ap Are p ∙ rw (x, y);
-      many = λ m p gt. let y = lt-leb (count c) blocks_most (subst (λ v. blocks_most < v) p gt) in rw (x, y);
+      are = λ m p. ap (λ v. then_some (leb v blocks_most) v) p ∙ some-by (leb (count c) blocks_most) (count c) ∙ sym (rw x);
     }

@@ -4,6 +4,7 @@ use mathlib.Core.Path.{◌≡◌, refl, sym, ap, subst, ◌∙◌}
 use mathlib.Core.Bool.{Bool, true, false, ◌&&◌, cond, and-eq-true_iff}
 use mathlib.Core.Option.Option.{some}
 use mathlib.Core.List.{List, [], ◌∷◌, ◌++◌}
+use Rattle.std.specs.Prelude.{Option as Maybe, Some, None}
 use Prim.Native.Nat.{ℕ, zero, suc, ◌+◌, ◌*◌, ◌≤◌, ◌<◌}
 use native.Mathlib.Omega.{arith}
 use lib.Dec.{T, eqb, leb}
@@ -17,11 +18,11 @@ use Rattle.mitex_syntax.specs.Syntax.{is_node}
 use Rattle.mitex_syntax.specs.Spells.{token_fits}
 use Rattle.text.specs.Trailer.{ahead}
 use Rattle.text.proofs.Trailer.{ahead-some}
-use Rattle.tree_file.specs.Layout.{Line, lines, tree_row_at, row_ahead, row_taken}
+use Rattle.tree_file.specs.Layout.{Line, lines, tree_row_at, row_ahead, taken_of}
 use Rattle.tree_file.specs.Layout.Line.{token_line, node_line}
 use Rattle.tree_file.specs.Parts.{bytes_of, texts_in, LinesFit}
 use Rattle.tree_file.specs.declared.TreeRow.{TreeRow}
-use Rattle.tree_file.specs.declared.TreeRow.TheVariants.{Bad, Token, Node}
+use Rattle.tree_file.specs.declared.TreeRow.TheVariants.{Token, Node}
 use Rattle.tree_file.proofs.Grow.{no-some}
 
 pub four_low : (a b c d : ℕ) → a < 256 → b < 256 → c < 256 → d < 256 → a + 256 * b + 65536 * c + 16777216 * d < cap
@@ -50,10 +51,10 @@ pub T-is : (a : Bool) → T a → a ≡ true
 T-is true h = refl
 T-is false h = absurd h
 
-abbrev pub RowSays : List ℕ → List ℕ → TreeRow → Type 0
-RowSays rows text Bad = Unit {0}
-RowSays rows text (Token m) = IsToken rows text m
-RowSays rows text (Node m) = IsNode rows m
+abbrev pub RowSays : List ℕ → List ℕ → Maybe TreeRow → Type 0
+RowSays rows text None = Unit {0}
+RowSays rows text (Some (Token m)) = IsToken rows text m
+RowSays rows text (Some (Node m)) = IsNode rows m
 
 -- the four tests of a row
 row-tests : (rows text : List ℕ) (z m f g : Bool)
@@ -61,7 +62,7 @@ row-tests : (rows text : List ℕ) (z m f g : Bool)
     → eqb (get_or rows 1 0) 1 ≡ m
     → leb (four_at 4 rows) (length text) && token_fits (get_or rows 0 0) (take (four_at 4 rows) text) ≡ f
     → eqb (get_or rows 1 0) 0 && is_node (get_or rows 0 0) ≡ g
-    → RowSays rows text (cond z (cond m (cond f (Token (four_at 4 rows)) Bad) (cond g (Node (four_at 4 rows)) Bad)) Bad)
+    → RowSays rows text (cond z (cond m (cond f (Some (Token (four_at 4 rows))) None) (cond g (Some (Node (four_at 4 rows))) None)) None)
 row-tests rows text false m f g ez em ef eg = tt
 row-tests rows text true true false g ez em ef eg = tt
 row-tests rows text true true true g ez em ef eg =
@@ -72,7 +73,7 @@ row-tests rows text true false f true ez em ef eg =
     let z = (and-eq-true_iff _ _).0 ez in let h = (and-eq-true_iff _ _).0 eg in
     record { mark = eqb-true _ _ h.0; zero2 = eqb-true _ _ z.0; zero3 = eqb-true _ _ z.1; number = refl; kind = is_T _ h.1 }
 
-pub tree-row-says : (rows text : List ℕ) (r : TreeRow) → tree_row_at rows text ≡ r → RowSays rows text r
+pub tree-row-says : (rows text : List ℕ) (r : Maybe TreeRow) → tree_row_at rows text ≡ r → RowSays rows text r
 unfolding tree_row_at
 tree-row-says rows text r e = subst (RowSays rows text) e (row-tests rows text _ _ _ _ refl refl refl refl)
 
@@ -133,12 +134,12 @@ nil-rows (r ∷ rows) text ls h e = absurd (omega arith)
 
 rows-by : (n : ℕ) (rows text : List ℕ) (ls : List Line) → Bytes rows → 8 ≤ length rows
     → ((text : List ℕ) (ls : List Line) → lines n (drop 8 rows) text ≡ some ls → Read (drop 8 rows) text ls)
-    → (r : TreeRow) → RowSays rows text r → row_ahead r rows text (lines n (drop 8 rows) (drop (row_taken r) text)) ≡ some ls → Read rows text ls
-rows-by n rows text ls by h i Bad says e = absurd (no-some e)
-rows-by n rows text ls by h i (Token m) says e =
+    → (r : Maybe TreeRow) → RowSays rows text r → row_ahead r rows text (lines n (drop 8 rows) (drop (taken_of r) text)) ≡ some ls → Read rows text ls
+rows-by n rows text ls by h i None says e = absurd (no-some e)
+rows-by n rows text ls by h i (Some (Token m)) says e =
     let w = ahead-some _ _ _ e in
     subst (Read rows text) w.1.1 (lines-token rows text m w.0 by h says (i (drop m text) w.0 w.1.0))
-rows-by n rows text ls by h i (Node m) says e =
+rows-by n rows text ls by h i (Some (Node m)) says e =
     let w = ahead-some _ _ _ e in
     subst (Read rows text) w.1.1 (lines-node rows text m w.0 by h says (i text w.0 w.1.0))
 
@@ -156,7 +157,7 @@ unfolding LinesFit
 fits-drop (token_line k s) ls h = h.2
 fits-drop (node_line k n) ls h = h.2
 
-row-of-token : (k : ℕ) (s : List ℕ) (r text : List ℕ) → T (token_fits k s) → length s < cap → tree_row_at (k ∷ 1 ∷ 0 ∷ 0 ∷ four (length s) r) (s ++ text) ≡ Token (length s)
+row-of-token : (k : ℕ) (s : List ℕ) (r text : List ℕ) → T (token_fits k s) → length s < cap → tree_row_at (k ∷ 1 ∷ 0 ∷ 0 ∷ four (length s) r) (s ++ text) ≡ Some (Token (length s))
 unfolding tree_row_at
 row-of-token k s r text h lo =
     let n = four-says (length s) lo in
@@ -164,7 +165,7 @@ row-of-token k s r text h lo =
     let t : token_fits k (take (length s) (s ++ text)) ≡ true = ap (token_fits k) (take-append_seam s text) ∙ T-is _ h in
     rw (n, l, t)
 
-row-of-node : (k n : ℕ) (r text : List ℕ) → T (is_node k) → n < cap → tree_row_at (k ∷ 0 ∷ 0 ∷ 0 ∷ four n r) text ≡ Node n
+row-of-node : (k n : ℕ) (r text : List ℕ) → T (is_node k) → n < cap → tree_row_at (k ∷ 0 ∷ 0 ∷ 0 ∷ four n r) text ≡ Some (Node n)
 unfolding tree_row_at
 row-of-node k n r text h lo =
     let t : is_node k ≡ true = T-is _ h in
@@ -175,11 +176,11 @@ unfolding lines bytes_of texts_in LinesFit
 lines-complete [] h = refl
 lines-complete (token_line k s ∷ ls) h =
     let rows = bytes_of (token_line k s ∷ ls) in let text = s ++ texts_in ls in
-    ap (λ r. row_ahead r rows text (lines (length ls) (bytes_of ls) (drop (row_taken r) text))) (row-of-token k s (bytes_of ls) (texts_in ls) h.0 h.1)
+    ap (λ r. row_ahead r rows text (lines (length ls) (bytes_of ls) (drop (taken_of r) text))) (row-of-token k s (bytes_of ls) (texts_in ls) h.0 h.1)
     ∙ ap (λ x. ahead (token_line k x) (lines (length ls) (bytes_of ls) (drop (length s) text))) (take-append_seam s (texts_in ls))
     ∙ ap (λ x. ahead (token_line k s) (lines (length ls) (bytes_of ls) x)) (drop-append_seam s (texts_in ls))
     ∙ ap (ahead (token_line k s)) (lines-complete ls h.2)
 lines-complete (node_line k n ∷ ls) h =
     let rows = bytes_of (node_line k n ∷ ls) in let text = texts_in ls in
-    ap (λ r. row_ahead r rows text (lines (length ls) (bytes_of ls) (drop (row_taken r) text))) (row-of-node k n (bytes_of ls) text h.0 h.1)
+    ap (λ r. row_ahead r rows text (lines (length ls) (bytes_of ls) (drop (taken_of r) text))) (row-of-node k n (bytes_of ls) text h.0 h.1)
     ∙ ap (ahead (node_line k n)) (lines-complete ls h.2)

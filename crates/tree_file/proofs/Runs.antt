@@ -1,21 +1,23 @@
 -- Rows read one by one: what is left of rows and text decides whether all are rows whose texts fill the text.
 use mathlib.Core.Path.{◌≡◌, refl, sym, ap, subst, ◌∙◌}
-use mathlib.Core.Bool.{true, false}
+use mathlib.Core.Bool.{false}
+use Rattle.std.specs.Prelude.{Some, None}
 use mathlib.Core.Option.{Option}
 use mathlib.Core.Option.Option.{none as nothing, some}
-use mathlib.Core.List.{List, [], ◌∷◌}
+use mathlib.Core.List.{List, [], ◌∷◌, ◌++◌}
+use lib.Seq.{take_at, drop_at}
 use Prim.Native.Nat.{ℕ, zero, suc, ◌*◌, ◌-◌, ◌≤◌, ◌<◌}
 use native.Mathlib.Omega.{arith}
 use lib.Dec.{eqb}
 use Rattle.text.proofs.Writing.{part-rest}
 use borrow.Author.Tests.{ne_eqb}
-use lib.ListN.{length, take, drop, length-drop}
+use lib.ListN.{length, take, drop, length-drop, length-append}
 use Rattle.text.specs.Trailer.{ahead}
-use Rattle.tree_file.specs.Layout.{Line, tree_row_at, row_taken, row_ahead, lines}
+use Rattle.tree_file.specs.Layout.{Line, tree_row_at, row_taken, taken_of, row_ahead, lines}
 use Rattle.tree_file.specs.Shape.{is_some}
-use Rattle.tree_file.specs.Parts.{is_bad}
 use Rattle.tree_file.specs.declared.TreeRow.{TreeRow}
-use Rattle.tree_file.specs.declared.TreeRow.TheVariants.{Bad, Token, Node}
+use Rattle.tree_file.specs.declared.TreeRow.TheVariants.{Token, Node}
+use Rattle.text.proofs.Numbers.{eight}
 use Rattle.tree_file.proofs.Rows.{RowSays, tree-row-says}
 
 -- rows read one by one: what is left of them decides
@@ -31,41 +33,49 @@ is_some-ahead : (l : Line) (o : Option (List Line)) → is_some (ahead l o) ≡ 
 is_some-ahead l nothing = refl
 is_some-ahead l (some ms) = refl
 
-is_some-row_ahead : (r : TreeRow) (rows text : List ℕ) (o : Option (List Line)) → is_bad r ≡ false → is_some (row_ahead r rows text o) ≡ is_some o
-is_some-row_ahead Bad rows text o h = absurd (let z : ◌≡◌ {A = ℕ} 0 1 = cc in omega arith)
-is_some-row_ahead (Token m) rows text o h = is_some-ahead _ o
-is_some-row_ahead (Node m) rows text o h = is_some-ahead _ o
+is_some-row_ahead : (r : TreeRow) (rows text : List ℕ) (o : Option (List Line)) → is_some (row_ahead (Some r) rows text o) ≡ is_some o
+is_some-row_ahead (Token m) rows text o = is_some-ahead _ o
+is_some-row_ahead (Node m) rows text o = is_some-ahead _ o
 
-is_some-bad : (r : TreeRow) (rows text : List ℕ) (o : Option (List Line)) → is_bad r ≡ true → is_some (row_ahead r rows text o) ≡ false
-is_some-bad Bad rows text o h = refl
-is_some-bad (Token m) rows text o h = absurd (let z : ◌≡◌ {A = ℕ} 0 1 = cc in omega arith)
-is_some-bad (Node m) rows text o h = absurd (let z : ◌≡◌ {A = ℕ} 0 1 = cc in omega arith)
+-- a row by its own bytes
+pub row-alone : (l t : List ℕ) → 8 ≤ length l → tree_row_at (take 8 l) t ≡ tree_row_at l t
+unfolding tree_row_at
+row-alone l t h = let e = eight l h in ap (λ x. tree_row_at (take 8 x) t) e ∙ sym (ap (λ x. tree_row_at x t) e)
 
-pub lines-left-bad : {n : ℕ} {rows text l t : List ℕ} → LinesLeft n rows text l t → 8 ≤ length l → is_bad (tree_row_at l t) ≡ true → false ≡ is_some (lines n rows text)
+-- the row as a chunk of eight bytes that is cut off
+pub chunk-whole : (l x m : List ℕ) → l ≡ x ++ m → length x ≡ 8 → 8 ≤ length l
+chunk-whole l x m cut long = omega (arith, ap length cut, length-append x m)
+
+pub chunk-past : (l x m : List ℕ) → l ≡ x ++ m → length x ≡ 8 → drop 8 l ≡ m
+chunk-past l x m cut long = ap (drop 8) cut ∙ drop_at x m 8 long
+
+pub chunk-row : (l x m : List ℕ) → l ≡ x ++ m → length x ≡ 8 → (t : List ℕ) → tree_row_at x t ≡ tree_row_at l t
+chunk-row l x m cut long t =
+    ap (λ y. tree_row_at y t) (sym (ap (take 8) cut ∙ take_at x m 8 long)) ∙ row-alone l t (chunk-whole l x m cut long)
+
+pub lines-left-none : {n : ℕ} {rows text l t : List ℕ} → LinesLeft n rows text l t → 8 ≤ length l → tree_row_at l t ≡ None → false ≡ is_some (lines n rows text)
 unfolding lines
-lines-left-bad {n} {rows} {text} {l} {t} w h b =
+lines-left-none {n} {rows} {text} {l} {t} w h b =
     let go : (m : ℕ) → length l ≡ 8 * m → is_some (lines m l t) ≡ false = elim [
       | zero ↦ λ e. absurd (omega arith)
-      | suc k ↦ λ e. is_some-bad (tree_row_at l t) l t (lines k (drop 8 l) (drop (row_taken (tree_row_at l t)) t)) b
+      | suc k ↦ λ e. ap (λ r. is_some (row_ahead r l t (lines k (drop 8 l) (drop (taken_of r) t)))) b
     ] in
     sym (w.same ∙ go w.rest w.so_many)
 
-pub lines-left-next : {n : ℕ} {rows text l t : List ℕ} → LinesLeft n rows text l t → 8 ≤ length l → (r : TreeRow) → r ≡ tree_row_at l t → is_bad r ≡ false
-    → (x : ℕ) → x ≡ row_taken r → LinesLeft n rows text (take (length l - 8) (drop 8 l)) (take (length t - x) (drop x t))
+pub lines-left-next : {n : ℕ} {rows text l t : List ℕ} → LinesLeft n rows text l t → 8 ≤ length l → (r : TreeRow) → tree_row_at l t ≡ Some r
+    → (x : ℕ) → x ≡ row_taken r → LinesLeft n rows text (drop 8 l) (take (length t - x) (drop x t))
 unfolding lines
-lines-left-next {n} {rows} {text} {l} {t} w h r e b x ex =
+lines-left-next {n} {rows} {text} {l} {t} w h r e x ex =
     let go : (m : ℕ) → length l ≡ 8 * m → is_some (lines n rows text) ≡ is_some (lines m l t) → LinesLeft n rows text (drop 8 l) (drop (row_taken r) t) = elim [
       | zero ↦ λ p q. absurd (omega arith)
       | suc k ↦ λ p q. record {
         rest = k;
         so_many = length-drop 8 l ∙ omega arith;
-        same = q ∙ is_some-row_ahead (tree_row_at l t) l t (lines k (drop 8 l) (drop (row_taken (tree_row_at l t)) t)) (ap is_bad (sym e) ∙ b)
-            ∙ ap (λ x. is_some (lines k (drop 8 l) (drop (row_taken x) t))) (sym e);
+        same = q ∙ ap (λ v. is_some (row_ahead v l t (lines k (drop 8 l) (drop (taken_of v) t)))) e
+            ∙ is_some-row_ahead r l t (lines k (drop 8 l) (drop (row_taken r) t));
       }
     ] in
-    subst (λ y. LinesLeft n rows text y (take (length t - x) (drop x t))) (sym (part-rest l 8))
-    (subst (λ y. LinesLeft n rows text (drop 8 l) y) (ap (λ z. drop z t) (sym ex) ∙ sym (part-rest t x))
-    (go w.rest w.so_many w.same))
+    subst (λ y. LinesLeft n rows text (drop 8 l) y) (ap (λ z. drop z t) (sym ex) ∙ sym (part-rest t x)) (go w.rest w.so_many w.same)
 
 pub lines-left-end : {n : ℕ} {rows text l t : List ℕ} → LinesLeft n rows text l t → length l < 8 → eqb (length t) 0 ≡ is_some (lines n rows text)
 unfolding lines
@@ -76,8 +86,7 @@ lines-left-end {n} {rows} {text} {l} {t} w h =
     nil t ∙ ap (λ m. is_some (lines m l t)) (sym z) ∙ sym w.same
 
 -- a row takes no more text than there is
-pub taken-room : (rows text : List ℕ) (r : TreeRow) → r ≡ tree_row_at rows text → row_taken r ≤ length text
+pub taken-room : (rows text : List ℕ) (r : TreeRow) → tree_row_at rows text ≡ Some r → row_taken r ≤ length text
 taken-room rows text r e =
-    let go : (r : TreeRow) → RowSays rows text r → row_taken r ≤ length text = elim
-    [ Bad ↦ λ s. omega arith | Token m ↦ λ s. s.room | Node m ↦ λ s. omega arith ] in
-    go r (tree-row-says rows text r (sym e))
+    let go : (r : TreeRow) → RowSays rows text (Some r) → row_taken r ≤ length text = elim [ Token m ↦ λ s. s.room | Node m ↦ λ s. omega arith ] in
+    go r (tree-row-says rows text (Some r) e)

@@ -5,6 +5,7 @@ use mathlib.Core.Bool.{Bool, true, false, ◌&&◌, ◌||◌, cond, true≢false
 use mathlib.Core.Option.{Option}
 use mathlib.Core.Option.Option.{none as nothing, some}
 use mathlib.Core.List.{List, ◌++◌, append_assoc}
+use Rattle.std.specs.Prelude.{Result, Ok, Err, ⊤}
 use Prim.Native.Nat.{ℕ, ◌+◌, ◌*◌, ◌-◌, ◌/◌, ◌≤◌, ◌<◌}
 use native.Mathlib.Omega.{arith}
 use lib.Dec.{T, eqb, leb}
@@ -27,10 +28,7 @@ use Rattle.mitex_syntax.proofs.Trees.{length-rowss, size-some, left, no-left, Fi
 use Rattle.tree_file.specs.Shape.{slashed, backslash, sym_fits, unless, or_else, lowest, lowests}
 use Rattle.text.specs.Trailer.{file_most}
 use Rattle.tree_file.specs.Parts.{shape_of, is_frame, is_ruled, first_fits, LowestFrom, PassSays, Scannable, Checkable}
-use Rattle.tree_file.specs.declared.Pass.{Pass}
-use Rattle.tree_file.specs.declared.Pass.TheVariants.{Broke, Past}
-use Rattle.tree_file.specs.declared.Shape.{Shape}
-use Rattle.tree_file.specs.declared.Shape.TheVariants.{Right, Breaks}
+use Rattle.mitex_syntax.specs.declared.Span.{Span}
 use Rattle.tree_file.proofs.Grow.{join}
 use Rattle.tree_file.proofs.Shapes.{token-some, shape-breaks, shape-right}
 
@@ -277,28 +275,27 @@ module _ {g : Forest} {rows text : List ℕ} {e n : ℕ} (w : Spanned rows e n) 
       subst (λ m. Spells x.tree (take m rows) (take n text)) (sym pass-whole-rows)
       (subst (λ m. Spells x.tree (take (8 * size x.tree) rows) (take m text)) (sym pass-whole-text) x.first.first)
 
-  -- what the answer for it says of all
-  module _ (row : ℕ) (a : Shape) (says : (u : Tree) → Spells u (take e rows) (take n text) → a ≡ shape_of (lowest 0 row u)) where
-    pass-whole-lowest : lowests 0 row g ≡ or_else (lowest 0 row x.tree) (lowests 0 (row + size x.tree) x.others)
+  pub pass-whole-rest : SpellsAll x.others (drop e rows) (drop n text)
+  pass-whole-rest =
+      subst (λ m. SpellsAll x.others (drop m rows) (drop n text)) (sym pass-whole-rows)
+      (subst (λ m. SpellsAll x.others (drop (8 * size x.tree) rows) (drop m text)) (sym pass-whole-text) (others-exact x.exact))
+
+  -- what the answer for it says of all, under a node of the kind `up`
+  module _ (up row : ℕ) (a : Result ⊤ ℕ) (says : (u : Tree) → Spells u (take e rows) (take n text) → a ≡ shape_of (lowest up row u)) where
+    pass-whole-lowest : lowests up row g ≡ or_else (lowest up row x.tree) (lowests up (row + size x.tree) x.others)
     unfolding lowest
-    pass-whole-lowest = ap (lowests 0 row) x.is
+    pass-whole-lowest = ap (lowests up row) x.is
 
-    pub pass-whole-breaks : (r : ℕ) → a ≡ Breaks r → lowests 0 row g ≡ some r
+    pub pass-whole-breaks : (r : ℕ) → a ≡ Err r → lowests up row g ≡ some r
     pass-whole-breaks r b =
-        let y = shape-breaks (lowest 0 row x.tree) r (sym (says x.tree pass-whole-spells) ∙ b) in
-        pass-whole-lowest ∙ ap (λ o. or_else o (lowests 0 (row + size x.tree) x.others)) y
+        let y = shape-breaks (lowest up row x.tree) r (sym (says x.tree pass-whole-spells) ∙ b) in
+        pass-whole-lowest ∙ ap (λ o. or_else o (lowests up (row + size x.tree) x.others)) y
 
-    pub pass-whole-past : a ≡ Right → LowestFrom g row (row + e / 8) (drop e rows) (drop n text)
-    pass-whole-past b =
-        let y = shape-right (lowest 0 row x.tree) (sym (says x.tree pass-whole-spells) ∙ b) in
+    pub pass-whole-same : a ≡ Ok tt → lowests up row g ≡ lowests up (row + e / 8) x.others
+    pass-whole-same b =
+        let y = shape-right (lowest up row x.tree) (sym (says x.tree pass-whole-spells) ∙ b) in
         let size_is : size x.tree ≡ e / 8 = sym (ap (λ m. m / 8) pass-whole-rows ∙ omega arith) in
-        let q : SpellsAll x.others (drop (8 * size x.tree) rows) (drop (length (text_of x.tree)) text) = others-exact x.exact in
-        record {
-          forest = x.others;
-          spells = subst (λ m. SpellsAll x.others (drop m rows) (drop n text)) (sym pass-whole-rows)
-              (subst (λ m. SpellsAll x.others (drop (8 * size x.tree) rows) (drop m text)) (sym pass-whole-text) q);
-          same = pass-whole-lowest ∙ ap (λ o. or_else o (lowests 0 (row + size x.tree) x.others)) y ∙ ap (λ m. lowests 0 (row + m) x.others) size_is;
-        }
+        pass-whole-lowest ∙ ap (λ o. or_else o (lowests up (row + size x.tree) x.others)) y ∙ ap (λ m. lowests up (row + m) x.others) size_is
 
 -- ---- the scan
 
@@ -340,13 +337,13 @@ module _ {rows text l t : List ℕ} {at : ℕ} (s : ShapeScan rows text l t at) 
       let d = s.short in
       record { forest = reached.forest; spells = reached.spells; some = h; few = omega arith; short = omega arith }
 
-  pub shape-scan-breaks : (p : Pass) (r : ℕ) → PassSays l t at p → p ≡ Broke r → (u : Tree) → Spells u rows text → Breaks r ≡ shape_of (lowest 0 0 u)
+  pub shape-scan-breaks : (p : Result Span ℕ) (r : ℕ) → PassSays l t at p → p ≡ Err r → (u : Tree) → Spells u rows text → Err r ≡ shape_of (lowest 0 0 u)
   shape-scan-breaks p r w e u sp =
-      let z : PassSays l t at (Broke r) = subst (PassSays l t at) e w in
+      let z : PassSays l t at (Err r) = subst (PassSays l t at) e w in
       let x = s.reach u sp in
       sym (ap shape_of (sym (alone u) ∙ x.same ∙ z x.forest x.spells))
 
-  pub shape-scan-end : length l < 8 → (u : Tree) → Spells u rows text → Right ≡ shape_of (lowest 0 0 u)
+  pub shape-scan-end : length l < 8 → (u : Tree) → Spells u rows text → Ok tt ≡ shape_of (lowest 0 0 u)
   unfolding lowest
   shape-scan-end h u sp =
       let x = s.reach u sp in
@@ -354,9 +351,11 @@ module _ {rows text l t : List ℕ} {at : ℕ} (s : ShapeScan rows text l t at) 
       sym (ap shape_of (sym (alone u) ∙ x.same ∙ ap (lowests 0 at) e))
 
   -- the next place
-  pub shape-scan-moves : (p : Pass) (e n : ℕ) → PassSays l t at p → p ≡ Past e n → ShapeScanMoves rows text l t at e n
-  shape-scan-moves p e n w is =
-      let q : PassSays l t at (Past e n) = subst (PassSays l t at) is w in
+  pub shape-scan-moves : (p : Result Span ℕ) (m : Span) → PassSays l t at p → p ≡ Ok m → ShapeScanMoves rows text l t at m.rows m.text
+  shape-scan-moves p m w is =
+      let e = m.rows in
+      let n = m.text in
+      let q : PassSays l t at (Ok m) = subst (PassSays l t at) is w in
       let b = q.1 in
       let d = s.few in
       let f = s.short in

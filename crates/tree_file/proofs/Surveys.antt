@@ -4,6 +4,7 @@ use mathlib.Core.Path.{◌≡◌, refl, sym, ap, subst, ◌∙◌}
 use mathlib.Core.Bool.{Bool, true}
 use mathlib.Core.Option.Option.{some}
 use mathlib.Core.List.{List, [], ◌∷◌, ◌++◌, append_assoc, append-nil}
+use Rattle.std.specs.Prelude.{Option as Maybe, Some, Ok}
 use Prim.Native.Nat.{ℕ, ◌+◌, ◌*◌, ◌-◌, ◌/◌, ◌≤◌, ◌<◌}
 use native.Mathlib.Omega.{arith}
 use lib.Dec.{T}
@@ -14,7 +15,6 @@ use Rattle.text.proofs.Writing.{part-rest, rest-length}
 use Rattle.utf8.specs.Utf8.{one_byte_each}
 use Rattle.utf8.proofs.Texts.{one-drop}
 use Rattle.text.specs.Trailer.{file_most}
-use Rattle.mitex_syntax.specs.Syntax.{is_node}
 use Rattle.mitex_syntax.specs.Tree.{Forest, sizes, rows_of, rows_ofs, text_of, texts_of}
 use Rattle.mitex_syntax.specs.Tree.Tree.{token, node}
 use Rattle.mitex_syntax.specs.Tree.Forest.{none, more}
@@ -23,11 +23,8 @@ use Rattle.mitex_syntax.proofs.Trees.{length-rowss}
 use Rattle.tree_file.specs.Layout.{lines, grows}
 use Rattle.tree_file.specs.Depth.{depth, depths, depth_most}
 use Rattle.tree_file.specs.Shape.{sym_fits, node_fits, Shaped, ShapedAll}
+use Rattle.tree_file.specs.Check.{accepted_as}
 use Rattle.tree_file.specs.Parts.{bytes_of, texts_in, LinesFit, shape_of, answer_to, TokenStands, NodeStands, Surveyed, SurveySays, Surveyable}
-use Rattle.tree_file.specs.declared.Survey.{Survey}
-use Rattle.tree_file.specs.declared.Survey.TheVariants.{Covers}
-use Rattle.tree_file.specs.declared.Shape.TheVariants.{Right}
-use Rattle.tree_file.specs.declared.Checked.TheVariants.{Whole}
 use Rattle.tree_file.proofs.Grow.{lines_ofs, grow-complete, length-liness}
 use Rattle.tree_file.proofs.Rows.{lines-complete, same_rows}
 use Rattle.tree_file.proofs.Decode.{bytes-all, text-all, fits-forest}
@@ -54,10 +51,6 @@ module _ (rows : List ℕ) (by : Bytes rows) (h : 8 ≤ length rows) where
     fits = subst T (sym fits) tt;
     right = subst T (sym right) tt;
   }
-
-  pub node-stands : four_at 0 rows < 256 → is_node (get_or rows 0 0) ≡ true → (n : ℕ) → n ≡ four_at 4 rows → NodeStands rows (8 + 8 * n)
-  node-stands low kind n e =
-      record { under = n; end = refl; rows_are = row_is 0 n (omega arith) (omega arith) low e; kind = subst T (sym kind) tt }
 
 -- ---- elements that are right
 
@@ -203,32 +196,37 @@ module _ {up left : ℕ} {rows text : List ℕ} {plain : Bool} {l t : List ℕ} 
     pub under-asks : Surveyable (take (e - 8) (drop 8 l)) t plain
     under-asks = let few = s.asks.few in record { few = omega (arith, under-length); short = s.asks.short; one_each = s.asks.one_each }
 
-    module _ {a : Survey} {n : ℕ} (says : SurveySays (get_or l 0 0) (left - 1) (take (e - 8) (drop 8 l)) t a) (told : a ≡ Covers n) where
-      under-right : Surveyed (get_or l 0 0) (left - 1) (take (e - 8) (drop 8 l)) t n
-      under-right = subst (SurveySays (get_or l 0 0) (left - 1) (take (e - 8) (drop 8 l)) t) told says
+    module _
+        {under : List ℕ} (same : under ≡ take (e - 8) (drop 8 l)) {a : Maybe ℕ} {n : ℕ} (says : SurveySays (get_or l 0 0) (left - 1) under t a)
+        (told : a ≡ Some n)
+      where
+        under-right : Surveyed (get_or l 0 0) (left - 1) (take (e - 8) (drop 8 l)) t n
+        under-right =
+            subst (SurveySays (get_or l 0 0) (left - 1) (take (e - 8) (drop 8 l)) t) told
+            (subst (λ r. SurveySays (get_or l 0 0) (left - 1) r t a) same says)
 
-      pub under-room : n ≤ length t
-      under-room = survey-room under-right
+        pub under-room : n ≤ length t
+        under-room = survey-room under-right
 
-      pub under_some : SomeForest (take (e - 8) (drop 8 l)) t 0 0
-      under_some =
-          let few = under-asks.few in
-          let short = s.asks.short in
-          record {
-            few = omega arith;
-            short = omega arith;
-            low = omega arith;
-            begun = omega arith;
-            forest = under-right.forest;
-            begins = under-right.begins;
-          }
+        pub under_some : SomeForest (take (e - 8) (drop 8 l)) t 0 0
+        under_some =
+            let few = under-asks.few in
+            let short = s.asks.short in
+            record {
+              few = omega arith;
+              short = omega arith;
+              low = omega arith;
+              begun = omega arith;
+              forest = under-right.forest;
+              begins = under-right.begins;
+            }
 
-      pub past-node :
-          1 ≤ left → (b : Bool) → ((f : Forest) → Begins f (take (e - 8) (drop 8 l)) t → b ≡ node_fits (get_or l 0 0) f) → b ≡ true
-          → Surveying up left rows text plain (past e l) (past n t)
-      past-node deep b fits h =
-          let g = under-right in
-          survey-next e n under-room (λ m w. survey-node x inside deep g (subst T (sym h ∙ fits g.forest g.begins) tt) w)
+        pub past-node :
+            1 ≤ left → (b : Bool) → ((f : Forest) → Begins f under t → b ≡ node_fits (get_or l 0 0) f) → b ≡ true
+            → Surveying up left rows text plain (past e l) (past n t)
+        past-node deep b fits h =
+            let g = under-right in
+            survey-next e n under-room (λ m w. survey-node x inside deep g (subst T (sym h ∙ fits g.forest (subst (λ r. Begins g.forest r t) (sym same) g.begins)) tt) w)
 
 -- ---- the answer
 
@@ -264,8 +262,8 @@ spelt-grows f {rows} {text} sp few short n e =
 -- the answer for a root that is right
 pub survey-whole :
     {f : Forest} {b : ℕ} (a : Rooted-as f b) {rows text : List ℕ} → SpellsAll f rows text → depths f ≤ depth_most → ShapedAll 0 f
-    → Whole (length text) (length rows / 8) b ≡ answer_to (some f)
+    → accepted_as (length text) (length rows / 8) b ≡ answer_to (some f)
 unfolding Shaped
 survey-whole {f} {b} a sp low h =
     let s : ShapedAll 0 (more a.tree none) = subst (ShapedAll 0) a.is h in
-    answer-whole a low Right (sym (ap shape_of (shaped-lowest 0 0 a.tree s.0))) sp refl
+    answer-whole a low (Ok tt) (sym (ap shape_of (shaped-lowest 0 0 a.tree s.0))) sp refl

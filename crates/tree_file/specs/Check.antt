@@ -1,6 +1,6 @@
 -- What the check of a tree file answers: refusal 3, 4 or 5, the first that holds, or the tree. Each answer is right, and given
 -- wherever it is (proofs/Bridge.antt): `accepted-says` and `accepts-laid`, `refused-3` and `refuses-3`, `refuses-4`, `refuses-5`.
-use Rattle.std.specs.Prelude.{cond, ℕ, List, length, leb}
+use Rattle.std.specs.Prelude.{cond, ℕ, List, length, leb, Result, Ok, Err}
 use Rattle.std.proofs.Math.Option.{Option}
 use Rattle.std.proofs.Math.Option.Option.{none as nothing, some}
 use Rattle.mitex_syntax.specs.Tree.{Tree, Forest, size, text_of, count}
@@ -8,8 +8,9 @@ use Rattle.mitex_syntax.specs.Views.{children_of}
 use Rattle.tree_file.specs.Layout.{decode}
 use Rattle.tree_file.specs.Depth.{depth, depth_most}
 use Rattle.tree_file.specs.Shape.{lowest}
-use Rattle.tree_file.specs.declared.Checked.{Checked}
-use Rattle.tree_file.specs.declared.Checked.TheVariants.{Whole, Refused}
+use Rattle.refusals.specs.Refusals.{refusal_of}
+use Rattle.refusals.specs.declared.Refusal.{Refusal}
+use Rattle.tree_file.specs.declared.Whole.{Whole}
 
 -- the refusals, in checking order
 abbrev pub bad_layout : ℕ
@@ -43,6 +44,15 @@ abbrev pub blocks_of : Tree → Forest
 blocks_of t = children_of t
 
 -- the code's answer: a refusal with its number and row, or where the rows start, how many they are, and how many the blocks are
+abbrev pub Checked : Type 0
+Checked = Result Whole Refusal
+
+abbrev pub refuses : ℕ → ℕ → Checked
+refuses number row = Err (refusal_of number row)
+
+abbrev pub accepted_as : ℕ → ℕ → ℕ → Checked
+accepted_as start rows blocks = Ok (record { start = start; rows = rows; blocks = blocks })
+
 abbrev pub checked_answer : Verdict → Checked
-checked_answer (refused number row) = Refused number row
-checked_answer (accepted t) = Whole (length (text_of t)) (size t) (count (blocks_of t))
+checked_answer (refused number row) = refuses number row
+checked_answer (accepted t) = accepted_as (length (text_of t)) (size t) (count (blocks_of t))

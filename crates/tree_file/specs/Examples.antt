@@ -13,10 +13,8 @@ use Rattle.mitex_syntax.specs.Views.{first_by, first_token}
 use Rattle.tree_file.specs.Layout.{tree_row_at, lines, grow, split, decode}
 use Rattle.tree_file.specs.Depth.{depth}
 use Rattle.tree_file.specs.Shape.{lowest}
-use Rattle.tree_file.specs.Check.{check_tree, checked_answer}
+use Rattle.tree_file.specs.Check.{check_tree, Checked, refuses, accepted_as, checked_answer}
 use Rattle.tree_file.specs.Check.Verdict.{accepted}
-use Rattle.tree_file.specs.declared.Checked.{Checked}
-use Rattle.tree_file.specs.declared.Checked.TheVariants.{Whole, Refused}
 
 -- ---- trees
 
@@ -76,22 +74,22 @@ shapes :
     ∷ []
     )
     ≡ (
-    Whole 7 4 2
-    ∷ Refused 5 2
-    ∷ Refused 5 2
-    ∷ Refused 5 2
-    ∷ Whole 8 3 2
-    ∷ Refused 5 2
-    ∷ Whole 7 4 2
-    ∷ Whole 7 4 2
-    ∷ Refused 5 4
-    ∷ Refused 5 2
-    ∷ Refused 5 2
-    ∷ Whole 5 5 2
-    ∷ Whole 3 5 2
-    ∷ Whole 4 6 2
-    ∷ Refused 5 2
-    ∷ Refused 5 2
+    accepted_as 7 4 2
+    ∷ refuses 5 2
+    ∷ refuses 5 2
+    ∷ refuses 5 2
+    ∷ accepted_as 8 3 2
+    ∷ refuses 5 2
+    ∷ accepted_as 7 4 2
+    ∷ accepted_as 7 4 2
+    ∷ refuses 5 4
+    ∷ refuses 5 2
+    ∷ refuses 5 2
+    ∷ accepted_as 5 5 2
+    ∷ accepted_as 3 5 2
+    ∷ accepted_as 4 6 2
+    ∷ refuses 5 2
+    ∷ refuses 5 2
     ∷ []
     )
 unfolding check_tree decode file_of rows_of text_of size lines tree_row_at grow split valid char_steps count depth lowest first_by first_token same
@@ -117,20 +115,20 @@ arguments-fit :
     ∷ []
     )
     ≡ (
-    Refused 5 2
-    ∷ Refused 5 2
-    ∷ Whole 11 6 2
-    ∷ Refused 5 2
-    ∷ Refused 5 3
-    ∷ Whole 21 7 2
-    ∷ Whole 23 10 2
-    ∷ Refused 5 2
-    ∷ Whole 22 10 2
-    ∷ Refused 5 2
-    ∷ Refused 5 2
-    ∷ Refused 5 2
-    ∷ Whole 8 5 2
-    ∷ Whole 12 4 2
+    refuses 5 2
+    ∷ refuses 5 2
+    ∷ accepted_as 11 6 2
+    ∷ refuses 5 2
+    ∷ refuses 5 3
+    ∷ accepted_as 21 7 2
+    ∷ accepted_as 23 10 2
+    ∷ refuses 5 2
+    ∷ accepted_as 22 10 2
+    ∷ refuses 5 2
+    ∷ refuses 5 2
+    ∷ refuses 5 2
+    ∷ accepted_as 8 5 2
+    ∷ accepted_as 12 4 2
     ∷ []
     )
 unfolding check_tree decode file_of rows_of text_of size lines tree_row_at grow split valid char_steps count depth lowest first_by first_token same
@@ -155,7 +153,7 @@ files-fit :
     ∷ root_over 3 (tree_row ItemCurly 0 2 ++ (tree_row ItemCurly 0 0 ++ tree_row TokenWord 1 1)) 4
     ∷ []
     )
-    ≡ (Whole 1 2 1 ∷ Whole 0 1 0 ∷ Whole 1 4 1 ∷ [])
+    ≡ (accepted_as 1 2 1 ∷ accepted_as 0 1 0 ∷ accepted_as 1 4 1 ∷ [])
 unfolding check_tree decode rows_of text_of size lines tree_row_at grow split valid char_steps count depth lowest
 files-fit = refl
 
@@ -184,7 +182,7 @@ files-break :
     ∷ file_of_tree (130 ∷ []) (tree_row ScopeRoot 0 1 ++ tree_row TokenWord 1 1) 1 2
     ∷ []
     )
-    ≡ replicate 19 (Refused 3 0)
+    ≡ replicate 19 (refuses 3 0)
 unfolding check_tree decode rows_of text_of size lines tree_row_at grow split valid char_steps count depth lowest
 files-break = refl
 
@@ -198,6 +196,6 @@ limits :
     map checked (
     doc (nest 62 (word_of (ascii "a"))) ∷ doc (nest 63 (word_of (ascii "a"))) ∷ node ScopeRoot (flat 512) ∷ node ScopeRoot (flat 513) ∷ []
     )
-    ≡ (Whole 3 65 2 ∷ Refused 4 0 ∷ Whole 512 513 512 ∷ Refused 3 0 ∷ [])
+    ≡ (accepted_as 3 65 2 ∷ refuses 4 0 ∷ accepted_as 512 513 512 ∷ refuses 3 0 ∷ [])
 unfolding check_tree decode file_of rows_of text_of size lines tree_row_at grow split valid char_steps count depth lowest
 limits = refl

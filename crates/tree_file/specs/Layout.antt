@@ -1,7 +1,7 @@
 -- The layout of a tree file (refusal 3): the trailer (crate text, specs/Trailer.antt), the rows one by one while their token texts
 -- fill the text area, the nesting of the rows, and the root over its blocks. `decode` gives the tree of a file that is laid out right; `decode-sound`
 -- and `decode-complete` (proofs/Decode.antt) say that these are the files of trees within the limits, and no others.
-use Rattle.std.specs.Prelude.{◌&&◌, cond, ◌≡◌, ℕ, zero, suc, ◌-◌, ◌≤◌, List, [], ◌∷◌, length, get_or, take, drop, eqb, leb}
+use Rattle.std.specs.Prelude.{◌&&◌, cond, ◌≡◌, ℕ, zero, suc, ◌-◌, ◌≤◌, List, [], ◌∷◌, length, get_or, take, drop, eqb, leb, Option as Maybe, Some, None}
 use Rattle.std.proofs.Math.Option.{Option}
 use Rattle.std.proofs.Math.Option.Option.{none as nothing, some}
 use Rattle.text.specs.Numbers.{four_at}
@@ -12,7 +12,7 @@ use Rattle.mitex_syntax.specs.Tree.Tree.{token, node}
 use Rattle.mitex_syntax.specs.Tree.Forest.{none, more}
 use Rattle.mitex_syntax.specs.Spells.{token_fits, Sound}
 use Rattle.tree_file.specs.declared.TreeRow.{TreeRow}
-use Rattle.tree_file.specs.declared.TreeRow.TheVariants.{Bad, Token, Node}
+use Rattle.tree_file.specs.declared.TreeRow.TheVariants.{Token, Node}
 
 -- the blocks are at most 512
 abbrev pub blocks_most : ℕ
@@ -21,18 +21,18 @@ blocks_most = 512
 -- ---- the rows
 
 -- the row that stands first, where `text` is left: a token with its text length
-abbrev pub token_row : List ℕ → List ℕ → TreeRow
+abbrev pub token_row : List ℕ → List ℕ → Maybe TreeRow
 token_row rows text =
-    cond (leb (four_at 4 rows) (length text) && token_fits (get_or rows 0 0) (take (four_at 4 rows) text)) (Token (four_at 4 rows)) Bad
+    cond (leb (four_at 4 rows) (length text) && token_fits (get_or rows 0 0) (take (four_at 4 rows) text)) (Some (Token (four_at 4 rows))) None
 
 -- or a node with how many rows lie under it
-abbrev pub node_row : List ℕ → TreeRow
-node_row rows = cond (eqb (get_or rows 1 0) 0 && is_node (get_or rows 0 0)) (Node (four_at 4 rows)) Bad
+abbrev pub node_row : List ℕ → Maybe TreeRow
+node_row rows = cond (eqb (get_or rows 1 0) 0 && is_node (get_or rows 0 0)) (Some (Node (four_at 4 rows))) None
 
 -- kind, 0 node or 1 token, two zero bytes, then the number
-unfoldable pub tree_row_at : List ℕ → List ℕ → TreeRow
+unfoldable pub tree_row_at : List ℕ → List ℕ → Maybe TreeRow
 tree_row_at rows text =
-    cond (eqb (get_or rows 2 0) 0 && eqb (get_or rows 3 0) 0) (cond (eqb (get_or rows 1 0) 1) (token_row rows text) (node_row rows)) Bad
+    cond (eqb (get_or rows 2 0) 0 && eqb (get_or rows 3 0) 0) (cond (eqb (get_or rows 1 0) 1) (token_row rows text) (node_row rows)) None
 
 -- a row that was read: a token with its text, or a node with how many rows lie under it
 pub data Line : Type 0 where
@@ -41,21 +41,24 @@ pub data Line : Type 0 where
 
 -- the bytes of text that a row takes
 abbrev pub row_taken : TreeRow → ℕ
-row_taken Bad = 0
 row_taken (Token m) = m
 row_taken (Node m) = 0
 
+abbrev pub taken_of : Maybe TreeRow → ℕ
+taken_of None = 0
+taken_of (Some r) = row_taken r
+
 -- a row before those that come after it
-abbrev pub row_ahead : TreeRow → List ℕ → List ℕ → Option (List Line) → Option (List Line)
-row_ahead Bad rows text o = nothing
-row_ahead (Token m) rows text o = ahead (token_line (get_or rows 0 0) (take m text)) o
-row_ahead (Node m) rows text o = ahead (node_line (get_or rows 0 0) m) o
+abbrev pub row_ahead : Maybe TreeRow → List ℕ → List ℕ → Option (List Line) → Option (List Line)
+row_ahead None rows text o = nothing
+row_ahead (Some (Token m)) rows text o = ahead (token_line (get_or rows 0 0) (take m text)) o
+row_ahead (Some (Node m)) rows text o = ahead (node_line (get_or rows 0 0) m) o
 
 -- as many rows as said, whose token texts fill the text in order
 unfoldable pub lines : ℕ → List ℕ → List ℕ → Option (List Line)
 lines zero rows [] = some []
 lines zero rows (b ∷ s) = nothing
-lines (suc n) rows text = row_ahead (tree_row_at rows text) rows text (lines n (drop 8 rows) (drop (row_taken (tree_row_at rows text)) text))
+lines (suc n) rows text = row_ahead (tree_row_at rows text) rows text (lines n (drop 8 rows) (drop (taken_of (tree_row_at rows text)) text))
 
 -- ---- rows in preorder: a child's rows end no later than its parent's
 

@@ -1,5 +1,6 @@
 -- What the parts of the check promise, each of what it is handed.
-use Rattle.std.specs.Prelude.{◌≡◌, Bool, true, false, ◌&&◌, ◌||◌, cond, ℕ, suc, ◌+◌, ◌*◌, ◌/◌, ◌≤◌, ◌<◌, List, [], ◌∷◌, ◌++◌, length, take, drop, get_or, T, eqb, leb}
+use Rattle.std.specs.Prelude.{◌≡◌, Bool, true, ◌&&◌, ◌||◌, cond, ℕ, suc, ◌+◌, ◌*◌, ◌/◌, ◌≤◌, ◌<◌, List, [], ◌∷◌, ◌++◌, length, take, drop, get_or, T, eqb, leb, Option as Maybe, Some, None, Result, Ok, Err, ⊤}
+use Rattle.std.specs.Option.{is_some}
 use Rattle.std.proofs.Math.Option.{Option}
 use Rattle.std.proofs.Math.Option.Option.{none as nothing, some}
 use Rattle.text.specs.Numbers.{four, four_at}
@@ -11,26 +12,15 @@ use Rattle.mitex_syntax.specs.Tree.{Tree, Forest, rows_of, rows_ofs, texts_of, c
 use Rattle.mitex_syntax.specs.Tree.Tree.{token, node}
 use Rattle.mitex_syntax.specs.Tree.Forest.{none, more}
 use Rattle.mitex_syntax.specs.Spells.{token_fits, SpellsAll, Begins, SomeTree}
+use Rattle.mitex_syntax.specs.declared.Span.{Span}
 use Rattle.mitex_syntax.specs.declared.Spot.{Spot}
-use Rattle.mitex_syntax.specs.declared.Spot.TheVariants.{Nowhere, At}
 use Rattle.tree_file.specs.Layout.{blocks_most, Line, root}
 use Rattle.tree_file.specs.Layout.Line.{token_line, node_line}
 use Rattle.tree_file.specs.Depth.{depths, depth_most}
 use Rattle.tree_file.specs.Shape.{sym_fits, node_fits, lowests, ShapedAll}
-use Rattle.tree_file.specs.Check.{by_depth, checked_answer}
-use Rattle.tree_file.specs.declared.TreeRow.{TreeRow}
-use Rattle.tree_file.specs.declared.TreeRow.TheVariants.{Bad, Token, Node}
-use Rattle.tree_file.specs.declared.Nest.{Nest}
-use Rattle.tree_file.specs.declared.Nest.TheVariants.{Broken, Deep, Fine}
-use Rattle.tree_file.specs.declared.Blocks.{Blocks}
-use Rattle.tree_file.specs.declared.Blocks.TheVariants.{Amiss, Are}
-use Rattle.tree_file.specs.declared.Checked.{Checked}
-use Rattle.tree_file.specs.declared.Pass.{Pass}
-use Rattle.tree_file.specs.declared.Pass.TheVariants.{Broke, Past}
-use Rattle.tree_file.specs.declared.Shape.{Shape}
-use Rattle.tree_file.specs.declared.Shape.TheVariants.{Right, Breaks}
-use Rattle.tree_file.specs.declared.Survey.{Survey}
-use Rattle.tree_file.specs.declared.Survey.TheVariants.{Unsure, Covers}
+use Rattle.tree_file.specs.Check.{Checked, by_depth, checked_answer}
+use Rattle.tree_file.specs.declared.Unnested.{Unnested}
+use Rattle.tree_file.specs.declared.Unnested.TheVariants.{Broken, Deep}
 
 -- ---- rows that were read
 
@@ -51,11 +41,6 @@ LinesFit [] = Unit {0}
 LinesFit (token_line k s ∷ ls) = T (token_fits k s) × (length s < cap) × LinesFit ls
 LinesFit (node_line k n ∷ ls) = T (is_node k) × (n < cap) × LinesFit ls
 
-abbrev pub is_bad : TreeRow → Bool
-is_bad Bad = true
-is_bad (Token m) = false
-is_bad (Node m) = false
-
 -- the rows under the row that stands first
 abbrev pub under_of : List ℕ → ℕ
 under_of rows = cond (eqb (get_or rows 1 0) 1) 0 (four_at 4 rows)
@@ -63,27 +48,26 @@ under_of rows = cond (eqb (get_or rows 1 0) 1) 0 (four_at 4 rows)
 -- ---- answers
 
 -- rows nest no deeper than `left`, or deeper, or not at all
-abbrev pub Nested : Option Forest → ℕ → Nest → Type 0
-Nested o left Broken = o ≡ nothing
-Nested o left Deep = (f : Forest) → o ≡ some f → suc left ≤ depths f
-Nested o left Fine = (f : Forest) × ((o ≡ some f) × (depths f ≤ left))
+abbrev pub Nested : Option Forest → ℕ → Result ⊤ Unnested → Type 0
+Nested o left (Err Broken) = o ≡ nothing
+Nested o left (Err Deep) = (f : Forest) → o ≡ some f → suc left ≤ depths f
+Nested o left (Ok u) = (f : Forest) × ((o ≡ some f) × (depths f ≤ left))
 
 -- a root that is one, and how many blocks it has
-abbrev pub root_blocks : Forest → Blocks
-root_blocks none = Amiss
-root_blocks (more t (more u f)) = Amiss
-root_blocks (more (token k s) none) = Amiss
-root_blocks (more (node k f) none) = cond (eqb k ScopeRoot && leb (count f) blocks_most) (Are (count f)) Amiss
+abbrev pub root_blocks : Forest → Maybe ℕ
+root_blocks none = None
+root_blocks (more t (more u f)) = None
+root_blocks (more (token k s) none) = None
+root_blocks (more (node k f) none) = cond (eqb k ScopeRoot && leb (count f) blocks_most) (Some (count f)) None
 
 -- something was found
-abbrev pub is_there : Spot → Bool
-is_there Nowhere = false
-is_there (At a b c d) = true
+abbrev pub is_there : Maybe Spot → Bool
+is_there r = is_some r
 
 -- whether a row breaks a rule
-abbrev pub shape_of : Option ℕ → Shape
-shape_of nothing = Right
-shape_of (some row) = Breaks row
+abbrev pub shape_of : Option ℕ → Result ⊤ ℕ
+shape_of nothing = Ok tt
+shape_of (some row) = Err row
 
 -- ---- the scan for shape
 
@@ -106,12 +90,12 @@ pub record LowestFrom (f : Forest) (row next : ℕ) (rows text : List ℕ) : Typ
   pub spells : SpellsAll forest rows text
   pub same : lowests 0 row f ≡ lowests 0 next forest
 
--- what stands first breaks a rule, or e bytes of rows and n of text on what is left decides
-abbrev pub PassSays : List ℕ → List ℕ → ℕ → Pass → Type 0
-PassSays rows text row (Broke r) = (f : Forest) → SpellsAll f rows text → lowests 0 row f ≡ some r
-PassSays rows text row (Past e n) =
-    (8 ≤ e) × (e ≤ length rows) × (n ≤ length text)
-    × ((f : Forest) → SpellsAll f rows text → LowestFrom f row (row + e / 8) (drop e rows) (drop n text))
+-- what stands first breaks a rule, or so many bytes of rows and of text on what is left decides
+abbrev pub PassSays : List ℕ → List ℕ → ℕ → Result Span ℕ → Type 0
+PassSays rows text row (Err r) = (f : Forest) → SpellsAll f rows text → lowests 0 row f ≡ some r
+PassSays rows text row (Ok s) =
+    (8 ≤ s.rows) × (s.rows ≤ length rows) × (s.text ≤ length text)
+    × ((f : Forest) → SpellsAll f rows text → LowestFrom f row (row + s.rows / 8) (drop s.rows rows) (drop s.text text))
 
 -- the answer for the trees that the rows of a file grow to
 abbrev pub answer_to : Option Forest → Checked
@@ -143,9 +127,9 @@ pub record Surveyed (up left : ℕ) (rows text : List ℕ) (n : ℕ) : Type 0 wh
   pub shaped : ShapedAll up forest
 
 -- an answer that is not sure says nothing
-abbrev pub SurveySays : ℕ → ℕ → List ℕ → List ℕ → Survey → Type 0
-SurveySays up left rows text Unsure = Unit {0}
-SurveySays up left rows text (Covers n) = Surveyed up left rows text n
+abbrev pub SurveySays : ℕ → ℕ → List ℕ → List ℕ → Maybe ℕ → Type 0
+SurveySays up left rows text None = Unit {0}
+SurveySays up left rows text (Some n) = Surveyed up left rows text n
 
 -- ---- what is asked
 

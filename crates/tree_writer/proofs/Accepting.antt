@@ -2,11 +2,11 @@
 use mathlib.Core.Path.{◌≡◌, refl, ap, ◌∙◌}
 use mathlib.Core.Bool.{Bool, true, false, ◌&&◌, ◌||◌, not, cond, and-eq-true_iff}
 use mathlib.Core.List.{List}
-use Prim.Native.Nat.{ℕ, ◌+◌, ◌≤◌, ◌<◌}
+use Prim.Native.Nat.{ℕ, ◌+◌, ◌≤◌}
 use native.Mathlib.Omega.{arith}
 use lib.ListN.{length}
 use lib.Dec.{ltb}
-use borrow.Author.Tests.{eq-eqb, ne_eqb, ltb-false, lt-ltb, le-ltb, not-true}
+use borrow.Author.Tests.{eq-eqb, ne_eqb, ltb-false, le-ltb, not-true}
 use Rattle.text.specs.Trailer.{file_most}
 use Rattle.tree_file.specs.Layout.{blocks_most}
 use Rattle.tree_file.specs.Depth.{depth_most}
@@ -48,11 +48,6 @@ limits-none room size blocks depth p q r s =
     ap (λ b. cond (b || ltb blocks_most blocks) bad_layout (cond (ltb depth_most depth) too_deep (cond (ltb room size) too_short 0))) (le-ltb file_most size p)
     ∙ ap (λ b. cond b bad_layout (cond (ltb depth_most depth) too_deep (cond (ltb room size) too_short 0))) (le-ltb blocks_most blocks q)
     ∙ ap (λ b. cond b too_deep (cond (ltb room size) too_short 0)) (le-ltb depth_most depth r) ∙ ap (λ b. cond b too_short 0) (le-ltb room size s)
-
-pub limits-long : (room size blocks depth : ℕ) → file_most < size → limit_passed room size blocks depth ≡ bad_layout
-limits-long room size blocks depth h =
-    ap (λ a. cond (a || ltb blocks_most blocks) bad_layout (cond (ltb depth_most depth) too_deep (cond (ltb room size) too_short 0)))
-    (lt-ltb file_most size h)
 
 -- ---- by the file so far
 

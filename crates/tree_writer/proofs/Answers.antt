@@ -12,16 +12,18 @@ use borrow.Author.Tests.{leb-true, eqb-true, ne_eqb, not-true}
 use Rattle.text.specs.Trailer.{file_most}
 use Rattle.tree_file.specs.Layout.{blocks_most}
 use Rattle.tree_file.specs.Depth.{depth_most}
-use Rattle.tree_file.specs.Check.{bad_layout}
 use Rattle.tree_writer.specs.Steps.{Step, opens_node, adds_token, closes_node, finishes}
-use Rattle.tree_writer.specs.SoFar.{size_with, blocks_with, with_step, is_in_place, limit_passed, row_limit, step_limit, step_answer, out_of_place}
+use Rattle.tree_writer.specs.SoFar.{size_with, blocks_with, with_step, is_in_place, step_limit, step_answer, out_of_place}
 use Rattle.tree_writer.specs.Writers.{so_far}
 use Rattle.tree_writer.specs.Writers.{possible, same_room, may_step, answer_step}
-use Rattle.tree_writer.specs.Buffers.{row_place, back_number, back_number_at, back_row, filed, buffer_after, writer_after, take_step, TakesStep}
+use Rattle.tree_writer.specs.Buffers.{row_place, back_number, back_number_at, back_row, filed, buffer_after, writer_after, reason_number, take_step, TakesStep}
 use Rattle.tree_writer.specs.declared.Writer.{Writer}
-use Rattle.tree_writer.specs.declared.StepTaken.{StepTaken}
+use Rattle.refusals.specs.Refusals.{refusal_number}
+use Rattle.refusals.specs.declared.Reason.{Reason}
+use Rattle.refusals.specs.declared.Reason.TheVariants.{NoMode, BadRules, BadLayout, TooDeep, BadShape, NoFit, Misplaced, UnlikeEnds, NoCommand, NoEnvironment, NoList, NoArgument, BadColumn, LongLabel, TooShort, OutOfPlace}
+use Rattle.std.specs.Prelude.{⊤, Result, Ok, Err}
 use Rattle.tree_writer.proofs.Possible.{OpenedAs, opened_at_root, opened_in_block, possible-says, possible-none}
-use Rattle.tree_writer.proofs.Accepting.{LimitsKept, limits-kept, limits-long, step-done, step-refused}
+use Rattle.tree_writer.proofs.Accepting.{step-done, step-refused}
 
 -- ---- writers that steps can have left
 
@@ -102,18 +104,11 @@ answer-says w b s e =
     let z = zero-says (may_step w b p) (step_limit (length b) (so_far w) s) (sym (answer-decided w b s) ∙ e) in
     (may-says w b p z.0, z.1)
 
--- ---- a close and a finish, which pass no limit
+-- a step that is taken may be tried
+pub tried-says : (t : Bool) (n : ℕ) → 0 ≡ cond t n out_of_place → t ≡ true
+tried-says t n e = (zero-says t n (sym e)).0
 
-pub refused-by :
-    (w : Writer) (b : List ℕ) (s : Step) {p : Bool} → p ≡ is_in_place (so_far w) s → may_step w b p ≡ false → out_of_place ≡ answer_step w b s
-refused-by w b s q t =
-    answer-by w b s q (sym (ap (λ x. cond x (step_limit (length b) (so_far w) s) out_of_place) t))
-
-pub accepted-by :
-    (w : Writer) (b : List ℕ) (s : Step) {p : Bool} → step_limit (length b) (so_far w) s ≡ 0 → p ≡ is_in_place (so_far w) s → may_step w b p ≡ true
-    → answer_step w b s ≡ 0
-accepted-by w b s z q t =
-    sym (answer-by w b s q (sym (ap (λ x. cond x (step_limit (length b) (so_far w) s) out_of_place) t ∙ z)))
+-- ---- what a writer that may be tried keeps
 
 -- the text and the rows, with the trailer, fit the buffer
 pub record FileKept (w : Writer) (b : List ℕ) : Type 0 where
@@ -142,59 +137,54 @@ finish-kept w b {p} q t =
     let placed = (and-eq-true_iff (leb 1 w.rows) (eqb w.depth 0)).0 (sym q ∙ m.in_place) in
     file-kept w b p (leb-true 1 w.rows placed.0) m
 
--- ---- a row that is added
-
--- a row with n bytes of text was accepted
-pub record RowKept (w : Writer) (b : List ℕ) (n : ℕ) : Type 0 where
-  pub could : WriterBounds w
-  pub kept : LimitsKept (length b) (size_with (w.text + n) (w.rows + 1)) (blocks_with w.depth w.blocks) (w.depth + 1)
-
-pub row_kept :
-    (w : Writer) (b : List ℕ) (placed : Bool) (n : ℕ) {r : ℕ} → r ≡ cond (may_step w b placed) (row_limit (length b) (so_far w) n) out_of_place
-    → r ≡ 0 → RowKept w b n
-row_kept w b placed n e z =
-    let t = zero-says (may_step w b placed) (row_limit (length b) (so_far w) n) (sym e ∙ z) in
-    record { could = (may-says w b placed t.0).could; kept = limits-kept _ _ _ _ t.1 }
-
--- the limits say the answer to a row, once it may be tried
-pub row_by :
-    (w : Writer) (b : List ℕ) (placed : Bool) (n : ℕ) {r c : ℕ} → may_step w b placed ≡ true → c ≡ blocks_with w.depth w.blocks
-    → r ≡ limit_passed (length b) (size_with (w.text + n) (w.rows + 1)) c (w.depth + 1)
-    → r ≡ cond (may_step w b placed) (row_limit (length b) (so_far w) n) out_of_place
-row_by w b placed n t q e =
-    e
-    ∙ ap (λ x. limit_passed (length b) (size_with (w.text + n) (w.rows + 1)) x (w.depth + 1)) q
-    ∙ sym (ap (λ x. cond x (row_limit (length b) (so_far w) n) out_of_place) t)
-
-pub row-long :
-    (w : Writer) (b : List ℕ) (placed : Bool) (n : ℕ) → may_step w b placed ≡ true → file_most < n
-    → bad_layout ≡ cond (may_step w b placed) (row_limit (length b) (so_far w) n) out_of_place
-row-long w b placed n t h =
-    row_by w b placed n t refl
-    (sym (limits-long (length b) (size_with (w.text + n) (w.rows + 1)) (blocks_with w.depth w.blocks) (w.depth + 1) (omega arith)))
-
 -- ---- what a call gives
 
-pub gives-refused :
-    (w : Writer) (b : List ℕ) (s : Step) (r : StepTaken) → r.number ≡ answer_step w b s → (r.number ≡ 0 → ⊥) → r.writer ≡ w
-    → TakesStep (take_step w b s) r b
-gives-refused w b s r e h q =
-    let is = step-refused w b s (λ z. h (e ∙ z)) in
+-- no reason has the number of an accepted step
+pub some-number : (e : Reason) → refusal_number e ≡ 0 → ⊥
+some-number e z =
+    elim e as (λ r. refusal_number r ≡ 0 → ⊥) [
+      | NoMode ↦ λ q. omega arith
+      | BadRules ↦ λ q. omega arith
+      | BadLayout ↦ λ q. omega arith
+      | TooDeep ↦ λ q. omega arith
+      | BadShape ↦ λ q. omega arith
+      | NoFit ↦ λ q. omega arith
+      | Misplaced ↦ λ q. omega arith
+      | UnlikeEnds ↦ λ q. omega arith
+      | NoCommand ↦ λ q. omega arith
+      | NoEnvironment ↦ λ q. omega arith
+      | NoList ↦ λ q. omega arith
+      | NoArgument ↦ λ q. omega arith
+      | BadColumn ↦ λ q. omega arith
+      | LongLabel ↦ λ q. omega arith
+      | TooShort ↦ λ q. omega arith
+      | OutOfPlace ↦ λ q. omega arith
+    ] z
+
+-- a step that is refused by its tests leaves writer and buffer
+pub refuses :
+    (w : Writer) (b : List ℕ) (s : Step) {p : Bool} {e : Reason} {said : Result ⊤ Reason} → p ≡ is_in_place (so_far w) s
+    → refusal_number e ≡ cond (may_step w b p) (step_limit (length b) (so_far w) s) out_of_place → said ≡ Err e → TakesStep (take_step w b s) said w b
+refuses w b s {p} {e} {said} q n is =
+    let answer = answer-by w b s q n in
+    let refused = step-refused w b s (λ z. some-number e (answer ∙ z)) in
     record {
-      number = e ∙ sym (ap (λ x. x.number) is);
-      writer = q ∙ sym (ap (λ x. x.writer) is);
-      buffer = sym (ap (λ x. x.buffer) is);
+      number = ap reason_number is ∙ answer ∙ sym (ap (λ x. x.number) refused);
+      writer = sym (ap (λ x. x.writer) refused);
+      buffer = sym (ap (λ x. x.buffer) refused);
     }
 
-pub gives-done :
-    (w : Writer) (b : List ℕ) (s : Step) (r : StepTaken) (after : List ℕ) → answer_step w b s ≡ 0 → r.number ≡ 0
-    → r.writer ≡ writer_after w b s → after ≡ buffer_after w b s → TakesStep (take_step w b s) r after
-gives-done w b s r after e z q p =
-    let is = step-done w b s e in
+-- a step that its tests accept leaves those after it
+pub accepts :
+    (w : Writer) (b : List ℕ) (s : Step) {p : Bool} {w' : Writer} {b' : List ℕ} → p ≡ is_in_place (so_far w) s
+    → 0 ≡ cond (may_step w b p) (step_limit (length b) (so_far w) s) out_of_place → w' ≡ writer_after w b s → b' ≡ buffer_after w b s
+    → TakesStep (take_step w b s) (Ok tt) w' b'
+accepts w b s q z ew eb =
+    let done = step-done w b s (sym (answer-by w b s q z)) in
     record {
-      number = z ∙ sym (ap (λ x. x.number) is);
-      writer = q ∙ sym (ap (λ x. x.writer) is);
-      buffer = p ∙ sym (ap (λ x. x.buffer) is);
+      number = sym (ap (λ x. x.number) done);
+      writer = ew ∙ sym (ap (λ x. x.writer) done);
+      buffer = eb ∙ sym (ap (λ x. x.buffer) done);
     }
 
 -- ---- step by step

@@ -21,7 +21,7 @@ use Rattle.tree_writer.specs.States.{state_size, writer_in, is_state, flag_numbe
 use Rattle.tree_writer.specs.Runs.{StepNumber, is_accepted, is_misplaced, is_over, is_deep, is_short, AnyStep}
 use Rattle.tree_writer.specs.declared.Writer.{Writer}
 use Rattle.tree_writer.proofs.Accepting.{step-done, step-refused}
-use Rattle.tree_writer.proofs.Numbers.{step-state, step-no-state}
+use Rattle.tree_writer.proofs.Numbers.{step-state, step-no-state, taken-keeps, numbers-back}
 
 -- ---- the number
 
@@ -56,38 +56,12 @@ taken-number w b s =
       | no e ↦ subst (λ r. StepNumber r.number) (sym (step-refused w b s e)) (answer-number w b s)
     ]
 
-taken-keeps : (w : Writer) (b : List ℕ) (s : Step) → ((take_step w b s).number ≡ 0 → ⊥) → take_step w b s ≡ step_refused w b s
-taken-keeps w b s h = step-refused w b s (λ e. h (ap (λ (r : StepResult). r.number) (step-done w b s e)))
-
--- ---- the numbers of a state are those of its writer
-
-flag-back : (n : ℕ) → n ≤ 1 → flag_number (eqb n 1) ≡ n
-flag-back n h =
-    elim (ℕ_discrete n 1) [
-      | yes e ↦ ap flag_number (eq-eqb n 1 e) ∙ sym e
-      | no e ↦ ap flag_number (ne_eqb n 1 e) ∙ omega arith
-    ]
-
-numbers-back : (z : List ℕ) → is_state z ≡ true → numbers_of (writer_in z) ++ drop state_size z ≡ z
-numbers-back z e =
-    let a = (and-eq-true_iff (leb state_size (length z)) (leb (get_or z 0 0) 1)).0 e in
-    let l = leb-true state_size (length z) a.0 in
-    ap (λ n. n ∷ get_or z 1 0 ∷ get_or z 2 0 ∷ get_or z 3 0 ∷ get_or z 4 0 ∷ get_or z 5 0 ∷ get_or z 6 0 ∷ drop state_size z)
-    (flag-back (get_or z 0 0) (leb-true (get_or z 0 0) 1 a.1))
-    ∙ ap (λ r. get_or z 0 0 ∷ get_or z 1 0 ∷ get_or z 2 0 ∷ get_or z 3 0 ∷ get_or z 4 0 ∷ get_or z 5 0 ∷ r) (sym (drop-cons z 6 0 (omega arith)))
-    ∙ ap (λ r. get_or z 0 0 ∷ get_or z 1 0 ∷ get_or z 2 0 ∷ get_or z 3 0 ∷ get_or z 4 0 ∷ r) (sym (drop-cons z 5 0 (omega arith)))
-    ∙ ap (λ r. get_or z 0 0 ∷ get_or z 1 0 ∷ get_or z 2 0 ∷ get_or z 3 0 ∷ r) (sym (drop-cons z 4 0 (omega arith)))
-    ∙ ap (λ r. get_or z 0 0 ∷ get_or z 1 0 ∷ get_or z 2 0 ∷ r) (sym (drop-cons z 3 0 (omega arith)))
-    ∙ ap (λ r. get_or z 0 0 ∷ get_or z 1 0 ∷ r) (sym (drop-cons z 2 0 (omega arith)))
-    ∙ ap (λ r. get_or z 0 0 ∷ r) (sym (drop-cons z 1 0 (omega arith)))
-    ∙ sym (drop-cons z 0 0 (omega arith))
-
 -- ---- any call
 
 of-state : (z b : List ℕ) (s : Step) → is_state z ≡ true → AnyStep z b s
 of-state z b s e =
     let r = take_step (writer_in z) b s in
-    let is = step-state z b s e refl in
+    let is = step-state z b s e in
     let kept : ((step_in z b s).number ≡ 0 → ⊥) → r ≡ step_refused (writer_in z) b s =
     λ h. taken-keeps (writer_in z) b s (λ n. h (ap (λ (x : StateResult). x.number) is ∙ n)) in
     record {

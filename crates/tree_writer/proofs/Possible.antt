@@ -9,7 +9,7 @@ use lib.Dec.{eqb, leb, ltb}
 use borrow.Author.Tests.{eq-eqb, ne_eqb, eqb-true, le-leb, lt-leb, leb-true, lt-ltb, ltb-true}
 use lib.ListN.{length, length-append}
 use Rattle.text.specs.Trailer.{file_most}
-use Rattle.mitex_syntax.specs.Tree.{Forest, size, sizes, texts_of, count}
+use Rattle.mitex_syntax.specs.Tree.{Forest, sizes, texts_of, count}
 use Rattle.mitex_syntax.specs.Tree.Tree.{token, node}
 use Rattle.mitex_syntax.specs.Tree.Forest.{none, more}
 use Rattle.mitex_syntax.proofs.Trees.{size-some}

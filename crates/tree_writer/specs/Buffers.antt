@@ -2,14 +2,15 @@
 -- last to the first, end where the buffer ends, so that a row that is added moves no other. The number of an open node's row is the row
 -- of the node around it, until the close puts there how many rows lie under it. The finish turns the rows round, moves them after the
 -- texts and writes the trailer.
-use Rattle.std.specs.Prelude.{◌≡◌, cond, List, [], ◌∷◌, ◌++◌, reverse, ℕ, ◌+◌, ◌*◌, ◌-◌, ◌/◌, ◌%◌, length, get_or, take, drop, eqb}
+use Rattle.std.specs.Prelude.{◌≡◌, cond, List, [], ◌∷◌, ◌++◌, reverse, ℕ, ◌+◌, ◌*◌, ◌-◌, ◌/◌, ◌%◌, length, get_or, take, drop, eqb, ⊤, Result, Ok, Err}
 use Rattle.std.proofs.lemmas.List.Edits.{sets}
 use Rattle.text.specs.Numbers.{four}
+use Rattle.refusals.specs.Refusals.{refusal_number}
 use Rattle.tree_writer.specs.Steps.{Step, opens_node, adds_token, closes_node, finishes}
 use Rattle.tree_writer.specs.SoFar.{SoFar, with_step}
 use Rattle.tree_writer.specs.Writers.{so_far, answer_step}
 use Rattle.tree_writer.specs.declared.Writer.{Writer}
-use Rattle.tree_writer.specs.declared.StepTaken.{StepTaken}
+use Rattle.refusals.specs.declared.Reason.{Reason}
 
 -- where row i stands, and its bytes there: kind, mark and number from the last byte to the first
 abbrev pub row_place : List ℕ → ℕ → ℕ
@@ -80,7 +81,13 @@ step_refused w b s = record { number = answer_step w b s; writer = w; buffer = b
 unfoldable pub take_step : Writer → List ℕ → Step → StepResult
 take_step w b s = cond (eqb (answer_step w b s) 0) (step_done w b s) (step_refused w b s)
 
-pub record TakesStep (r : StepResult) (said : StepTaken) (b : List ℕ) : Type 0 where
-  pub number : said.number ≡ r.number
-  pub writer : said.writer ≡ r.writer
+-- the number of an answer: 0 where the step was taken, else that of its reason
+abbrev pub reason_number : Result ⊤ Reason → ℕ
+reason_number (Ok _) = 0
+reason_number (Err reason) = refusal_number reason
+
+-- the call's answer, its writer and its bytes
+pub record TakesStep (r : StepResult) (said : Result ⊤ Reason) (w : Writer) (b : List ℕ) : Type 0 where
+  pub number : reason_number said ≡ r.number
+  pub writer : w ≡ r.writer
   pub buffer : b ≡ r.buffer

@@ -1,13 +1,16 @@
 -- Laws on the characters of a text: they make it up again, the first can be taken off, and where a text goes on with a byte
 -- that continues none its two parts have their characters each.
-use mathlib.Core.Path.{◌≡◌, refl, sym, ap, ◌∙◌}
-use mathlib.Core.Bool.{Bool, true, false, cond}
+use mathlib.Core.Path.{◌≡◌, refl, sym, ap, subst, ◌∙◌}
+use mathlib.Core.Bool.{Bool, true, false, cond, not}
 use mathlib.Core.List.{List, [], ◌∷◌, ◌++◌, append_assoc}
-use Prim.Native.Nat.{ℕ, suc, ◌+◌, ◌-◌, ◌≤◌, ◌<◌}
+use Prim.Native.Nat.{ℕ, zero, suc, ◌+◌, ◌-◌, ◌≤◌, ◌<◌}
 use native.Mathlib.Omega.{arith}
-use native.Mathlib.Numerals.{add-one}
 use lib.ListN.{length, take, drop, get_or, length-append, drop_of_length-le, take-append-drop}
 use lib.Seq.{drop-cons}
+use Rattle.std.proofs.Common.{Option, Some, None}
+use Rattle.std.specs.List.{AllWithin, position, position_or_len}
+use Rattle.std.specs.Option.{MatchOption, unwrap_or}
+use Rattle.text.proofs.Compare.{by-test, found-or-length}
 use Rattle.utf8.specs.Chars.{continues, goes_on, joined, chars, concat, first_char, char_len, LastAt}
 
 concat-joined : (g : Bool) (b : ℕ) (cs : List (List ℕ)) → concat (joined g b cs) ≡ b ∷ concat cs
@@ -88,37 +91,28 @@ char_len-first [] h = absurd (omega arith)
 char_len-first (b ∷ s) h =
     record { some = rw (char_len-tails b s) (omega arith); within = char_len-le (b ∷ s); parts = chars-unroll b s }
 
--- n bytes of the first character are passed: what is left of it continues it from there on
-abbrev pub CharPassed : List ℕ → ℕ → Type 0
-CharPassed s n = char_len s ≡ n + tails (drop n s)
+tails-prefix : (s : List ℕ) → position_or_len (λ b. not (continues b)) s ≡ tails s
+unfolding tails
+tails-prefix [] = refl
+tails-prefix (b ∷ s) =
+    by-test (continues b)
+    (λ e. rw e (let h = tails-prefix s in omega arith))
+    (λ e. rw e refl)
 
-pub char-passed-none : (s : List ℕ) → length s ≡ 0 → 0 ≡ char_len s
+-- no character, and one and those that continue it
+pub char_len-none : (s : List ℕ) → length s < 1 → 0 ≡ char_len s
 unfolding chars
-char-passed-none [] h = refl
-char-passed-none (b ∷ s) h = absurd (omega arith)
+char_len-none [] h = refl
+char_len-none (b ∷ s) h = absurd (omega arith)
 
-pub char-passed-one : (s : List ℕ) → (length s ≡ 0 → ⊥) → CharPassed s 1
-char-passed-one [] h = absurd (h refl)
-char-passed-one (b ∷ s) h = char_len-tails b s ∙ omega arith
-
-module _ (s : List ℕ) (n : ℕ) (p : CharPassed s n) where
-  pub char-passed-on : n < length s → continues (get_or s n 0) ≡ true → CharPassed s (n + 1)
-  unfolding tails
-  char-passed-on h e =
-      let here : tails (drop n s) ≡ suc (tails (drop (n + 1) s)) = rw (drop-cons s n 0, e, add-one) in
-      omega arith
-
-  pub char-passed-stop : n < length s → continues (get_or s n 0) ≡ false → n ≡ char_len s
-  unfolding tails
-  char-passed-stop h e =
-      let here : tails (drop n s) ≡ 0 = rw (drop-cons s n 0, e) in
-      omega arith
-
-  pub char-passed-all : length s ≤ n → n ≡ char_len s
-  unfolding tails
-  char-passed-all h =
-      let here : tails (drop n s) ≡ 0 = rw (drop_of_length-le s h) in
-      omega arith
+pub char_len-found :
+    (s : List ℕ) (n : ℕ) → 1 ≤ length s → n ≡ unwrap_or (position (λ b. not (continues b)) (drop 1 s)) (length (drop 1 s))
+    → 1 + n ≡ char_len s
+char_len-found [] n h e = absurd (omega arith)
+char_len-found (b ∷ s) n h e =
+    let f : n ≡ tails s = e ∙ found-or-length (λ b. not (continues b)) s ∙ tails-prefix s in
+    let l = char_len-tails b s in
+    omega arith
 
 -- ---- characters of two texts
 
@@ -184,3 +178,25 @@ module _ (s : List ℕ) (k : ℕ) (w : OneFrom s k) where
   one-all h =
       let z : k ≡ 0 = omega arith in
       record { within = w.within; parts = rw z at w.one ∙ rw z }
+
+-- each byte from i on continues a character
+abbrev pub ContinuesFrom : List ℕ → ℕ → Type 0
+ContinuesFrom s i = AllWithin (λ b. continues b ≡ true) s i (length s)
+
+one-from : (s : List ℕ) (j : ℕ) → j < length s → ContinuesFrom s (length s - j) → OneFrom s (length s - 1 - j)
+one-from s zero h c = subst (OneFrom s) (omega arith) (one-start s h)
+one-from s (suc j) h c =
+    let k : ℕ = length s - 1 - j in
+    subst (OneFrom s) (omega arith)
+    (one_on s k (one-from s j (omega arith) (λ i d lo hi. c i d (omega arith) hi)) (omega arith) (c k 0 (omega arith) (omega arith)))
+
+-- the last byte that continues no character, or the first byte of all
+pub last-found :
+    (s : List ℕ) (r : Option ℕ) → 0 < length s
+    → MatchOption r (ContinuesFrom s 0) (λ i. (i < length s) × (continues (get_or s i 0) ≡ false) × ContinuesFrom s (i + 1))
+    → LastAt s (unwrap_or r 0)
+last-found s None h c =
+    one-all s 0 (subst (OneFrom s) (omega arith) (one-from s (length s - 1) (omega arith) (λ i d lo hi. c i d (omega arith) hi))) (omega arith)
+last-found s (Some i) h c =
+    let l = c.0 in
+    one-stop s i (subst (OneFrom s) (omega arith) (one-from s (length s - 1 - i) (omega arith) (λ k d lo hi. c.2 k d (omega arith) hi))) c.1

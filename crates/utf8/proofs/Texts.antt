@@ -1,15 +1,15 @@
 -- Valid text by its characters: it is made of the RFC's characters, which are those of `chars`. Text of one-byte characters is
 -- valid, and so are its parts.
 use mathlib.Core.Path.{◌≡◌, refl, sym, ap, ◌∙◌}
-use mathlib.Core.Bool.{Bool, true, false, ◌&&◌, and-false, cond, and-eq-true_iff}
+use mathlib.Core.Bool.{Bool, true, false, ◌&&◌, and-false, and-eq-true_iff}
 use mathlib.Core.List.{List, [], ◌∷◌, ◌++◌}
-use Prim.Native.Nat.{ℕ, zero, suc, ◌+◌, ◌≤◌, ◌<◌}
+use Prim.Native.Nat.{ℕ, zero, suc, ◌+◌, ◌≤◌, ◌<◌, max}
 use native.Mathlib.Omega.{arith}
-use native.Mathlib.Decide.{dec_le, dec_lt}
+use native.Mathlib.Decide.{dec_le}
 use mathlib.Core.Logic.{dite}
 use native.Mathlib.Numerals.{add-one}
-use lib.Dec.{eqb, leb, ltb}
-use borrow.Author.Tests.{le-leb, lt-leb, lt-ltb, le-ltb, leb-true}
+use lib.Dec.{eqb, leb}
+use borrow.Author.Tests.{le-leb, lt-leb, leb-true}
 use lib.ListN.{length, take, drop, get_or, drop_of_length-le}
 use lib.Seq.{drop-cons}
 use Rattle.utf8.specs.declared.State.{State}
@@ -146,12 +146,12 @@ unfolding one_byte_each
 one_end s i h = rw (drop_of_length-le s h)
 
 -- the greater of two bytes is one where both are
-greater-one : (a b : ℕ) → leb (cond (ltb a b) b a) 0x7F ≡ (leb a 0x7F && leb b 0x7F)
-greater-one a b = dite (dec_lt a b)
-    (λ h. rw (lt-ltb a b h) (dite (dec_le b 0x7F) (λ l. rw (le-leb b 0x7F l, le-leb a 0x7F (omega arith))) (λ l. rw (lt-leb b 0x7F (omega arith), and-false))))
-    (λ h. rw (le-ltb a b (omega arith)) (dite (dec_le a 0x7F) (λ l. rw (le-leb a 0x7F l, le-leb b 0x7F (omega arith))) (λ l. rw (lt-leb a 0x7F (omega arith)))))
+greater-one : (a b : ℕ) → leb (max a b) 0x7F ≡ (leb a 0x7F && leb b 0x7F)
+greater-one a b = dite (dec_le a 0x7F)
+    (λ h. rw (le-leb a 0x7F h) (dite (dec_le b 0x7F) (λ l. rw (le-leb b 0x7F l, le-leb (max a b) 0x7F (omega arith))) (λ l. rw (lt-leb b 0x7F (omega arith), lt-leb (max a b) 0x7F (omega arith)))))
+    (λ h. rw (lt-leb a 0x7F (omega arith), lt-leb (max a b) 0x7F (omega arith)))
 
-pub one-next : (s : List ℕ) (i m n : ℕ) → i < length s → n ≡ cond (ltb m (get_or s i 0)) (get_or s i 0) m
+pub one-next : (s : List ℕ) (i m n : ℕ) → i < length s → n ≡ max m (get_or s i 0)
     → (leb m 0x7F && one_byte_each (drop i s)) ≡ (leb n 0x7F && one_byte_each (drop (i + 1) s))
 one-next s i m n h e =
     ap (λ b. leb m 0x7F && b) (one-cons s i h) ∙ sym (and_assoc (leb m 0x7F) (leb (get_or s i 0) 0x7F) (one_byte_each (drop (i + 1) s)))

@@ -6,7 +6,7 @@ use mathlib.Core.List.{List, [], ◌∷◌}
 use Prim.Native.Nat.{ℕ, zero, suc, ◌<◌}
 use native.Mathlib.Omega.{arith}
 use lib.Dec.{leb, eqb}
-use lib.ListN.{length, get_or}
+use lib.ListN.{length}
 use borrow.Author.Tests.{eqb-true, eqb-false}
 use Rattle.text.specs.Compare.{same}
 use Rattle.text.proofs.Compare.{beq-true}
@@ -46,24 +46,6 @@ white-20 c h =
     (every-at (λ c. beq (is_white (0xE2 ∷ 0x80 ∷ c ∷ [])) (cond (leb c 0x8A) (leb 0x80 c) (cond (leb c 0xA9) (leb 0xA8 c) (eqb c 0xAF)))) 256 refl c h)
 
 -- ---- a character by the number of its bytes
-
-pub white-bytes-1 : (c : List ℕ) (r : Bool) → length c ≡ 1 → r ≡ is_white (get_or c 0 0 ∷ []) → r ≡ is_white c
-white-bytes-1 [] r h e = absurd (omega arith)
-white-bytes-1 (x ∷ []) r h e = e
-white-bytes-1 (x ∷ y ∷ c) r h e = absurd (omega arith)
-
-pub white-bytes-2 : (c : List ℕ) (r : Bool) → length c ≡ 2 → r ≡ is_white (get_or c 0 0 ∷ get_or c 1 0 ∷ []) → r ≡ is_white c
-white-bytes-2 [] r h e = absurd (omega arith)
-white-bytes-2 (x ∷ []) r h e = absurd (omega arith)
-white-bytes-2 (x ∷ y ∷ []) r h e = e
-white-bytes-2 (x ∷ y ∷ z ∷ c) r h e = absurd (omega arith)
-
-pub white-bytes-3 : (c : List ℕ) (r : Bool) → length c ≡ 3 → r ≡ is_white (get_or c 0 0 ∷ get_or c 1 0 ∷ get_or c 2 0 ∷ []) → r ≡ is_white c
-white-bytes-3 [] r h e = absurd (omega arith)
-white-bytes-3 (x ∷ []) r h e = absurd (omega arith)
-white-bytes-3 (x ∷ y ∷ []) r h e = absurd (omega arith)
-white-bytes-3 (x ∷ y ∷ z ∷ []) r h e = e
-white-bytes-3 (x ∷ y ∷ z ∷ w ∷ c) r h e = absurd (omega arith)
 
 pub white-bytes-other : (c : List ℕ) → (length c ≡ 1 → ⊥) → (length c ≡ 2 → ⊥) → (length c ≡ 3 → ⊥) → false ≡ is_white c
 unfolding same

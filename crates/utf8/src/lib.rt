@@ -40,35 +40,30 @@ const LENGTHS: [[u8; 16]; 16] = [
 pub fn length_by(b: u8) -> u8
     ensures { result ≡ length_by b }
 {
-    let i = text::wide(b);
+    let i = usize::from(b);
     LENGTHS[i / 16][i % 16]
-}
-
-// A bound of the second byte, by the first: two first bytes have one of their own.
-fn bound(b: u8, x: u8, at_x: u8, y: u8, at_y: u8, other: u8) -> u8
-    ensures { result ≡ cond (eqb b x) at_x (cond (eqb b y) at_y other) }
-{
-    if b == x {
-        return at_x;
-    }
-    if b == y {
-        return at_y;
-    }
-    other
 }
 
 // The least second byte: after E0 and F0 what is lower is an overlong form.
 fn second_low(b: u8) -> u8
     ensures { result ≡ second_low b }
 {
-    bound(b, 0xE0, 0xA0, 0xF0, 0x90, 0x80)
+    match b {
+        0xE0 => 0xA0,
+        0xF0 => 0x90,
+        _ => 0x80,
+    }
 }
 
 // The greatest second byte: after ED what is higher is a surrogate, after F4 above 10FFFF.
 fn second_high(b: u8) -> u8
     ensures { result ≡ second_high b }
 {
-    bound(b, 0xED, 0x9F, 0xF4, 0x8F, 0xBF)
+    match b {
+        0xED => 0x9F,
+        0xF4 => 0x8F,
+        _ => 0xBF,
+    }
 }
 
 // So many bytes are to come, each any that continues a character.
@@ -100,14 +95,13 @@ fn char_begin(b: u8) -> State
     if b <= 0x7F {
         return plain(0);
     }
-    let n = length_by(b);
-    if n == 0 {
-        return dead();
-    }
-    State {
-        more: n - 1,
-        low: second_low(b),
-        high: second_high(b),
+    match length_by(b) {
+        0 => dead(),
+        n => State {
+            more: n - 1,
+            low: second_low(b),
+            high: second_high(b),
+        },
     }
 }
 
@@ -115,26 +109,11 @@ fn char_begin(b: u8) -> State
 fn char_step(u: State, b: u8) -> State
     ensures { result ≡ char_step u b }
 {
-    if u.more == 0 {
-        return char_begin(b);
+    match u.more {
+        0 => char_begin(b),
+        n if (u.low..=u.high).contains(&b) => plain(n - 1),
+        _ => dead(),
     }
-    if b < u.low {
-        return dead();
-    }
-    if u.high < b {
-        return dead();
-    }
-    plain(u.more - 1)
-}
-
-// The greater of two bytes.
-fn greater(a: u8, b: u8) -> u8
-    ensures { result ≡ cond (ltb a b) b a }
-{
-    if a < b {
-        return b;
-    }
-    a
 }
 
 // Whether each character has one byte. No way leads out of the loop, so that the compiler may compare many bytes at once.
@@ -142,10 +121,8 @@ pub fn one_byte_each(s: &[u8]) -> bool
     ensures { result ≡ one_byte_each s.now }
 {
     let mut most: u8 = 0;
-    let mut i = 0;
-    while i < s.len() {
-        most = greater(most, s[i]);
-        i += 1;
+    for b in s {
+        most = most.max(*b);
     }
     most <= 0x7F
 }
@@ -158,10 +135,8 @@ pub fn valid(s: &[u8]) -> bool
         return true;
     }
     let mut u = plain(0);
-    let mut i = 0;
-    while i < s.len() {
-        u = char_step(u, s[i]);
-        i += 1;
+    for b in s {
+        u = char_step(u, *b);
     }
     u.more == 0
 }
@@ -170,24 +145,21 @@ pub fn valid(s: &[u8]) -> bool
 pub fn continues(b: u8) -> bool
     ensures { result ≡ continues b }
 {
-    0x80 <= b && b <= 0xBF
+    matches!(b, 0x80..=0xBF)
 }
 
 // How many bytes the first character has: up to the next byte that continues none.
 pub fn char_len(s: &[u8]) -> usize
     ensures { result ≡ char_len s.now }
 {
-    if s.len() == 0 {
-        return 0;
+    match s {
+        [] => 0,
+        [_, rest @ ..] => 1
+            + rest
+                .iter()
+                .position(|b| !continues(*b))
+                .unwrap_or(rest.len()),
     }
-    let mut n = 1;
-    while n < s.len() {
-        if !continues(s[n]) {
-            return n;
-        }
-        n += 1;
-    }
-    n
 }
 
 // Where the last character begins, of one byte or more.
@@ -195,79 +167,52 @@ fn last_at(s: &[u8]) -> usize
     requires { 0 < length s.now }
     ensures { LastAt s.now result }
 {
-    let mut k = s.len() - 1;
-    while 0 < k {
-        if !continues(s[k]) {
-            return k;
-        }
-        k -= 1;
-    }
-    k
+    s.iter().rposition(|b| !continues(*b)).unwrap_or(0)
 }
 
 // U+0009 to 000D and 0020.
 fn white_one(a: u8) -> bool
     ensures { result ≡ is_white (a ∷ []) }
 {
-    if a <= 0x0D {
-        return 0x09 <= a;
-    }
-    a == 0x20
+    matches!(a, 0x09..=0x0D | 0x20)
 }
 
 // U+0085 and 00A0.
 fn white_two(a: u8, b: u8) -> bool
     ensures { result ≡ is_white (a ∷ b ∷ []) }
 {
-    a == 0xC2 && (b == 0x85 || b == 0xA0)
+    a == 0xC2 && matches!(b, 0x85 | 0xA0)
 }
 
 // U+2000 to 200A, 2028, 2029 and 202F, by their third byte.
 fn white_20(c: u8) -> bool
     ensures { result ≡ is_white (0xE2 ∷ 0x80 ∷ c ∷ []) }
 {
-    if c <= 0x8A {
-        return 0x80 <= c;
-    }
-    if c <= 0xA9 {
-        return 0xA8 <= c;
-    }
-    c == 0xAF
+    matches!(c, 0x80..=0x8A | 0xA8..=0xA9 | 0xAF)
 }
 
 // U+1680, those of 20xx, 205F and 3000.
 fn white_three(a: u8, b: u8, c: u8) -> bool
     ensures { result ≡ is_white (a ∷ b ∷ c ∷ []) }
 {
-    if a == 0xE2 {
-        if b == 0x80 {
-            return white_20(c);
-        }
-        return b == 0x81 && c == 0x9F;
+    match (a, b) {
+        (0xE1, 0x9A) | (0xE3, 0x80) => c == 0x80,
+        (0xE2, 0x80) => white_20(c),
+        (0xE2, 0x81) => c == 0x9F,
+        _ => false,
     }
-    if a == 0xE1 {
-        return b == 0x9A && c == 0x80;
-    }
-    if a == 0xE3 {
-        return b == 0x80 && c == 0x80;
-    }
-    false
 }
 
 // Whether the bytes are one character with Unicode's property White_Space.
 pub fn is_white(c: &[u8]) -> bool
     ensures { result ≡ is_white c.now }
 {
-    if c.len() == 1 {
-        return white_one(c[0]);
+    match c {
+        [a] => white_one(*a),
+        [a, b] => white_two(*a, *b),
+        [a, b, d] => white_three(*a, *b, *d),
+        _ => false,
     }
-    if c.len() == 2 {
-        return white_two(c[0], c[1]);
-    }
-    if c.len() == 3 {
-        return white_three(c[0], c[1], c[2]);
-    }
-    false
 }
 
 // The part without the white space that the text begins with.
@@ -275,7 +220,7 @@ pub fn trim_start(s: &[u8]) -> &[u8]
     ensures { result.now ≡ trim_start s.now }
 {
     let mut t = s;
-    while 0 < t.len() {
+    while !t.is_empty() {
         let n = char_len(t);
         if !is_white(&t[..n]) {
             return t;
@@ -290,7 +235,7 @@ pub fn trim_end(s: &[u8]) -> &[u8]
     ensures { result.now ≡ trim_end s.now }
 {
     let mut t = s;
-    while 0 < t.len() {
+    while !t.is_empty() {
         let k = last_at(t);
         if !is_white(&t[k..]) {
             return t;

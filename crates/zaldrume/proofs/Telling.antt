@@ -1,5 +1,4 @@
--- A call's answer told by numbers, whatever the answer is; the growth as it is read back where it was written. And what is told spells
--- the answer, since no refusal has the number 0.
+-- What is told of a call by numbers spells its answer, since no refusal has the number 0.
 use mathlib.Core.Path.{◌≡◌, refl, ap, sym, ◌∙◌}
 use mathlib.Core.List.{List}
 use Prim.Native.Nat.{ℕ, zero, suc}
@@ -14,32 +13,6 @@ use Rattle.edit_meaning.specs.Numbers.{Fifteen, ConvertNumber, OfConvert, OfEdit
 use Rattle.manuscript.specs.Manuscript.{manuscript}
 use Rattle.manuscript.proofs.Answers.{convert-answers, edit-answers, change-answers}
 use Rattle.zaldrume.specs.Answers.{number_told, place_told, growth_told, count_told, AnswerTold, Tells, convert_told, edit_told}
-
-pub told-as : {a : Answer} {growth : ℤ} (b : Answer) → a ≡ b → growth ≡ growth_told b → AnswerTold a (number_told b) (place_told b) growth (count_told b)
-told-as b e grown =
-    record {
-      said = sym (ap number_told e);
-      stands = sym (ap place_told e);
-      grown = grown ∙ sym (ap growth_told e);
-      counted = sym (ap count_told e);
-    }
-
-pub tells :
-    {r : Result} {a : Answer} {text ledger : List ℕ} {number place count : ℕ} {growth : ℤ} → Gives r a text ledger
-    → AnswerTold a number place growth count → Tells r number place growth count text ledger
-tells g t =
-    record {
-      told = record {
-        said = t.said ∙ ap number_told g.answer;
-        stands = t.stands ∙ ap place_told g.answer;
-        grown = t.grown ∙ ap growth_told g.answer;
-        counted = t.counted ∙ ap count_told g.answer;
-      };
-      bytes = g.bytes;
-      rows = g.rows;
-    }
-
--- ---- back from the numbers
 
 convert-spells : (a : Answer) → OfConvert ConvertNumber a → a ≡ convert_told (number_told a) (place_told a) (count_told a)
 convert-spells (refused zero i) h = absurd (omega (arith, h.0.0))

@@ -12,7 +12,8 @@ ghost use Rattle.tree_writer.specs.Steps.{opens_node, adds_token, closes_node, f
 ghost use Rattle.tree_writer.specs.States.{step_in, length_in, StepsIn};
 ghost use Rattle.zaldrume.specs.Answers.{AnswerTold, Tells};
 
-use calls::{Converted, Edited};
+use calls::Edited;
+use refusals::Refusal;
 
 // Convert: `place` is the text's length or the refusal's row, `count` the count of blocks.
 #[unsafe(no_mangle)]
@@ -31,14 +32,14 @@ pub extern "C" fn zaldrume_convert<'a>(
 {
     *growth = 0;
     match calls::convert(mode, rules, tree, text, ledger) {
-        Converted::Refused { number, row } => {
-            *place = row;
+        Err(refusal) => {
+            *place = refusal.row;
             *count = 0;
-            number
+            u8::from(refusal.reason)
         }
-        Converted::Done { length, blocks } => {
-            *place = length;
-            *count = blocks;
+        Ok(converted) => {
+            *place = converted.length;
+            *count = converted.blocks;
             0
         }
     }
@@ -46,24 +47,20 @@ pub extern "C" fn zaldrume_convert<'a>(
 
 // What a change answers, by numbers: `place` is the new length or the refusal's row, `growth` the new length less the old, `count` how
 // many blocks were converted again.
-fn tell(r: Edited, place: &mut usize, growth: &mut i64, count: &mut usize) -> u8
+fn tell(r: Result<Edited, Refusal>, place: &mut usize, growth: &mut i64, count: &mut usize) -> u8
     ensures { AnswerTold (answer_of_edit r) result place.new growth.new count.new }
 {
     match r {
-        Edited::Refused { number, row } => {
-            *place = row;
+        Err(refusal) => {
+            *place = refusal.row;
             *growth = 0;
             *count = 0;
-            number
+            u8::from(refusal.reason)
         }
-        Edited::Done {
-            length,
-            growth: by,
-            count: again,
-        } => {
-            *place = length;
-            *growth = by;
-            *count = again;
+        Ok(edited) => {
+            *place = edited.length;
+            *growth = edited.growth;
+            *count = edited.count;
             0
         }
     }

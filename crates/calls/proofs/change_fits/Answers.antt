@@ -1,23 +1,23 @@
 -- `change_fits`: the three questions of refusal 6, in their order.
-use borrow.Author.Tests.{le-leb, lt-leb}
+use mathlib.Core.Path.{sym, ◌∙◌}
+use mathlib.Core.Bool.{false≢true}
 use Rattle.edit_meaning.specs.Changes.{change_fits}
 use Rattle.calls.proofs.change_fits.Goals as goal
+use Rattle.calls.proofs.change_fits.Goals.{then-named_there, else-named_there}
 
-pub returns-then-not-named_there : goal.returns-then-not-named_there
+pub returns-then-within : goal.returns-then-within
 unfolding change_fits
-returns-then-not-named_there c = rw (← c.named_there.ensures, c.if-not-named_there.true)
+returns-then-within c =
+    elim c.if-named_there.branch [
+      | then-named_there w ↦
+          rw (← c.named_there.ensures, w.if-named_there.true, sym w.within-is ∙ c.if-within.true, ← c.old_count.ensures _) c.ledger_fits.ensures
+      | else-named_there w ↦ absurd (false≢true (sym (w.within-is ∙ w.if-named_there.false) ∙ c.if-within.true))
+    ]
 
-pub returns-then-text-kept : goal.returns-then-text-kept
+pub returns-else-within : goal.returns-else-within
 unfolding change_fits
-returns-then-text-kept c =
-    rw (← c.named_there.ensures, c.if-not-named_there.false, lt-leb _ _ c.if-text-kept.true)
-
-pub returns : goal.returns
-unfolding change_fits
-returns c =
-    rw (
-      ← c.named_there.ensures,
-      c.if-not-named_there.false,
-      le-leb _ _ c.if-text-kept.false,
-      ← c.old_count.ensures _,
-    ) c.ledger_fits.ensures
+returns-else-within c =
+    elim c.if-named_there.branch [
+      | then-named_there w ↦ rw (c.if-within.false, ← c.named_there.ensures, w.if-named_there.true, sym w.within-is ∙ c.if-within.false)
+      | else-named_there w ↦ rw (c.if-within.false, ← c.named_there.ensures, w.if-named_there.false)
+    ]

@@ -14,7 +14,8 @@ pub overflow_sub-new : goal.overflow_sub-new
 overflow_sub-new c = omega (arith, planned-old c.requires c.end_before.ensures.0)
 
 pub returns-then-not-has_room : goal.returns-then-not-has_room
-returns-then-not-has_room c w = planned-no-room w c.end_before.ensures.0 c.has_room.ensures c.if-not-has_room.true
+returns-then-not-has_room c w =
+    rw c.no_row.ensures (planned-no-room w c.end_before.ensures.0 c.has_room.ensures c.if-not-has_room.true)
 
 pub bounds-plan-0 : goal.bounds-plan-0
 bounds-plan-0 c = plan-some c.requires
@@ -27,12 +28,12 @@ exchange_from-requires c =
     exchangeable c.requires c.end_before.ensures.0 c.has_room.ensures c.if-not-has_room.false c.end_before-first.ensures.0
 
 -- the new length is that of a buffer, as the kept one is
-pub overflow_cast-growth : goal.overflow_cast-growth
-overflow_cast-growth c =
+pub overflow_cast-result : goal.overflow_cast-result
+overflow_cast-result c =
     record { sfits = omega (arith, planned-room c.requires c.end_before.ensures.0 c.has_room.ensures c.if-not-has_room.false) }
 
-pub overflow_sub-growth : goal.overflow_sub-growth
-overflow_sub-growth c =
+pub overflow_sub-result : goal.overflow_sub-result
+overflow_sub-result c =
     difference-fits (c.args.p.at + (c.args.kept - c.end_before.result)) c.args.kept
     (omega (arith, planned-room c.requires c.end_before.ensures.0 c.has_room.ensures c.if-not-has_room.false))
     (omega (arith, c.requires.inside))

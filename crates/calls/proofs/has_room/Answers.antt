@@ -1,32 +1,23 @@
 -- `has_room`: the text's room and that of the rows, in their order.
-use Prim.Native.Nat.{◌*◌, min}
+use Prim.Native.Nat.{min}
 use native.Mathlib.Omega.{arith}
 use borrow.Author.Tests.{le-leb, lt-leb}
 use lib.ListN.{length}
-use Rattle.ledger.specs.Ledger.{row_size}
 use Rattle.edit_meaning.specs.Edit.{text_most, room_for_text}
+use Rattle.calls.proofs.Settling.{rows-fit}
 use Rattle.calls.proofs.has_room.Goals as goal
 
-pub returns-then-text_room-at : goal.returns-then-text_room-at
+pub returns-then-at-text_room : goal.returns-then-at-text_room
 unfolding room_for_text
-returns-then-text_room-at c =
+returns-then-at-text_room c =
     let a = c.args in
-    rw (lt-leb a.at (min (length a.out.now) text_most) (omega (arith, c.text_room.ensures, c.if-text_room-at.true)))
+    rw (le-leb a.at (min (length a.out.now) text_most) (omega (arith, c.text_room.ensures, c.if-at-text_room.true))) (rows-fit a.blocks (length a.ledger.now))
 
-pub returns-then-ledger-blocks : goal.returns-then-ledger-blocks
+pub returns-else-at-text_room : goal.returns-else-at-text_room
 unfolding room_for_text
-returns-then-ledger-blocks c =
+returns-else-at-text_room c =
     let a = c.args in
     rw (
-      le-leb a.at (min (length a.out.now) text_most) (omega (arith, c.text_room.ensures, c.if-text_room-at.false)),
-      lt-leb (row_size * a.blocks) (length a.ledger.now) (omega (arith, c.if-ledger-blocks.true)),
-    )
-
-pub returns : goal.returns
-unfolding room_for_text
-returns c =
-    let a = c.args in
-    rw (
-      le-leb a.at (min (length a.out.now) text_most) (omega (arith, c.text_room.ensures, c.if-text_room-at.false)),
-      le-leb (row_size * a.blocks) (length a.ledger.now) (omega (arith, c.if-ledger-blocks.false)),
+      lt-leb a.at (min (length a.out.now) text_most) (omega (arith, c.text_room.ensures, c.if-at-text_room.false)),
+      lt-leb a.at c.text_room.result c.if-at-text_room.false,
     )

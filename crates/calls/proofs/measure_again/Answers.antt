@@ -3,7 +3,8 @@
 use mathlib.Core.Path.{◌≡◌, sym, subst, ◌∙◌}
 use mathlib.Core.Bool.{Bool, true, false, cond}
 use mathlib.Core.List.{[]}
-use native.Mathlib.Omega.{arith}
+use Rattle.std.specs.Prelude.{Result}
+use Rattle.refusals.specs.declared.Refusal.{Refusal}
 use Rattle.edit_meaning.specs.Walk.{Walk}
 use Rattle.edit_meaning.specs.Walk.Walk.{pieces}
 use Rattle.passes.specs.Passes.{Came}
@@ -11,23 +12,12 @@ use Rattle.passes.specs.declared.Standing.{Standing}
 use Rattle.passes.proofs.Measuring.{came-here}
 use Rattle.calls.proofs.measure_again.Goals as goal
 
-module _ {from r : Standing} {x b : Bool} (v : Walk) (is : b ≡ x) where
+module _ {from : Standing} {r : Result Standing Refusal} {x b : Bool} (v : Walk) (is : b ≡ x) where
   again-met : b ≡ true → Came from r (pieces []) → Came from r (cond x (pieces []) v)
   again-met t m = subst (λ (y : Bool). Came from r (cond y (pieces []) v)) (sym t ∙ is) m
 
   again-on : b ≡ false → Came from r v → Came from r (cond x (pieces []) v)
   again-on t m = subst (λ (y : Bool). Came from r (cond y (pieces []) v)) (sym t ∙ is) m
 
-pub met_at_once-requires : goal.met_at_once-requires
-met_at_once-requires c =
-    let w = c.requires.blocks_up_to in
-    record {
-      block_lt_was = λ h. (omega (arith, w.many), c.requires.blocks_bound.2 _ (omega (arith, w.many)));
-      label_len_bound = (w.given.outside.label, omega (arith, w.many, w.few));
-    }
-
 pub returns-then-met_at_once : goal.returns-then-met_at_once
-returns-then-met_at_once c = λ w. again-met _ c.met_at_once.ensures c.if-met_at_once.true (came-here w.given.well w.given.place)
-
-pub returns : goal.returns
-returns c = λ w. again-on _ c.met_at_once.ensures c.if-met_at_once.false (c.measure.ensures w)
+returns-then-met_at_once c = λ w. again-met _ c.met_at_once.ensures c.if-met_at_once.true (came-here w.given.place)

@@ -1,35 +1,45 @@
--- `open`: 1 by the mode, 2 by the rules, and what the tree file's check says, in the mode that is left.
-use mathlib.Core.Path.{◌∙◌}
-use mathlib.Core.List.{[]}
+-- `open`: a refusal of the tree file's check is that of the call (`begins-shut`); else the document is that of the files (`files-open`).
+use mathlib.Core.Path.{refl, sym, ◌∙◌}
 use native.Mathlib.Omega.{arith}
-use Rattle.mitex_spec.proofs.Index.{checked-rules, checked-none}
-use Rattle.calls.proofs.Files.{mode-none, mode-text, mode-math, opened_in, opened-no-mode, opened-no-rules, begins-shut, begins}
+use lib.Seq.{length-take-le}
+use Rattle.std.proofs.lemmas.Result.{err_from_is_err_and}
+use Rattle.mitex_spec.proofs.Index.{checked-rules}
+use Rattle.calls.proofs.Files.{mode-there, begins-shut, long, document, files-open}
 use Rattle.calls.proofs.open.Goals as goal
 
-pub returns-then-mode-gt1 : goal.returns-then-mode-gt1
-returns-then-mode-gt1 c =
-    let a = c.args in
-    let e = opened-no-mode _ _ _ (mode-none a.mode c.if-mode-gt1.true) in
-    record { answer = e; begins = begins-shut a.mode a.rules.now a.tree.now [] e }
-
-pub returns-then-not-check_rules : goal.returns-then-not-check_rules
-returns-then-not-check_rules c =
-    let a = c.args in
-    let none = (checked-none c.check_rules.ensures c.if-not-check_rules.true).0 in
-    let e = opened-no-rules a.mode _ _ c.if-mode-gt1.false none in
-    record { answer = e; begins = begins-shut a.mode a.rules.now a.tree.now [] e }
-
-pub returns-then-mode-eq0 : goal.returns-then-mode-eq0
-returns-then-mode-eq0 c =
+pub returns-in_err-whole : goal.returns-in_err-whole
+returns-in_err-whole c =
     let a = c.args in
     let r = checked-rules (λ i. omega (arith, c.type_inv.rules i)) (omega arith) c.check_rules.ensures c.if-not-check_rules.false in
-    let e = c.open_tree.ensures ∙ opened_in _ _ _ (mode-text a.mode c.if-mode-eq0.true) r.ready.decodes in
-    record { answer = e; begins = begins a.mode a.rules.now a.tree.now _ c.open_tree.result (λ i. omega (arith, c.type_inv.tree i)) r e }
+    let p = err_from_is_err_and c.from_residual-in_err-whole.result c.from_residual-in_err-whole.ensures.1 in
+    rw (p.1, p.2)
+    (begins-shut a.mode a.rules.now a.tree.now (mode-there a.mode c.in_ok-mode.ensures.ok_part c.mode_of.ensures) r.ready.decodes
+    (sym c.check_tree.ensures ∙ c.in_err-whole.was))
+
+pub block_rows-requires : goal.block_rows-requires
+block_rows-requires c =
+    omega (arith, long c.args.tree.now (λ i. omega (arith, c.type_inv.tree i)) (sym c.check_tree.ensures ∙ c.in_ok-whole.was))
+
+pub slice_bounds-result-end : goal.slice_bounds-result-end
+slice_bounds-result-end c =
+    sym
+    (length-take-le _ _
+    (omega (arith, long c.args.tree.now (λ i. omega (arith, c.type_inv.tree i)) (sym c.check_tree.ensures ∙ c.in_ok-whole.was))))
+
+pub invariant_of-result : goal.invariant_of-result
+invariant_of-result c =
+    record { some = checked-rules (λ i. omega (arith, c.type_inv.rules i)) (omega arith) c.check_rules.ensures c.if-not-check_rules.false }
+
+pub invariant_of-result-2 : goal.invariant_of-result-2
+invariant_of-result-2 c =
+    record {
+      «open» =
+          document c.args.tree.now (λ i. omega (arith, c.type_inv.tree i)) (sym c.check_tree.ensures ∙ c.in_ok-whole.was)
+          c.block_rows.ensures refl refl
+          (checked-rules (λ i. omega (arith, c.type_inv.rules i)) (omega arith) c.check_rules.ensures c.if-not-check_rules.false);
+    }
 
 pub returns : goal.returns
 returns c =
-    let a = c.args in
-    let r = checked-rules (λ i. omega (arith, c.type_inv.rules i)) (omega arith) c.check_rules.ensures c.if-not-check_rules.false in
-    let e = c.open_tree-2.ensures
-    ∙ opened_in _ _ _ (mode-math a.mode c.if-mode-gt1.false c.if-mode-eq0.false) r.ready.decodes in
-    record { answer = e; begins = begins a.mode a.rules.now a.tree.now _ c.open_tree-2.result (λ i. omega (arith, c.type_inv.tree i)) r e }
+    files-open c.args.tree.now (λ i. omega (arith, c.type_inv.tree i)) (sym c.check_tree.ensures ∙ c.in_ok-whole.was) _
+    (mode-there c.args.mode c.in_ok-mode.ensures.ok_part c.mode_of.ensures) refl c.block_rows.ensures refl refl

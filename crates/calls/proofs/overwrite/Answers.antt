@@ -1,12 +1,11 @@
 -- `overwrite`: each step stores one run of bytes, and the six together are what the definition says (`overwrote`).
 use native.Mathlib.Omega.{arith}
-use lib.ListN.{length-take}
 use Rattle.ledger.proofs.Fitting.{fits-long}
 use Rattle.calls.proofs.Splicing.{after-within, after-many, old-kept, after-movable, pieced, overwrote}
 use Rattle.calls.proofs.overwrite.Goals as goal
 
-pub overflow_sub-tail : goal.overflow_sub-tail
-overflow_sub-tail c = let y = c.requires.roomy in omega (arith, old-kept c.requires.measured y.starts y.ends)
+pub overflow_sub-kept : goal.overflow_sub-kept
+overflow_sub-kept c = let y = c.requires.roomy in omega (arith, old-kept c.requires.measured y.starts y.ends)
 
 pub move_bytes-requires : goal.move_bytes-requires
 move_bytes-requires c =
@@ -32,14 +31,14 @@ shift_rows-requires c =
       omega (arith, c.move_rows.auto.ledger, after-many w y.starts y.ends, y.rows),
     )
 
-pub write_blocks-requires : goal.write_blocks-requires
-write_blocks-requires c =
+pub write_blocks-requires-clause-pieced : goal.write_blocks-requires-clause-pieced
+write_blocks-requires-clause-pieced c =
     let w = c.requires.measured in
     let y = c.requires.roomy in
-    record {
-      pieced = pieced w y.starts y.ends (omega (arith, y.small)) _ (omega (arith, c.shift_rows.auto.ledger, c.move_rows.auto.ledger, y.rows));
-      out_len_bound = omega (arith, y.small, length-take c.args.m.walked.at c.move_bytes.new.out);
-    }
+    pieced w y.starts y.ends (omega (arith, y.small)) _ (omega (arith, c.shift_rows.auto.ledger, c.move_rows.auto.ledger, y.rows))
+
+pub overflow_sub-kept-2 : goal.overflow_sub-kept-2
+overflow_sub-kept-2 c = let y = c.requires.roomy in omega (arith, old-kept c.requires.measured y.starts y.ends)
 
 pub clear_between-requires-2 : goal.clear_between-requires-2
 clear_between-requires-2 c =

@@ -1,22 +1,23 @@
 -- `replace_fits`: the three questions of refusal 6, in their order.
-use borrow.Author.Tests.{le-leb, lt-leb}
+use mathlib.Core.Path.{sym, ◌∙◌}
+use mathlib.Core.Bool.{false≢true}
 use Rattle.edit_meaning.specs.Changes.{change_fits}
 use Rattle.calls.proofs.replace_fits.Goals as goal
+use Rattle.calls.proofs.replace_fits.Goals.{then-all_there, else-all_there}
 
-pub returns-then-not-all_there : goal.returns-then-not-all_there
+pub returns-then-within : goal.returns-then-within
 unfolding change_fits
-returns-then-not-all_there c = rw (← c.all_there.ensures, c.if-not-all_there.true)
+returns-then-within c =
+    elim c.if-all_there.branch [
+      | then-all_there w ↦
+          rw (← c.all_there.ensures, w.if-all_there.true, sym w.within-is ∙ c.if-within.true) c.ledger_fits.ensures
+      | else-all_there w ↦ absurd (false≢true (sym (w.within-is ∙ w.if-all_there.false) ∙ c.if-within.true))
+    ]
 
-pub returns-then-text-kept : goal.returns-then-text-kept
+pub returns-else-within : goal.returns-else-within
 unfolding change_fits
-returns-then-text-kept c =
-    rw (← c.all_there.ensures, c.if-not-all_there.false, lt-leb _ _ c.if-text-kept.true)
-
-pub returns : goal.returns
-unfolding change_fits
-returns c =
-    rw (
-      ← c.all_there.ensures,
-      c.if-not-all_there.false,
-      le-leb _ _ c.if-text-kept.false,
-    ) c.ledger_fits.ensures
+returns-else-within c =
+    elim c.if-all_there.branch [
+      | then-all_there w ↦ rw (c.if-within.false, ← c.all_there.ensures, w.if-all_there.true, sym w.within-is ∙ c.if-within.false)
+      | else-all_there w ↦ rw (c.if-within.false, ← c.all_there.ensures, w.if-all_there.false)
+    ]

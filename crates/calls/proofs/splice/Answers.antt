@@ -15,32 +15,30 @@ overflow_sub-new c =
 
 pub returns-then-not-has_room : goal.returns-then-not-has_room
 returns-then-not-has_room c w =
-    no_room w refl (c.end_before-old.ensures.0 c.args.was (omega (arith, c.requires.within))) c.has_room.ensures c.if-not-has_room.true
+    rw c.no_row.ensures
+    (no_room w refl (c.end_before-old.ensures.0 c.args.was (omega (arith, c.requires.within))) c.has_room.ensures c.if-not-has_room.true)
 
-pub overwrite-requires : goal.overwrite-requires
-overwrite-requires c =
+pub overwrite-requires-clause-roomy : goal.overwrite-requires-clause-roomy
+overwrite-requires-clause-roomy c =
     let e = c.end_before-old.ensures.0 c.args.was (omega (arith, c.requires.within)) in
     let h = has-room c.requires refl e c.has_room.ensures c.if-not-has_room.false in
-    record {
-      measured = c.requires;
-      roomy = record { starts = refl; ends = e; text = omega (arith, h.0); small = omega (arith, h.0); rows = h.1 };
-    }
+    record { starts = refl; ends = e; text = omega (arith, h.0); small = omega (arith, h.0); rows = h.1 }
 
 -- the new length and the kept one are numbers of 63 bits, as the length of every buffer is
-pub overflow_cast-growth : goal.overflow_cast-growth
-overflow_cast-growth c =
+pub overflow_cast-result : goal.overflow_cast-result
+overflow_cast-result c =
     let e = c.end_before-old.ensures.0 c.args.was (omega (arith, c.requires.within)) in
     record { sfits = omega (arith, (has-room c.requires refl e c.has_room.ensures c.if-not-has_room.false).0) }
 
-pub overflow_sub-growth : goal.overflow_sub-growth
-overflow_sub-growth c =
+pub overflow_sub-result : goal.overflow_sub-result
+overflow_sub-result c =
     let e = c.end_before-old.ensures.0 c.args.was (omega (arith, c.requires.within)) in
-    difference-fits (c.args.m.walked.at + (c.args.kept - c.end_before-old.result)) c.args.kept (omega (arith, (has-room c.requires refl e c.has_room.ensures c.if-not-has_room.false).0))
+    difference-fits (c.args.m.at + (c.args.kept - c.end_before-old.result)) c.args.kept (omega (arith, (has-room c.requires refl e c.has_room.ensures c.if-not-has_room.false).0))
     (omega (arith, c.requires.inside))
 
 pub returns : goal.returns
 returns c w =
     let e = c.end_before-old.ensures.0 c.args.was (omega (arith, c.requires.within)) in
-    let g = difference-is (c.args.m.walked.at + (c.args.kept - c.end_before-old.result)) c.args.kept (omega (arith, (has-room c.requires refl e c.has_room.ensures c.if-not-has_room.false).0))
+    let g = difference-is (c.args.m.at + (c.args.kept - c.end_before-old.result)) c.args.kept (omega (arith, (has-room c.requires refl e c.has_room.ensures c.if-not-has_room.false).0))
     (omega (arith, c.requires.inside)) in
     spliced w refl e c.has_room.ensures c.if-not-has_room.false g refl (c.overwrite.ensures w)

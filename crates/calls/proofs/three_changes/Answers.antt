@@ -6,11 +6,14 @@ use Rattle.manuscript.specs.Manuscript.{mode_of, manuscript}
 use Rattle.manuscript.proofs.Manuscript.{keeps-short}
 use Rattle.calls.proofs.three_changes.Goals as goal
 
-pub returns : goal.returns
-returns c =
-    let r = alters-more (edits-alter c.edit-first.ensures) c.length_after-after_one.ensures
+pub returns-clause-run : goal.returns-clause-run
+returns-clause-run c =
+    alters-more (edits-alter c.edit-first.ensures) c.length_after-after_one.ensures
     (alters-more c.insert-second.ensures c.length_after-after_two.ensures
-    (alters-more c.remove-third.ensures c.length_after-after_three.ensures no_change)) in
+    (alters-more c.remove-third.ensures c.length_after-after_three.ensures no_change))
+
+pub returns-clause-demand : goal.returns-clause-demand
+returns-clause-demand c =
     let a = c.args in
     let file = a.rules.now in
-    record { run = r; demand = alters-demanded (manuscript a.mode file) (keeps-short (mode_of a.mode) (rules_of file)) r }
+    alters-demanded (manuscript a.mode file) (keeps-short (mode_of a.mode) (rules_of file)) (returns-clause-run c)

@@ -8,8 +8,10 @@ use Rattle.console.proofs.put_refusal.Goals as goal
 
 pub returns-clause-wrote : goal.returns-clause-wrote
 returns-clause-wrote c =
-    (refusal-written _ _ (omega arith) c.put-a.ensures (wrote_as (ap decimal c.wide.ensures.0) c.put_decimal-b.ensures) c.put-c.ensures c.put_decimal-d.ensures c.put_byte.ensures).0
+    (refusal-written _ _ (omega arith) c.put.ensures.wrote (wrote_as (ap decimal c.from.ensures) c.put_decimal.ensures.wrote) c.put-2.ensures.wrote
+    c.put_decimal-2.ensures.wrote c.put_byte.ensures.wrote).0
 
 pub returns-clause-prefix_len : goal.returns-clause-prefix_len
 returns-clause-prefix_len c =
-    (refusal-written _ _ (omega arith) c.put-a.ensures (wrote_as (ap decimal c.wide.ensures.0) c.put_decimal-b.ensures) c.put-c.ensures c.put_decimal-d.ensures c.put_byte.ensures).1
+    (refusal-written _ _ (omega arith) c.put.ensures.wrote (wrote_as (ap decimal c.from.ensures) c.put_decimal.ensures.wrote) c.put-2.ensures.wrote
+    c.put_decimal-2.ensures.wrote c.put_byte.ensures.wrote).1

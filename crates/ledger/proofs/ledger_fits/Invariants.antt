@@ -1,4 +1,4 @@
--- The invariant: the ledger fits if the rows that are left do, from the length before them on. The measure is the rows left.
+-- The invariant: the ledger fits if the rows that are left do, from the length before them on.
 use mathlib.Core.Path.{◌≡◌}
 use Prim.Native.Nat.{◌*◌, ◌-◌, ◌≤◌}
 use lib.ListN.{length, drop}
@@ -6,7 +6,4 @@ use Rattle.ledger.specs.Ledger.{row_size, all_rows_fit, fits}
 use Rattle.ledger.proofs.ledger_fits.Given as goal
 
 abbrev pub invariant-loop-i : goal.invariant-loop-i
-invariant-loop-i l = (l.i ≤ l.blocks) × (row_size * l.blocks ≤ length l.ledger) × (fits l.blocks l.kept l.ledger ≡ all_rows_fit (l.blocks - l.i) l.end l.kept (drop (row_size * l.i) l.ledger))
-
-abbrev pub decreases-loop-i : goal.decreases-loop-i
-decreases-loop-i l = l.blocks - l.i
+invariant-loop-i l = (row_size * l.blocks ≤ length l.ledger) × (fits l.blocks l.kept l.ledger ≡ all_rows_fit (l.blocks - l.i) l.end l.kept (drop (row_size * l.i) l.ledger))

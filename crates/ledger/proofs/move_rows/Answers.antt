@@ -6,10 +6,10 @@ pub move_row-requires : goal.move_row-requires
 move_row-requires c =
     let loop = c.loop-i in
     let pre = c.requires in (
-      omega (arith, rows-moved-same loop.invariant.1, pre.1),
-      rows-moved-movable loop.invariant.1 (pre.2 loop.i loop.invariant.1.above c.loop-i-test.true),
+      omega (arith, rows-moved-same loop.invariant, pre.1),
+      rows-moved-movable loop.invariant (pre.2 loop.i loop.invariant.above c.loop-i-test.true),
     )
 
 pub loop-i-preserved : goal.loop-i-preserved
 loop-i-preserved c =
-    (omega arith, rows-moved-more c.loop-i.invariant.1 (omega (arith, c.requires.1)) c.move_row.ensures)
+    rows-moved-more c.loop-i.invariant (omega (arith, c.requires.1)) c.move_row.ensures

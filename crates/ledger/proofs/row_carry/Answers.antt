@@ -2,9 +2,10 @@
 use native.Mathlib.Omega.{arith}
 use mathlib.Core.Path.{ap}
 use lib.ListN.{length}
+use Rattle.mitex_meaning.specs.Keeping.{label_bytes}
 use Rattle.ledger.proofs.Reading.{row_at-short}
 use Rattle.ledger.proofs.row_carry.Goals as goal
 
 pub with_label-requires : goal.with_label-requires
 with_label-requires c =
-    omega (arith, ap length c.row_label.ensures, row_at-short c.args.i c.args.ledger.now c.requires.1)
+    omega (arith, ap (λ a. length (label_bytes a)) c.in-Some.ensures, row_at-short c.args.i c.args.ledger.now c.requires.1)

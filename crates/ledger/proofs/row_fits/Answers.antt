@@ -1,26 +1,41 @@
--- Bytes 4 to 7 first, then the padding as a part of the ledger.
+-- Bytes 4 to 7 first, then the padding as a part of the row.
+use mathlib.Core.Path.{refl, sym, ◌∙◌}
+use mathlib.Core.List.{List}
+use Prim.Native.Nat.{ℕ, ◌*◌}
 use native.Mathlib.Omega.{arith}
-use mathlib.Core.Path.{sym, ◌∙◌}
-use Rattle.ledger.proofs.Reading.{row_fits-not, row_fits-zeros, marks-short}
+use lib.ListN.{drop, length-drop}
+use Rattle.ledger.specs.Ledger.{row_size}
+use Rattle.ledger.proofs.Reading.{row-length, row-unfit, row-zeros, marks-short}
 use Rattle.ledger.proofs.row_fits.Goals as goal
-
-pub returns-then-not-marks_fit : goal.returns-then-not-marks_fit
-returns-then-not-marks_fit c =
-    row_fits-not _ c.args.ledger.now c.wide-flag.ensures.0 c.wide-held.ensures.0 c.wide-len.ensures.0 c.wide-blank.ensures.0
-    (sym c.marks_fit.ensures ∙ c.if-not-marks_fit.true)
 
 pub slice_bounds-all_zero-count : goal.slice_bounds-all_zero-count
 slice_bounds-all_zero-count c =
-    let say = marks-short _ c.args.ledger.now c.wide-flag.ensures.0 c.wide-held.ensures.0 c.wide-len.ensures.0 c.wide-blank.ensures.0 in
-    omega (arith, say (sym c.marks_fit.ensures ∙ c.if-not-marks_fit.false))
+    let at : List ℕ = drop (row_size * c.args.i) c.args.ledger.now in
+    omega (
+      arith,
+      row-length at c.row_bytes-row.result.now c.row_bytes-row.ensures (omega (arith, length-drop (row_size * c.args.i) c.args.ledger.now)),
+      marks-short _ _ _ _ (sym c.marks_fit.ensures ∙ c.if-marks_fit.true),
+    )
 
 pub slice_bounds-all_zero-start : goal.slice_bounds-all_zero-start
 slice_bounds-all_zero-start c =
-    let say = marks-short _ c.args.ledger.now c.wide-flag.ensures.0 c.wide-held.ensures.0 c.wide-len.ensures.0 c.wide-blank.ensures.0 in
-    omega (arith, say (sym c.marks_fit.ensures ∙ c.if-not-marks_fit.false))
+    let at : List ℕ = drop (row_size * c.args.i) c.args.ledger.now in
+    omega (
+      arith,
+      row-length at c.row_bytes-row.result.now c.row_bytes-row.ensures (omega (arith, length-drop (row_size * c.args.i) c.args.ledger.now)),
+      marks-short _ _ _ _ (sym c.marks_fit.ensures ∙ c.if-marks_fit.true),
+    )
 
-pub returns : goal.returns
-returns c =
+pub returns-then-marks_fit : goal.returns-then-marks_fit
+returns-then-marks_fit c =
+    let row = c.row_bytes-row in
     c.all_zero.ensures
-    ∙ row_fits-zeros _ c.args.ledger.now c.wide-flag.ensures.0 c.wide-held.ensures.0 c.wide-len.ensures.0 c.wide-blank.ensures.0
-    (sym c.marks_fit.ensures ∙ c.if-not-marks_fit.false)
+    ∙ row-zeros (drop (row_size * c.args.i) c.args.ledger.now) row.result.now row.ensures refl refl c.from-len.ensures refl
+    (sym c.marks_fit.ensures ∙ c.if-marks_fit.true)
+
+pub returns-else-marks_fit : goal.returns-else-marks_fit
+returns-else-marks_fit c =
+    let row = c.row_bytes-row in
+    c.if-marks_fit.false
+    ∙ row-unfit (drop (row_size * c.args.i) c.args.ledger.now) row.result.now row.ensures refl refl c.from-len.ensures refl
+    (sym c.marks_fit.ensures ∙ c.if-marks_fit.false)

@@ -1,34 +1,52 @@
--- `past_child`: the element at the cursor, if there is one, has the rows and the text that its rows say (`first-passed`).
-use native.Mathlib.Omega.{arith}
+-- The first element, if there is one, has the rows and the text that its rows say (`first-passed`).
+use mathlib.Core.Path.{sym, ◌∙◌}
 use Rattle.mitex_meaning.specs.Colors.{rest}
-use Rattle.mitex_colors.proofs.Scans.{some_left, first-passed-none, first-passed-spans, first-passed}
+use Rattle.mitex_colors.proofs.Scans.{some_left, is-none, is-some, first-passed-none, first-passed-spans, first-passed, first-high, first-stop, past-some}
 use Rattle.mitex_colors.proofs.past_child.Goals as goal
 
-pub returns-then-rows-i : goal.returns-then-rows-i
-returns-then-rows-i c = λ tail s l. first-passed-none s l c.if-rows-i.true
+pub returns-then-is_empty : goal.returns-then-is_empty
+returns-then-is_empty c = λ tail s l. first-passed-none s l (is-none (sym c.is_empty.ensures ∙ c.if-is_empty.true))
 
-pub span_at-s-requires : goal.span_at-s-requires
-span_at-s-requires c =
-    let pre = c.requires in
-    first-passed-spans (rest 0 pre.forest) (some_left pre) c.if-rows-i.false pre.few pre.short
+pub span_at-first-requires : goal.span_at-first-requires
+span_at-first-requires c =
+    let all = c.args.elements.some in
+    first-passed-spans (rest 0 all.forest) (some_left all) (is-some (sym c.is_empty.ensures ∙ c.if-is_empty.false)) all.few all.short
 
--- by the step that is taken
-pub overflow_add-result : goal.overflow_add-result
-overflow_add-result c =
-    let pre = c.requires in
-    let said = c.span_at-s.ensures in
-    let step = first-passed (rest 0 pre.forest) (some_left pre) c.if-rows-i.false pre.few pre.short _ _ said.rows said.text in
-    let low = step.moved.there.low in omega arith
+-- the part past the first element begins where it ends
+pub slice_bounds-result-count : goal.slice_bounds-result-count
+slice_bounds-result-count c =
+    let all = c.args.elements.some in
+    let said = c.span_at-first.ensures in
+    first-high (rest 0 all.forest) (some_left all) (is-some (sym c.is_empty.ensures ∙ c.if-is_empty.false)) all.few all.short _ _ said.rows said.text
 
-pub overflow_add-result-2 : goal.overflow_add-result-2
-overflow_add-result-2 c =
-    let pre = c.requires in
-    let said = c.span_at-s.ensures in
-    let step = first-passed (rest 0 pre.forest) (some_left pre) c.if-rows-i.false pre.few pre.short _ _ said.rows said.text in
-    let begun = step.moved.there.begun in omega arith
+pub slice_bounds-result-start : goal.slice_bounds-result-start
+slice_bounds-result-start c =
+    let all = c.args.elements.some in
+    let said = c.span_at-first.ensures in
+    first-high (rest 0 all.forest) (some_left all) (is-some (sym c.is_empty.ensures ∙ c.if-is_empty.false)) all.few all.short _ _ said.rows said.text
+
+pub slice_bounds-result-count-2 : goal.slice_bounds-result-count-2
+slice_bounds-result-count-2 c =
+    let all = c.args.elements.some in
+    let said = c.span_at-first.ensures in
+    first-stop (rest 0 all.forest) (some_left all) (is-some (sym c.is_empty.ensures ∙ c.if-is_empty.false)) all.few all.short _ _ said.rows said.text
+
+pub slice_bounds-result-start-2 : goal.slice_bounds-result-start-2
+slice_bounds-result-start-2 c =
+    let all = c.args.elements.some in
+    let said = c.span_at-first.ensures in
+    first-stop (rest 0 all.forest) (some_left all) (is-some (sym c.is_empty.ensures ∙ c.if-is_empty.false)) all.few all.short _ _ said.rows said.text
+
+pub invariant_of-result : goal.invariant_of-result
+invariant_of-result c =
+    let all = c.args.elements.some in
+    let said = c.span_at-first.ensures in
+    record {
+      some = past-some (rest 0 all.forest) (some_left all) (is-some (sym c.is_empty.ensures ∙ c.if-is_empty.false)) all.few all.short _ _ said.rows said.text;
+    }
 
 pub returns : goal.returns
 returns c =
-    let pre = c.requires in
-    let said = c.span_at-s.ensures in
-    λ tail s l. first-passed s l c.if-rows-i.false pre.few pre.short _ _ said.rows said.text
+    let all = c.args.elements.some in
+    let said = c.span_at-first.ensures in
+    λ tail s l. first-passed s l (is-some (sym c.is_empty.ensures ∙ c.if-is_empty.false)) all.few all.short _ _ said.rows said.text

@@ -1,13 +1,14 @@
--- `put_model`: the parts one after the other.
-use mathlib.Core.Path.{ap, subst, sym}
-use Prim.Native.Nat.{◌≤◌}
-use Rattle.text.specs.Writing.{cap}
-use Rattle.text.proofs.Writing.{wrote_as, wrote-long, wrote_then}
-use Rattle.mitex_meaning.specs.Parts.{model_text}
+-- The model between its ends.
+use mathlib.Core.Path.{sym, ap}
+use mathlib.Core.List.{List}
+use Prim.Native.Nat.{ℕ}
+use Rattle.std.specs.Prelude.{Option}
+use Rattle.std.specs.Borrow.{Bor}
+use Rattle.text.proofs.Outputs.{puts_then, puts_as}
+use Rattle.mitex_colors.specs.Models.{model_text}
 use Rattle.mitex_colors.proofs.put_model.Goals as goal
 
-pub returns : goal.returns
-returns c =
-    let long = subst (λ n. n ≤ cap) (sym (wrote-long c.put-p.ensures)) c.requires.1 in
-    wrote_as (ap (λ b. model_text b c.args.s.now) (sym (c.if-not-held.false)))
-    (wrote_then c.requires.1 c.put-p.ensures (wrote_then long c.put-q.ensures c.put-2.ensures))
+pub returns-in-Some : goal.returns-in-Some
+returns-in-Some c =
+    puts_as (ap (λ (m : Option (Bor (List ℕ))). model_text m) (sym c.in-Some.is))
+    (puts_then c.put.ensures (puts_then c.put-in-Some.ensures c.put-in-Some-2.ensures))

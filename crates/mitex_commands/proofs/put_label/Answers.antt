@@ -1,7 +1,6 @@
 -- The three texts one after the other.
-use Rattle.mitex_commands.proofs.Putting.{wrote-three}
+use Rattle.text.proofs.Outputs.{puts_then}
 use Rattle.mitex_commands.proofs.put_label.Goals as goal
 
 pub returns : goal.returns
-returns c =
-    wrote-three c.requires.1 c.put-a.ensures c.put-b.ensures c.put.ensures
+returns c = puts_then c.put.ensures (puts_then c.put-2.ensures c.put-3.ensures)

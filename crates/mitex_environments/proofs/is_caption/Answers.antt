@@ -8,24 +8,25 @@ use Rattle.mitex_syntax.specs.Syntax.{ItemCmd}
 use Rattle.mitex_syntax.specs.Tree.{kind_of}
 use Rattle.mitex_syntax.specs.Views.{children_of}
 use Rattle.mitex_meaning.specs.Texts.{caption_name}
-use Rattle.mitex_environments.proofs.Captioning.{kind-in, children-in, children-some}
+use Rattle.mitex_environments.proofs.Captioning.{kind-in, taken-children}
 use Rattle.mitex_environments.proofs.is_caption.Goals as goal
 
-pub returns-then-rows-i-ne-ITEM_CMD : goal.returns-then-rows-i-ne-ITEM_CMD
-returns-then-rows-i-ne-ITEM_CMD c =
+pub returns-then-children-child-eq-ITEM_CMD : goal.returns-then-children-child-eq-ITEM_CMD
+returns-then-children-child-eq-ITEM_CMD c =
     let a = c.args in
     let pre = c.requires in
-    λ t sp. rw (ne_eqb (kind_of t) ItemCmd (λ q. c.if-rows-i-ne-ITEM_CMD.true (kind-in a.rows.now a.i a.e sp pre.some_rows pre.end ∙ q)))
-
-pub name_tok-requires : goal.name_tok-requires
-name_tok-requires c =
-    children-some c.requires
-
-pub returns : goal.returns
-returns c =
-    let a = c.args in
-    let pre = c.requires in
+    let said = c.children_at.ensures in
     λ t sp.
-    let cmd = eq-eqb (kind_of t) ItemCmd (sym (kind-in a.rows.now a.i a.e sp pre.some_rows pre.end) ∙ c.if-rows-i-ne-ITEM_CMD.false) in
-    let kids = children-in a.rows.now a.i a.e sp pre.some_rows pre.end in
-    rw cmd (c.same.ensures ∙ ap (λ (n : List ℕ). same n caption_name) (c.name_tok.ensures (children_of t) kids))
+    let cmd = eq-eqb (kind_of t) ItemCmd (sym (kind-in a.children.rows.now a.child sp pre.some_rows pre.end) ∙ c.if-children-child-eq-ITEM_CMD.true) in
+    rw cmd
+    (c.same.ensures
+    ∙ ap (λ (n : List ℕ). same n caption_name) (c.name_tok.ensures (children_of t) (taken-children t pre sp said.rows said.text)))
+
+pub returns-else-children-child-eq-ITEM_CMD : goal.returns-else-children-child-eq-ITEM_CMD
+returns-else-children-child-eq-ITEM_CMD c =
+    let a = c.args in
+    let pre = c.requires in
+    let h = c.if-children-child-eq-ITEM_CMD.false in
+    λ t sp.
+    let other = ne_eqb (kind_of t) ItemCmd (λ q. h (kind-in a.children.rows.now a.child sp pre.some_rows pre.end ∙ q)) in
+    rw other (ne_eqb _ ItemCmd h)

@@ -1,59 +1,69 @@
+-- In a turn of the loop there is an element, whose place is a child's; its caption is the last so far, or has no argument and is the answer.
 use native.Mathlib.Omega.{arith}
+use Rattle.std.proofs.lemmas.Result.{err_from_is_err_and}
 use Rattle.mitex_syntax.proofs.Trees.{all-begins, spans}
-use Rattle.mitex_environments.proofs.Captioning.{caption-rest-start, caption-rest-element, caption-rest-child, caption-rest-next, caption-rest-end}
+use Rattle.mitex_environments.proofs.Captioning.{caption-rest-start, caption-rest-element, caption-rest-child, caption-rest-next, caption-rest-stop, caption-rest-end}
 use Rattle.mitex_environments.proofs.last_caption.Goals as goal
 
-pub loop-i-init : goal.loop-i-init
-loop-i-init c = (omega arith, omega arith, λ f sp. caption-rest-start sp)
+pub loop-row-init : goal.loop-row-init
+loop-row-init c = record { low = omega arith; begun = omega arith; rest = λ f sp. caption-rest-start sp }
 
--- in a turn of the loop there is an element
-pub span_at-s-requires : goal.span_at-s-requires
-span_at-s-requires c =
-    let pre = c.requires in
-    let inv = c.loop-i.invariant in
-    let here = caption-rest-element (inv.2 pre.forest pre.begins) c.loop-i-test.true inv.1 pre.few pre.short in
-    spans here pre.few pre.short
+pub span_at-span-requires : goal.span_at-span-requires
+span_at-span-requires c =
+    let all = c.args.children.some in
+    let inv = c.loop-row.invariant in
+    spans (caption-rest-element (inv.rest all.forest all.begins) c.loop-row-test.true inv.begun all.few all.short) all.few all.short
 
--- and its bytes are a child's
-pub overflow_add-e : goal.overflow_add-e
-overflow_add-e c =
-    let pre = c.requires in
-    let inv = c.loop-i.invariant in
-    let rest = inv.2 pre.forest pre.begins in
-    let said = c.span_at-s.ensures in
-    let kid = caption-rest-child rest c.loop-i-test.true inv.1 pre.few pre.short _ _ said.rows said.text in
+pub overflow_add-end : goal.overflow_add-end
+overflow_add-end c =
+    let all = c.args.children.some in
+    let inv = c.loop-row.invariant in
+    let said = c.span_at-span.ensures in
+    let kid = caption-rest-child (inv.rest all.forest all.begins) c.loop-row-test.true inv.begun all.few all.short _ _ said.rows said.text in
+    let few = all.few in
     let z = kid.end in omega arith
 
-pub overflow_add-u : goal.overflow_add-u
-overflow_add-u c =
-    let pre = c.requires in
-    let inv = c.loop-i.invariant in
-    let rest = inv.2 pre.forest pre.begins in
-    let said = c.span_at-s.ensures in
-    let kid = caption-rest-child rest c.loop-i-test.true inv.1 pre.few pre.short _ _ said.rows said.text in
+pub overflow_add-to : goal.overflow_add-to
+overflow_add-to c =
+    let all = c.args.children.some in
+    let inv = c.loop-row.invariant in
+    let said = c.span_at-span.ensures in
+    let kid = caption-rest-child (inv.rest all.forest all.begins) c.loop-row-test.true inv.begun all.few all.short _ _ said.rows said.text in
+    let short = all.short in
     let z = kid.stop in omega arith
 
 pub caption_at-requires : goal.caption_at-requires
 caption_at-requires c =
-    let pre = c.requires in
-    let inv = c.loop-i.invariant in
-    let rest = inv.2 pre.forest pre.begins in
-    let said = c.span_at-s.ensures in
-    let kid = caption-rest-child rest c.loop-i-test.true inv.1 pre.few pre.short _ _ said.rows said.text in
-    kid
+    let all = c.args.children.some in
+    let inv = c.loop-row.invariant in
+    let said = c.span_at-span.ensures in
+    caption-rest-child (inv.rest all.forest all.begins) c.loop-row-test.true inv.begun all.few all.short _ _ said.rows said.text
 
-pub loop-i-preserved : goal.loop-i-preserved
-loop-i-preserved c =
-    let pre = c.requires in
-    let inv = c.loop-i.invariant in
-    let rest = inv.2 pre.forest pre.begins in
-    let said = c.span_at-s.ensures in
-    let kid = caption-rest-child rest c.loop-i-test.true inv.1 pre.few pre.short _ _ said.rows said.text in (
-      kid.end,
-      kid.stop,
-      λ f sp. caption-rest-next (inv.2 f sp) c.loop-i-test.true inv.1 pre.few pre.short _ _ said.rows said.text
-          c.caption_at.ensures c.or_later-found.ensures,
-    )
+pub returns-in_err-found : goal.returns-in_err-found
+returns-in_err-found c =
+    let all = c.args.children.some in
+    let inv = c.loop-row.invariant in
+    let said = c.span_at-span.ensures in
+    let p = err_from_is_err_and c.from_residual.result c.from_residual.ensures.1 in
+    λ f sp.
+    rw (p.1, p.2)
+    (caption-rest-stop (inv.rest f (all-begins sp)) c.loop-row-test.true inv.begun all.few all.short _ _ said.rows said.text
+    c.caption_at.ensures c.in_err-found.was)
+
+pub loop-row-preserved : goal.loop-row-preserved
+loop-row-preserved c =
+    let all = c.args.children.some in
+    let inv = c.loop-row.invariant in
+    let said = c.span_at-span.ensures in
+    let kid = caption-rest-child (inv.rest all.forest all.begins) c.loop-row-test.true inv.begun all.few all.short _ _ said.rows said.text in
+    record {
+      low = kid.end;
+      begun = kid.stop;
+      rest = λ f sp.
+          rw c.or-last.ensures
+          (caption-rest-next (inv.rest f sp) c.loop-row-test.true inv.begun all.few all.short _ _ said.rows said.text
+          c.caption_at.ensures c.in_ok-found.was);
+    }
 
 pub returns : goal.returns
-returns c = λ f sp. caption-rest-end (c.loop-i.invariant.2 f (all-begins sp)) c.loop-i-test.false
+returns c = λ f sp. caption-rest-end (c.loop-row.invariant.rest f (all-begins sp)) c.loop-row-test.false

@@ -7,8 +7,13 @@ use Rattle.mitex_syntax.specs.Spells.{Begins}
 use Rattle.mitex_environments.proofs.Captioning.{CaptionRest}
 use Rattle.mitex_environments.proofs.last_caption.Given as goal
 
-abbrev pub invariant-loop-i : goal.invariant-loop-i
-invariant-loop-i l = (l.i ≤ length l.rows) × (l.j ≤ length l.text) × ((f : Forest) → Begins f l.rows l.text → CaptionRest f l.rows l.text l.found l.i l.j)
+abbrev pub invariant-loop-row : goal.invariant-loop-row
+invariant-loop-row l =
+    record {
+      low : l.row ≤ length l.children.rows.now;
+      begun : l.from ≤ length l.children.text.now;
+      rest : (f : Forest) → Begins f l.children.rows.now l.children.text.now → CaptionRest f l.children.rows.now l.children.text.now l.last l.row l.from;
+    }
 
-abbrev pub decreases-loop-i : goal.decreases-loop-i
-decreases-loop-i l = length l.rows - l.i
+abbrev pub decreases-loop-row : goal.decreases-loop-row
+decreases-loop-row l = length l.children.rows.now - l.row

@@ -1,7 +1,6 @@
--- Three texts, one after the other.
-use Rattle.mitex_commands.proofs.Putting.{wrote-three}
+-- The three texts one after the other.
+use Rattle.text.proofs.Outputs.{puts_then}
 use Rattle.mitex_environments.proofs.put_math_begin.Goals as goal
 
 pub returns : goal.returns
-returns c =
-    wrote-three c.requires.1 c.put_dollar_begin-a.ensures c.put-b.ensures c.put.ensures
+returns c = puts_then c.put_dollar_begin.ensures (puts_then c.put.ensures c.put-2.ensures)

@@ -1,27 +1,26 @@
-use mathlib.Core.Path.{sym, ◌∙◌}
-use native.Mathlib.Omega.{arith}
-use lib.Seq.{length-take-le}
-use Rattle.text.proofs.Writing.{wrote-nil, wrote_as, wrote_then, wrote-low, wrote-long}
-use Rattle.mitex_meaning.specs.Images.{comma_byte}
-use Rattle.mitex_images.proofs.Splitting.{index-most, options-next, options-end}
+-- `mitex_images::put_options` meets its contract: one option more, and all of them at the end.
+use mathlib.Core.Path.{sym, ap, ◌∙◌}
+use lib.Dec.{eqb}
+use Rattle.std.proofs.Common.{rules, tests}
+use Rattle.std.proofs.lemmas.Iterator.Consumers.{YieldsList-end}
+use Rattle.std.proofs.lemmas.Iterator.Splits.{YieldsList-from_slice_split}
+use Rattle.mitex_meaning.specs.Images.{options_text, comma_byte}
+use Rattle.text.proofs.Outputs.{puts_nil, puts_then, puts_as}
+use Rattle.mitex_images.proofs.Splitting.{cut-split, options-more}
 use Rattle.mitex_images.proofs.put_options.Goals as goal
 
-pub slice_bounds-put_option-end : goal.slice_bounds-put_option-end
-slice_bounds-put_option-end c =
-    sym (length-take-le _ _ (omega (arith, c.index_of-n.ensures, index-most comma_byte c.loop-rest.rest.now)))
+pub loop-option-init : goal.loop-option-init
+unfolding options_text
+loop-option-init c = puts_nil
 
-pub past_byte-from-requires : goal.past_byte-from-requires
-past_byte-from-requires c = omega (arith, c.index_of-n.ensures, index-most comma_byte c.loop-rest.rest.now)
-
-pub loop-rest-preserved : goal.loop-rest-preserved
-loop-rest-preserved c =
-    let loop = c.loop-rest in
-    let w = c.put_option-p.ensures in
-    let low = c.requires.1 in
-    let e = options-next loop.rest.now _ _ c.index_of-n.ensures c.past_byte-from.ensures in
-    (wrote-low w, wrote-long w ∙ loop.invariant.1, λ r o k. loop.invariant.2 r o (wrote_as e (wrote_then (omega (arith, loop.invariant.1)) w k)))
+pub loop-option-preserved : goal.loop-option-preserved
+loop-option-preserved c =
+    puts_as (sym (options-more c.loop-option.yielded c.in-Some.option)) (puts_then c.loop-option.invariant c.put_option.ensures)
 
 pub returns : goal.returns
 returns c =
-    let loop = c.loop-rest in
-    loop.invariant.2 _ _ (wrote_as (options-end loop.rest.now c.loop-rest-test.false) (wrote-nil _ _ loop.invariant.0))
+    let s = c.args.s.now in
+    let all =
+    YieldsList-end (YieldsList-from_slice_split _ (λ x. eqb x comma_byte) s (cc) (cc) (cc) (λ x b q k. search (rules, tests)))
+    c.loop-option.yielded _ c.loop-option.yielded_by c.next.result _ c.in-None.is c.next.ensures.steps in
+    puts_as (ap options_text (all.0 ∙ cut-split comma_byte s)) c.loop-option.invariant

@@ -1,10 +1,6 @@
--- `put_share`: what stands before the ending, then the rest of the sum.
-use mathlib.Core.Path.{ap}
-use mathlib.Core.List.{◌++◌}
-use Rattle.text.proofs.Writing.{wrote_as, wrote_then}
-use Rattle.mitex_meaning.specs.Texts.{of_page}
+-- `mitex_images::put_share` meets its contract: what stands before the ending, then the rest of the sum.
+use Rattle.text.proofs.Outputs.{puts_then, puts_as}
 use Rattle.mitex_images.proofs.put_share.Goals as goal
 
 pub returns : goal.returns
-returns c =
-    wrote_as (ap (λ v. v ++ of_page) c.without_end.ensures) (wrote_then c.requires.1 c.put-a.ensures c.put.ensures)
+returns c = puts_then (puts_as c.without_end.ensures c.put.ensures) c.put-2.ensures

@@ -1,16 +1,18 @@
-use mathlib.Core.Path.{sym, ◌∙◌}
-use Rattle.text.proofs.Compare.{ends-short}
-use Rattle.mitex_images.proofs.Endings.{without-once, without-done}
+-- `mitex_images::without_end` meets its contract: the ending is cut once more (`without-once`), or there is none.
+use mathlib.Core.Path.{sym, ap, ◌∙◌}
+use Rattle.mitex_meaning.specs.Images.{without_end}
+use Rattle.mitex_images.proofs.Endings.{without-once, without-done, ends-so}
 use Rattle.mitex_images.proofs.without_end.Goals as goal
 
-pub returns-then-not-ends_with : goal.returns-then-not-ends_with
-returns-then-not-ends_with c =
-    without-done _ c.requires _ (sym c.ends_with.ensures ∙ c.if-not-ends_with.true) ∙ c.loop-t.invariant
-
-pub loop-t-preserved : goal.loop-t-preserved
-loop-t-preserved c =
-    without-once _ c.requires _ (sym c.ends_with.ensures ∙ c.if-not-ends_with.false) ∙ c.loop-t.invariant
+pub loop-rest-preserved : goal.loop-rest-preserved
+loop-rest-preserved c =
+    let p = c.args.p.now in
+    let v = c.loop-rest.t.now in
+    let e = c.in-Some.ensures.cases in
+    ap (without_end p) e.1 ∙ without-once p c.requires v (sym (ends-so p c.requires v) ∙ e.0) ∙ c.loop-rest.invariant
 
 pub returns : goal.returns
 returns c =
-    without-done _ c.requires _ (ends-short _ _ c.loop-t-test.false) ∙ c.loop-t.invariant
+    let p = c.args.p.now in
+    let v = c.loop-rest.t.now in
+    without-done p c.requires v (sym (ends-so p c.requires v) ∙ c.in_default.ensures.cases) ∙ c.loop-rest.invariant

@@ -1,16 +1,12 @@
-use mathlib.Core.Path.{sym, ◌∙◌}
-use Rattle.mitex_loops.proofs.Steady.{blank-end, blank-stop, blank-next}
+-- `mitex_loops::is_blank_group` meets its contract: what `all` answers of the rows, and what that says of the elements.
+use Rattle.std.proofs.Common.{rules, tests}
+use Rattle.mitex_meaning.specs.Children.{is_blank}
+use Rattle.mitex_loops.proofs.RowTests.{eights, all-answers}
+use Rattle.mitex_loops.proofs.Steady.{blank-answer}
 use Rattle.mitex_loops.proofs.is_blank_group.Goals as goal
 
-pub returns-then-not-is_blank : goal.returns-then-not-is_blank
-returns-then-not-is_blank c =
-    let kind = sym c.is_blank.ensures ∙ c.if-not-is_blank.true in
-    λ f text sp. sym (blank-stop (c.loop-i.invariant f text sp) c.loop-i-test.true kind)
-
-pub loop-i-preserved : goal.loop-i-preserved
-loop-i-preserved c =
-    let kind = sym c.is_blank.ensures ∙ c.if-not-is_blank.false in
-    λ f text sp. blank-next (c.loop-i.invariant f text sp) c.loop-i-test.true kind
-
 pub returns : goal.returns
-returns c = λ f text sp. sym (blank-end (c.loop-i.invariant f text sp) c.loop-i-test.false)
+returns c =
+    let runs = eights _ _ c.chunks_exact.ensures.runs c.chunks_exact.ensures.size c.chunks_exact.ensures.rest in
+    let answer = all-answers _ _ is_blank (λ x b q k. search (rules, tests)) c.args.children.rows.now runs c.all.result c.all.ensures.runs in
+    λ f sp. blank-answer c.all.result f answer sp

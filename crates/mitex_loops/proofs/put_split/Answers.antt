@@ -1,7 +1,7 @@
--- `mitex_loops::put_split` meets its contract: the two texts one after the other.
-use Rattle.text.proofs.Writing.{wrote_then}
+-- `mitex_loops::put_split` meets its contract: the texts one after the other.
+use Rattle.std.proofs.Common.{rules}
+use Rattle.text.proofs.Outputs.{puts_then}
 use Rattle.mitex_loops.proofs.put_split.Goals as goal
 
 pub returns : goal.returns
-returns c =
-    wrote_then c.requires.1 c.put-p.ensures c.put.ensures
+returns c = search (rules, puts_then)

@@ -3,15 +3,10 @@
 use mathlib.Core.Path.{◌≡◌}
 use mathlib.Core.Option.Option.{some}
 use mathlib.Core.List.{List}
-use Prim.Native.Nat.{◌-◌, ◌≤◌}
-use lib.ListN.{length}
 use Rattle.mitex_spec.specs.Rules.{Rule}
 use Rattle.mitex_spec.specs.RuleFile.{rules_of}
 use Rattle.mitex_spec.proofs.Firsts.{Tabled}
 use Rattle.mitex_spec.proofs.fill_firsts.Given as goal
 
 abbrev pub invariant-loop-b : goal.invariant-loop-b
-invariant-loop-b l = (l.b ≤ 257) × (length l.index ≡ length l.initial.index) × ((rs : List Rule) → rules_of l.file ≡ some rs → Tabled rs l.initial.index l.index l.b l.k)
-
-abbrev pub decreases-loop-b : goal.decreases-loop-b
-decreases-loop-b l = 257 - l.b
+invariant-loop-b l = (rs : List Rule) → rules_of l.file ≡ some rs → Tabled rs l.initial.index l.index l.b l.k

@@ -6,10 +6,8 @@ use lib.ListN.{length}
 use Rattle.mitex_spec.proofs.Checking.{Filled}
 use Rattle.mitex_spec.proofs.fill_index.Given as goal
 
-abbrev pub invariant-loop-l : goal.invariant-loop-l
-invariant-loop-l l =
-    (l.at ≤ 131072 * l.k) × (8 * l.k + length l.l ≤ length l.rows) × (length l.index ≡ length l.initial.index)
-    × ((n : ℕ) → length l.rows ≡ 8 * n → Filled n l.rows l.initial.index l.index l.l l.at l.k)
-
-abbrev pub decreases-loop-l : goal.decreases-loop-l
-decreases-loop-l l = length l.l
+abbrev pub invariant-loop-k : goal.invariant-loop-k
+invariant-loop-k l =
+    let left = l.k-iterator.iter in
+    (left.size ≡ 8) × (l.at ≤ 131072 * l.k-iterator.count) × (8 * l.k-iterator.count + length left.rest.now ≤ length l.rows)
+    × ((n : ℕ) → length l.rows ≡ 8 * n → Filled n l.rows l.initial.index l.index left.rest.now l.at l.k-iterator.count)

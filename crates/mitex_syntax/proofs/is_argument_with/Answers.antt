@@ -1,7 +1,10 @@
 -- `is_argument_with`: the test on the first byte and on the first node under it (`wanted-argument`, `wanted-other`).
+use mathlib.Core.Path.{ap, ◌∙◌}
 use native.Mathlib.Omega.{arith}
-use Rattle.mitex_syntax.specs.Views.{children_of}
-use Rattle.mitex_syntax.proofs.Seeking.{children-rows, wanted-argument, wanted-other, element-eight}
+use borrow.Author.Tests.{ne_eqb}
+use Rattle.std.specs.Prelude.{ℕ, Option, unwrap_or}
+use Rattle.mitex_syntax.specs.Views.{children_of, first_node}
+use Rattle.mitex_syntax.proofs.Seeking.{children-rows, kind-or-none, wanted-argument, wanted-other, element-eight}
 use Rattle.mitex_syntax.proofs.is_argument_with.Goals as goal
 
 pub bounds-rows-0 : goal.bounds-rows-0
@@ -20,7 +23,10 @@ first_node_kind-requires c =
 
 pub returns-then-rows-eq-CLAUSE_ARGUMENT : goal.returns-then-rows-eq-CLAUSE_ARGUMENT
 returns-then-rows-eq-CLAUSE_ARGUMENT c =
-    λ t e. wanted-argument t _ e c.args.kind _ c.if-rows-eq-CLAUSE_ARGUMENT.true (c.first_node_kind.ensures (children_of t) (children-rows t _ e))
+    λ t e. wanted-argument t _ e c.args.kind _ c.if-rows-eq-CLAUSE_ARGUMENT.true
+    (c.unwrap_or.ensures ∙ ap (λ (r : Option ℕ). unwrap_or r 0) (c.first_node_kind.ensures (children_of t) (children-rows t _ e))
+    ∙ kind-or-none (first_node (children_of t)))
 
-pub returns : goal.returns
-returns c = λ t e. wanted-other t _ e c.args.kind c.if-rows-eq-CLAUSE_ARGUMENT.false
+pub returns-else-rows-eq-CLAUSE_ARGUMENT : goal.returns-else-rows-eq-CLAUSE_ARGUMENT
+returns-else-rows-eq-CLAUSE_ARGUMENT c =
+    λ t e. ne_eqb _ _ c.if-rows-eq-CLAUSE_ARGUMENT.false ∙ wanted-other t _ e c.args.kind c.if-rows-eq-CLAUSE_ARGUMENT.false

@@ -1,19 +1,18 @@
-use mathlib.Core.Path.{refl, sym, ap, ◌∙◌}
+-- `mitex_tables::columns` meets its contract: what `filter` keeps is counted, and `columns-filter`.
+use mathlib.Core.Path.{◌≡◌, ◌∙◌}
 use native.Mathlib.Omega.{arith}
-use lib.ListN.{get_or}
-use Rattle.mitex_meaning.specs.Tables.{columns}
-use Rattle.mitex_tables.specs.Letters.{counted}
-use Rattle.mitex_tables.proofs.Letters.{columns-more, counted-most}
+use Rattle.std.proofs.Common.{rules, tests}
+use Rattle.std.proofs.lemmas.Iterator.{YieldsList-from_slice}
+use Rattle.std.proofs.lemmas.Iterator.Consumers.{count_from_yields_List, YieldsList-from_filter}
+use Rattle.mitex_meaning.specs.Tables.{is_column, columns}
+use Rattle.mitex_tables.proofs.Letters.{columns-filter, columns-most}
 use Rattle.mitex_tables.proofs.columns.Goals as goal
 
-pub loop-i-init : goal.loop-i-init
-unfolding columns
-loop-i-init c = (omega arith, omega arith, refl)
-
-pub loop-i-preserved : goal.loop-i-preserved
-loop-i-preserved c =
-    let loop = c.loop-i in
+pub returns : goal.returns
+returns c =
     let s = c.args.s.now in
-    let b = get_or s loop.i 0 in
-    let e = c.counted-n.ensures in
-    (omega arith, omega (arith, e, counted-most loop.n b), e ∙ ap (λ m. counted m b) loop.invariant.2 ∙ sym (columns-more s loop.i (omega arith)))
+    let e : c.count.result ≡ columns s =
+    count_from_yields_List c.filter.result c.count.result c.count.ensures.ran
+    (YieldsList-from_filter _ is_column (YieldsList-from_slice s cc) c.filter.ensures.closure (λ x b q k. search (rules, tests)))
+    ∙ columns-filter s in
+    (e, omega (arith, e, columns-most s))

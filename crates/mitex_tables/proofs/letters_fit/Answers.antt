@@ -1,15 +1,15 @@
-use mathlib.Core.Path.{sym, ◌∙◌}
-use native.Mathlib.Omega.{arith}
-use Rattle.mitex_tables.proofs.Letters.{letters-next, letters-stop, letters-end}
+-- `mitex_tables::letters_fit` meets its contract: what `all` answers, and `letters-all`.
+use mathlib.Core.Path.{◌∙◌}
+use mathlib.Core.Bool.{◌||◌}
+use Rattle.std.proofs.Common.{rules, tests}
+use Rattle.std.proofs.lemmas.Iterator.{YieldsList-from_slice}
+use Rattle.std.proofs.lemmas.Iterator.Search.{all_from_yields_List}
+use Rattle.mitex_meaning.specs.Tables.{is_column, is_line}
+use Rattle.mitex_tables.proofs.Letters.{letters-all}
 use Rattle.mitex_tables.proofs.letters_fit.Goals as goal
 
-pub returns-then-not-is_letter : goal.returns-then-not-is_letter
-returns-then-not-is_letter c =
-    letters-stop _ c.loop-i.i c.loop-i.invariant.1 c.loop-i-test.true (sym c.is_letter.ensures ∙ c.if-not-is_letter.true)
-
-pub loop-i-preserved : goal.loop-i-preserved
-loop-i-preserved c =
-    (omega arith, letters-next _ c.loop-i.i c.loop-i.invariant.1 c.loop-i-test.true (sym c.is_letter.ensures ∙ c.if-not-is_letter.false))
-
 pub returns : goal.returns
-returns c = let loop = c.loop-i in letters-end _ loop.i loop.invariant.1 c.loop-i-test.false
+returns c =
+    let s = c.args.s.now in
+    all_from_yields_List (λ b. is_column b || is_line b) _ _ c.all.result c.all.ensures.ran (YieldsList-from_slice s cc) (λ x b q k. search (rules, tests))
+    ∙ letters-all s

@@ -1,23 +1,24 @@
-use mathlib.Core.Path.{refl, sym, ap, ◌∙◌}
-use mathlib.Core.List.{◌++◌}
+-- `mitex_tables::put_vlines` meets its contract: one letter more, which is a column, a line or another.
+use mathlib.Core.Path.{refl, sym, ◌∙◌}
 use native.Mathlib.Omega.{arith}
-use lib.ListN.{take, get_or}
-use Rattle.text.proofs.Writing.{wrote-nil, wrote_as, wrote_then}
+use Rattle.text.proofs.Outputs.{puts_nil}
 use Rattle.mitex_meaning.specs.Tables.{columns, vlines}
-use Rattle.mitex_tables.specs.Letters.{counted, vline}
-use Rattle.mitex_tables.proofs.Letters.{columns-more, counted-most, vlines-more}
+use Rattle.mitex_tables.proofs.Letters.{line-column, line-line, line-other}
 use Rattle.mitex_tables.proofs.put_vlines.Goals as goal
+use Rattle.mitex_tables.proofs.put_vlines.Goals.{then-is_column, else-is_column+then-b-eq-LINE, else-is_column+else-b-eq-LINE}
 
-pub loop-i-init : goal.loop-i-init
+pub loop-b-init : goal.loop-b-init
 unfolding vlines columns
-loop-i-init c = (omega arith, omega arith, refl, wrote-nil _ _ c.requires.0)
+loop-b-init c = record { few = omega arith; counted = refl; written = puts_nil }
 
-pub loop-i-preserved : goal.loop-i-preserved
-loop-i-preserved c =
-    let loop = c.loop-i in
-    let s = c.args.s.now in
-    let b = get_or s loop.i 0 in
-    let e = c.counted-n.ensures in
-    let w = wrote_then c.requires.1 loop.invariant.3 c.put_vline-p.ensures in
-    let v = ap (λ m. vlines 0 (take loop.i s) ++ vline m b) loop.invariant.2 ∙ sym (vlines-more s loop.i (omega arith)) in
-    (omega arith, omega (arith, e, counted-most loop.n b), e ∙ ap (λ m. counted m b) loop.invariant.2 ∙ sym (columns-more s loop.i (omega arith)), wrote_as v w)
+pub loop-b-preserved : goal.loop-b-preserved
+loop-b-preserved c =
+    let s = c.args.letters.now in
+    let b = sym c.is_column.ensures in
+    elim c.if-is_column.branch [
+      | then-is_column w ↦ rw (w.n-is, w.out-is) (line-column s _ c.loop-b-test.true c.loop-b.invariant (b ∙ w.if-is_column.true))
+      | else-is_column+then-b-eq-LINE w ↦
+          rw (w.n-is, w.out-is) (line-line s _ c.loop-b-test.true c.loop-b.invariant (b ∙ w.if-is_column.false) w.if-b-eq-LINE.true w.put_vline.ensures)
+      | else-is_column+else-b-eq-LINE w ↦
+          rw (w.n-is, w.out-is) (line-other s _ c.loop-b-test.true c.loop-b.invariant (b ∙ w.if-is_column.false) w.if-b-eq-LINE.false)
+    ]

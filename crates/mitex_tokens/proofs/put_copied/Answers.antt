@@ -70,4 +70,4 @@ pub slice_bounds-put-end : goal.slice_bounds-put-end
 slice_bounds-put-end c = sym (length-take-le _ _ (copied-stop c.loop-j.invariant.2))
 
 pub returns : goal.returns
-returns c = copied-run c.loop-j.invariant.2 c.loop-j.invariant.0 c.loop-j.invariant.1 c.put-p.ensures c.ran.ensures
+returns c = copied-run c.loop-j.invariant.2 c.loop-j.invariant.0 c.loop-j.invariant.1 c.put.ensures

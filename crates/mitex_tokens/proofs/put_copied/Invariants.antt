@@ -1,4 +1,4 @@
--- `mitex_tokens::put_copied` meets its contract. The invariant: how far the loop has gone (`Copied`). The measure is the rows left.
+-- The invariant: how far the loop has gone (`Copied`). The measure is the rows left.
 use mathlib.Core.Path.{◌≡◌}
 use Prim.Native.Nat.{◌-◌, ◌≤◌}
 use lib.ListN.{length}

@@ -1,16 +1,16 @@
--- `mitex_tokens::put_space` meets its contract: by the flag.
+-- By the flag.
 use mathlib.Core.Path.{refl, ap}
-use Rattle.text.proofs.Writing.{wrote-nil}
+use mathlib.Core.Bool.{Bool}
+use Rattle.text.proofs.Outputs.{puts_nil}
 use Rattle.mitex_meaning.specs.Tokens.{white_space}
-use Rattle.mitex_tokens.specs.Puts.{carrying}
-use Rattle.mitex_tokens.specs.Puts.Puts.{accepts}
-use Rattle.mitex_tokens.proofs.Putting.{puts-as}
+use Rattle.mitex_tokens.specs.Comes.{carrying}
+use Rattle.mitex_tokens.proofs.Coming.{comes-as, comes-done}
 use Rattle.mitex_tokens.proofs.put_space.Goals as goal
 
-pub returns-then-flag : goal.returns-then-flag
-returns-then-flag c =
-    λ l. puts-as (ap (λ b. white_space b c.args.s.now (carrying b l)) c.if-flag.true) (accepts refl (wrote-nil _ _ c.requires.0))
+pub returns-then-c-clause-comes : goal.returns-then-c-clause-comes
+returns-then-c-clause-comes c =
+    λ l. comes-as (ap (λ (b : Bool). white_space b c.args.s.now (carrying b l)) c.if-c.true) (comes-done refl puts_nil)
 
-pub returns : goal.returns
-returns c =
-    λ l. puts-as (ap (λ b. white_space b c.args.s.now (carrying b l)) c.if-flag.false) (accepts refl c.put-p.ensures)
+pub returns-else-c-clause-comes : goal.returns-else-c-clause-comes
+returns-else-c-clause-comes c =
+    λ l. comes-as (ap (λ (b : Bool). white_space b c.args.s.now (carrying b l)) c.if-c.false) (comes-done c.if-c.false c.put.ensures)

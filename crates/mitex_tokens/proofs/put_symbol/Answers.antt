@@ -1,37 +1,28 @@
--- `mitex_tokens::put_symbol` meets its contract: by what `get_cmd` finds, and its written name.
+-- By what `get_cmd` finds, and its written name.
 use mathlib.Core.Path.{refl, sym, ap, ◌∙◌}
 use mathlib.Core.Bool.{false}
-use native.Mathlib.Omega.{arith}
+use mathlib.Core.List.{List}
+use Prim.Native.Nat.{ℕ}
 use Rattle.mitex_spec.specs.Rules.{get_cmd}
-use Rattle.mitex_meaning.specs.Outcome.Label.{unheld}
 use Rattle.mitex_meaning.specs.Tokens.{symbol_by}
-use Rattle.mitex_tokens.specs.Puts.{carrying}
-use Rattle.mitex_tokens.specs.Puts.Puts.{declines}
-use Rattle.mitex_tokens.proofs.Tokens.{alias-inside, symbol-absent}
-use Rattle.mitex_tokens.proofs.Putting.{puts-as, puts-well}
+use Rattle.mitex_tokens.specs.Comes.{carrying}
+use Rattle.mitex_tokens.specs.Comes.Comes.{declines, accepts}
+use Rattle.mitex_tokens.proofs.Tokens.{symbol-absent, symbol-found}
+use Rattle.mitex_tokens.proofs.Coming.{comes-as}
 use Rattle.mitex_tokens.proofs.put_symbol.Goals as goal
 
--- the alias lies in the rule file
-pub overflow_add-start : goal.overflow_add-start
-overflow_add-start c =
-    let g = c.requires.some_rules in
-    let inside = alias-inside (carrying false unheld) (c.get_cmd-found.ensures g.rules g.ready.decodes) c.in-Aliased.is in
-    omega (arith, inside)
+pub returns-in_default-clause-comes : goal.returns-in_default-clause-comes
+returns-in_default-clause-comes c =
+    λ x l e.
+    comes-as
+    (ap (λ (n : List ℕ). symbol_by n (get_cmd x.rules n) (carrying false l)) (sym c.past_first-name.ensures)
+    ∙ symbol-absent _ (carrying false l) (c.get_cmd.ensures x.rules e) c.in_default.is)
+    (declines refl)
 
-pub slice_bounds-put_plain-end : goal.slice_bounds-put_plain-end
-slice_bounds-put_plain-end c =
-    let g = c.requires.some_rules in
-    let inside = alias-inside (carrying false unheld) (c.get_cmd-found.ensures g.rules g.ready.decodes) c.in-Aliased.is in
-    omega (arith, inside)
-
-pub returns-in-Absent-clause-puts : goal.returns-in-Absent-clause-puts
-returns-in-Absent-clause-puts c =
-    λ x l e. puts-as (ap (λ n. symbol_by n (get_cmd x.rules n) (carrying false l)) (sym c.past_first-name.ensures) ∙ symbol-absent (carrying false l) (c.get_cmd-found.ensures x.rules e) c.in-Absent.is) (declines (omega arith) c.put_none.ensures)
-
-pub returns-in-Plain-clause-untouched : goal.returns-in-Plain-clause-untouched
-returns-in-Plain-clause-untouched c =
-    λ z. absurd (z (puts-well refl (c.put_plain.ensures unheld)))
-
-pub returns-in-Aliased-clause-untouched : goal.returns-in-Aliased-clause-untouched
-returns-in-Aliased-clause-untouched c =
-    λ z. absurd (z (puts-well refl (c.put_plain-in-Aliased.ensures unheld)))
+pub returns-clause-comes : goal.returns-clause-comes
+returns-clause-comes c =
+    λ x l e.
+    comes-as
+    (ap (λ (n : List ℕ). symbol_by n (get_cmd x.rules n) (carrying false l)) (sym c.past_first-name.ensures)
+    ∙ symbol-found _ (carrying false l) (c.get_cmd.ensures x.rules e) c.in-Some.is c.written_name.ensures)
+    (accepts refl c.put.ensures)

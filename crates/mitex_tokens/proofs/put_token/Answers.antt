@@ -1,51 +1,22 @@
--- `mitex_tokens::put_token` meets its contract: by the kind.
-use mathlib.Core.Path.{refl}
-use mathlib.Core.List.{[]}
-use native.Mathlib.Omega.{arith}
-use Rattle.mitex_meaning.specs.Outcome.Label.{unheld}
-use Rattle.mitex_tokens.specs.Puts.{inside, carrying}
-use Rattle.mitex_tokens.specs.Puts.Puts.{declines}
-use Rattle.mitex_tokens.proofs.Tokens.{token-break, token-error, token-name, token-other, token-space, token-symbol}
-use Rattle.mitex_tokens.proofs.Putting.{puts-as, puts-well, space-well}
+-- By the kind.
+use mathlib.Core.Path.{refl, ap}
+use Rattle.mitex_meaning.specs.State.{context_of}
+use Rattle.mitex_meaning.specs.declared.Converter.{Converter}
+use Rattle.mitex_tokens.specs.Comes.{carrying}
+use Rattle.mitex_tokens.specs.Comes.Comes.{declines}
+use Rattle.mitex_tokens.proofs.Tokens.{token-misplaced, token-symbol}
+use Rattle.mitex_tokens.proofs.Coming.{comes-as, comes-flag}
 use Rattle.mitex_tokens.proofs.put_token.Goals as goal
 
-pub returns-in-23 : goal.returns-in-23
-returns-in-23 c =
-    record {
-      puts =
-          λ rs l e. puts-as (token-space (inside rs c.args.mode c.args.env c.args.indent) c.args.s.now (carrying c.args.flag l) c.args.kind c.in-23.is) (c.put_space.ensures l);
-      untouched = λ z. absurd (z (space-well c.args.flag c.args.s.now (c.put_space.ensures unheld)));
-    }
+pub returns-in-1-clause-comes : goal.returns-in-1-clause-comes
+returns-in-1-clause-comes c =
+    let d = c.args.c.now in
+    λ rs l e.
+    comes-as (token-misplaced (context_of rs d) c.args.s.now (carrying d.skip_next_space l) c.args.kind c.in-1.is) (declines refl)
 
-pub returns-in-24 : goal.returns-in-24
-returns-in-24 c =
-    record {
-      puts =
-          λ rs l e. puts-as (token-break (inside rs c.args.mode c.args.env c.args.indent) c.args.s.now (carrying c.args.flag l) c.args.kind c.in-24.is) (c.put_break.ensures l);
-      untouched = λ z. absurd (z (puts-well refl (c.put_break.ensures unheld)));
-    }
-
-pub returns-in-1-clause-puts : goal.returns-in-1-clause-puts
-returns-in-1-clause-puts c =
-    λ rs l e. puts-as (token-error (inside rs c.args.mode c.args.env c.args.indent) c.args.s.now (carrying c.args.flag l) c.args.kind c.in-1.is) (declines (omega arith) c.put_none.ensures)
-
-pub returns-in-12-clause-puts : goal.returns-in-12-clause-puts
-returns-in-12-clause-puts c =
-    λ rs l e. puts-as (token-name (inside rs c.args.mode c.args.env c.args.indent) c.args.s.now (carrying c.args.flag l) c.args.kind c.in-12.is) (declines (omega arith) c.put_none-in-12.ensures)
-
-pub returns-in-42-clause-puts : goal.returns-in-42-clause-puts
-returns-in-42-clause-puts c =
-    λ rs l e. puts-as (token-symbol (inside rs c.args.mode c.args.env c.args.indent) c.args.s.now (carrying c.args.flag l) c.args.kind c.in-42.is) (c.put_symbol.ensures.puts (inside rs c.args.mode c.args.env c.args.indent) l e)
-
-pub returns-in_default : goal.returns-in_default
-returns-in_default c =
-    record {
-      puts =
-          λ rs l e.
-          puts-as
-          (token-other (inside rs c.args.mode c.args.env c.args.indent) c.args.s.now (carrying c.args.flag l) c.args.kind
-          (omega arith) (omega arith) (omega arith) (omega arith) (omega arith))
-          (c.put_mark.ensures (inside rs c.args.mode c.args.env c.args.indent) l refl refl);
-      untouched =
-          λ z. absurd (z (puts-well refl (c.put_mark.ensures (inside [] c.args.mode c.args.env c.args.indent) unheld refl refl)));
-    }
+pub returns-in-42-clause-comes : goal.returns-in-42-clause-comes
+returns-in-42-clause-comes c =
+    let d = c.args.c.now in
+    λ rs l e.
+    comes-as (token-symbol (context_of rs d) c.args.s.now (carrying d.skip_next_space l) c.args.kind c.in-42.is)
+    (comes-flag (ap (λ (e : Converter). e.skip_next_space) c.put_symbol.ensures.flag_clear) (c.put_symbol.ensures.comes (context_of rs d) l e))

@@ -1,27 +1,29 @@
-use native.Mathlib.Omega.{arith}
 use mathlib.Core.Path.{refl}
-use Rattle.mitex_meaning.proofs.Holding.{went-says}
+use native.Mathlib.Omega.{arith}
 use Rattle.passes.proofs.Reaching.{reaches-low, reaches-begun, reaches-spans, reaches-next, reaches-stands}
 use Rattle.passes.proofs.stand_on.Goals as goal
 
-pub span_at-n-requires : goal.span_at-n-requires
-span_at-n-requires c = reaches-spans c.requires.some_blocks c.loop-k.invariant.1 c.loop-k-test.true
+pub span_at-span-requires : goal.span_at-span-requires
+span_at-span-requires c = reaches-spans c.args.d.open c.requires.within c.loop.invariant c.loop-test.true
 
-pub overflow_add-a : goal.overflow_add-a
-overflow_add-a c =
-    let w = c.requires.some_blocks in
-    omega (arith, reaches-low w (reaches-next w c.loop-k.invariant.1 c.loop-k-test.true c.span_at-n.ensures.rows c.span_at-n.ensures.text))
+pub overflow_add-i : goal.overflow_add-i
+overflow_add-i c =
+    let d = c.args.d.open in
+    let within = c.requires.within in
+    let said = c.span_at-span.ensures in
+    omega (arith, reaches-low d within (reaches-next d within c.loop.invariant c.loop-test.true said.rows said.text))
 
-pub overflow_add-b : goal.overflow_add-b
-overflow_add-b c =
-    let w = c.requires.some_blocks in
-    omega (arith, reaches-begun w (reaches-next w c.loop-k.invariant.1 c.loop-k-test.true c.span_at-n.ensures.rows c.span_at-n.ensures.text))
+pub overflow_add-j : goal.overflow_add-j
+overflow_add-j c =
+    let d = c.args.d.open in
+    let within = c.requires.within in
+    let said = c.span_at-span.ensures in
+    omega (arith, reaches-begun d within (reaches-next d within c.loop.invariant c.loop-test.true said.rows said.text))
 
-pub loop-k-preserved : goal.loop-k-preserved
-loop-k-preserved c = (
-  omega arith,
-  reaches-next c.requires.some_blocks c.loop-k.invariant.1 c.loop-k-test.true c.span_at-n.ensures.rows c.span_at-n.ensures.text,
-)
+pub loop-preserved : goal.loop-preserved
+loop-preserved c =
+    let said = c.span_at-span.ensures in
+    reaches-next c.args.d.open c.requires.within c.loop.invariant c.loop-test.true said.rows said.text
 
 pub returns : goal.returns
-returns c = reaches-stands c.loop-k.invariant.1 (omega arith) refl (went-says c.went-walked.ensures)
+returns c = reaches-stands c.loop.invariant (omega arith) refl refl refl

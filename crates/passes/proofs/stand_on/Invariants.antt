@@ -1,10 +1,6 @@
--- `stand_on`: a and b have reached block k of whatever forest the rows spell (`Reaches`); the measure is the blocks left.
-use Prim.Native.Nat.{◌-◌, ◌≤◌}
+-- `stand_on`: i and j have reached the next block of whatever forest the rows spell (`Reaches`).
 use Rattle.passes.specs.Passes.{Reaches}
 use Rattle.passes.proofs.stand_on.Given as goal
 
-abbrev pub invariant-loop-k : goal.invariant-loop-k
-invariant-loop-k l = (l.k ≤ l.block) × Reaches l.rows l.block l.k l.a l.b
-
-abbrev pub decreases-loop-k : goal.decreases-loop-k
-decreases-loop-k l = l.block - l.k
+abbrev pub invariant-loop : goal.invariant-loop
+invariant-loop l = Reaches l.d.rows.now l.block l.counter l.i l.j

@@ -5,7 +5,9 @@ use Rattle.passes.proofs.Rewriting.{BlocksLeft}
 use Rattle.passes.proofs.write_blocks.Given as goal
 
 abbrev pub invariant-loop-s : goal.invariant-loop-s
-invariant-loop-s l = (w : Pieced l.rules l.index l.rows l.text l.initial.s l.to l.initial.ledger) → BlocksLeft w l.initial.out l.s l.out l.ledger
+invariant-loop-s l =
+    (w : Pieced l.d.rules.file.now l.d.rules.index.now l.d.rows.now l.d.text.now l.initial.s l.to l.initial.ledger)
+    → BlocksLeft w l.initial.out l.s l.out l.ledger
 
 abbrev pub decreases-loop-s : goal.decreases-loop-s
 decreases-loop-s l = l.to - l.s.block

@@ -6,7 +6,7 @@ use Rattle.program.proofs.Inside.{converted-inside}
 use Rattle.program.proofs.convert.Goals as goal
 
 pub slice_bounds-text-end : goal.slice_bounds-text-end
-slice_bounds-text-end g c = converted-inside c.convert.ensures (ap answer_of_convert c.in-Done.is)
+slice_bounds-text-end g c = converted-inside c.convert.ensures (ap answer_of_convert c.in-Ok.is)
 
 pub slice_bounds-write_all-end : goal.slice_bounds-write_all-end
-slice_bounds-write_all-end g c = sym (length-take-le _ _ (converted-inside c.convert.ensures (ap answer_of_convert c.in-Done.is)))
+slice_bounds-write_all-end g c = sym (length-take-le _ _ (converted-inside c.convert.ensures (ap answer_of_convert c.in-Ok.is)))

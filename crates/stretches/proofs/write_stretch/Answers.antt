@@ -6,7 +6,7 @@ pub carry_before-requires : goal.carry_before-requires
 carry_before-requires c = row_before c.requires
 
 pub write_blocks-requires-clause-pieced : goal.write_blocks-requires-clause-pieced
-write_blocks-requires-clause-pieced c = pieced c.requires c.carry_before.ensures c.went-walked.ensures
+write_blocks-requires-clause-pieced c = pieced c.requires c.carry_before.ensures
 
 pub returns : goal.returns
-returns c w = wrote w c.carry_before.ensures c.went-walked.ensures c.write_blocks.ensures
+returns c w = wrote w c.carry_before.ensures c.write_blocks.ensures

@@ -1,20 +1,19 @@
--- Four stores, one after the other, are the four bytes (`sets-four`).
+-- Four bytes overwritten are four bytes stored (`put_mid-sets`).
 use native.Mathlib.Omega.{arith}
-use lib.ListN.{length-set}
-use Rattle.text.proofs.Writing.{sets-four}
+use mathlib.Core.Path.{◌≡◌, ap, ◌∙◌}
+use mathlib.Core.List.{[]}
+use Prim.Native.Nat.{◌/◌}
+use lib.ListN.{length}
+use lib.Seq.{sets}
+use Rattle.text.specs.Numbers.{four}
+use Rattle.text.proofs.Writing.{put_mid-sets}
 use Rattle.text.proofs.write_u32.Goals as goal
-
-pub bounds-out-i-2 : goal.bounds-out-i-2
-bounds-out-i-2 c = simp length-set (omega arith)
-
-pub bounds-out-i-3 : goal.bounds-out-i-3
-bounds-out-i-3 c = simp length-set (omega arith)
-
-pub bounds-out-i-4 : goal.bounds-out-i-4
-bounds-out-i-4 c = simp length-set (omega arith)
 
 pub returns : goal.returns
 returns c =
     let args = c.args in
-    sets-four args.out.now args.i args.n c.low_byte.ensures c.low_byte-2.ensures
-    c.low_byte-3.ensures c.low_byte-4.ensures
+    let third : args.n / 65536 ≡ args.n / 256 / 256 = omega arith in
+    let fourth : args.n / 16777216 ≡ args.n / 256 / 256 / 256 = omega arith in
+    let bytes : c.copy_from_slice.new.self ≡ four args.n [] = c.copy_from_slice.ensures.after ∙ c.to_le_bytes.ensures ∙ rw (third, fourth) in
+    put_mid-sets args.i _ args.out.now c.copy_from_slice.new.self (ap length bytes ∙ omega arith) (omega arith)
+    ∙ ap (sets args.out.now args.i) bytes

@@ -1,15 +1,16 @@
 use native.Mathlib.Omega.{arith}
-use mathlib.Core.Path.{◌≡◌}
+use mathlib.Core.Path.{◌≡◌, sym, subst}
 use mathlib.Core.List.{List}
 use Prim.Native.Nat.{ℕ, ◌+◌, ◌*◌, ◌-◌}
+use Rattle.std.specs.Prelude.{Ok, Err}
 use lib.ListN.{take}
 use Rattle.text.proofs.Writing.{rest-length}
 use Rattle.tree_file.specs.Layout.{Line, grow}
 use Rattle.tree_file.specs.Parts.{bytes_of, LinesFit, Nested}
-use Rattle.tree_file.specs.declared.Nest.TheVariants.{Broken, Deep, Fine}
+use Rattle.tree_file.proofs.Shapes.{handed-on}
 use Rattle.tree_file.proofs.Nesting.{turn-start, turn-deep, turn_end}
-use Rattle.tree_file.proofs.Nesting.{At, at_row, at-short, at-broken, at-deep, at_next, at-answer, none-under}
-use Rattle.tree_file.proofs.+check_rows.Goals.{After-under-n, then-n-gt0+in-Fine, else-n-gt0}
+use Rattle.tree_file.proofs.Nesting.{At, at_row, at-short, at-refused, at_next, at-answer, none-under}
+use Rattle.tree_file.proofs.+check_rows.Goals.{After-under-n, then-n-gt0+in_ok-check_rows, else-n-gt0}
 use Rattle.tree_file.proofs.+check_rows.Goals as goal
 
 -- the row at which the loop stands
@@ -25,17 +26,14 @@ returns-then-left-eq0 t c = λ ls e h. turn-deep (c.loop-rest.invariant.1 ls e h
 pub returns-then-rest-end : goal.returns-then-rest-end
 returns-then-rest-end t c = λ ls e h. at-short (here t (goal.at.returns-then-rest-end t c).After-under-n ls e h) c.if-rest-end.true
 
-pub returns-in-Broken : goal.returns-in-Broken
-returns-in-Broken t c =
+pub returns-in_err-check_rows : goal.returns-in_err-check_rows
+returns-in_err-check_rows t c =
+    let x = c.in_err-check_rows.field-0.0 in
     λ ls e h.
-    let at = here t (goal.at.returns-in-Broken t c).After-under-n ls e h in
-    at-broken at c.if-rest-end.false (at-answer at c.if-rest-end.false c.check_rows.result Broken c.check_rows.ensures c.in-Broken.is)
-
-pub returns-in-Deep : goal.returns-in-Deep
-returns-in-Deep t c =
-    λ ls e h.
-    let at = here t (goal.at.returns-in-Deep t c).After-under-n ls e h in
-    at-deep at c.if-rest-end.false (omega arith) (at-answer at c.if-rest-end.false c.check_rows.result Deep c.check_rows.ensures c.in-Deep.is)
+    let at = here t (goal.at.returns-in_err-check_rows t c).After-under-n ls e h in
+    let told = at-answer at c.if-rest-end.false c.check_rows.result (Err x) c.check_rows.ensures c.in_err-check_rows.was in
+    subst (Nested (grow ls) c.args.left) (sym (handed-on c.from_residual.result x c.from_residual.ensures.1))
+    (at-refused at c.if-rest-end.false (omega arith) x told)
 
 -- whether there are any rows under it or not, they are fine
 pub loop-rest-preserved : goal.loop-rest-preserved
@@ -45,8 +43,8 @@ loop-rest-preserved t c =
       omega (arith, less, c.loop-rest.invariant.0),
       λ ls e h.
           let w = here t at ls e h in
-          let fine : Nested (grow (take c.under-n.result w.ns)) (c.args.left - 1) Fine = elim c.if-n-gt0.branch [
-            | then-n-gt0+in-Fine v ↦ at-answer w c.if-rest-end.false v.check_rows.result Fine v.check_rows.ensures v.in-Fine.is
+          let fine : Nested (grow (take c.under-n.result w.ns)) (c.args.left - 1) (Ok tt) = elim c.if-n-gt0.branch [
+            | then-n-gt0+in_ok-check_rows v ↦ at-answer w c.if-rest-end.false v.check_rows.result (Ok tt) v.check_rows.ensures v.in_ok-check_rows.was
             | else-n-gt0 v ↦ none-under w.ns _ _ v.if-n-gt0.false
           ] in
           at_next w c.if-rest-end.false (omega arith) fine,

@@ -1,20 +1,13 @@
 -- A place that is there has the text that `ends_in` asks; one that is not leaves it free.
-use mathlib.Core.Path.{sym, ap, ◌∙◌}
-use Rattle.mitex_syntax.proofs.Places.{place_inside}
+use mathlib.Core.Path.{ap, ◌∙◌}
 use Rattle.mitex_syntax.specs.Views.{good_ends}
 use Rattle.tree_file.proofs.Rules.{place-ends, place-free}
 use Rattle.tree_file.proofs.bracket_fits.Goals as goal
 
-pub text_at-requires : goal.text_at-requires
-text_at-requires c =
-    let given = c.requires in
-    place_inside (c.argument_with-place.ensures given.forest given.begins)
+pub returns-then-is_none : goal.returns-then-is_none
+returns-then-is_none c = λ f sp. c.if-is_none.true ∙ place-free (c.argument_with-place.ensures.finds f sp) c.if-is_none.ensures
 
-pub returns-then-is_there : goal.returns-then-is_there
-returns-then-is_there c =
+pub returns-else-is_none : goal.returns-else-is_none
+returns-else-is_none c =
     λ f sp.
-    c.good_ends.ensures ∙ ap good_ends c.text_at.ensures
-    ∙ place-ends (c.argument_with-place.ensures f sp) (sym c.is_there.ensures ∙ c.if-is_there.true)
-
-pub returns : goal.returns
-returns c = λ f sp. place-free (c.argument_with-place.ensures f sp) (sym c.is_there.ensures ∙ c.if-is_there.false)
+    c.good_ends.ensures ∙ ap good_ends c.text_at.ensures ∙ place-ends (c.argument_with-place.ensures.finds f sp) c.if-is_none.ensures

@@ -6,9 +6,10 @@ use lib.ListN.{length}
 use Rattle.tree_file.specs.Layout.{grow}
 use Rattle.tree_file.specs.Depth.{depth_most}
 use Rattle.tree_file.specs.Parts.{Nested, answer_to}
-use Rattle.tree_file.specs.declared.Nest.{Nest}
-use Rattle.tree_file.specs.declared.Nest.TheVariants.{Broken, Deep, Fine}
-use Rattle.tree_file.specs.declared.Checked.TheVariants.{Refused}
+use Rattle.std.specs.Prelude.{Result, Ok, Err, ⊤}
+use Rattle.tree_file.specs.declared.Unnested.{Unnested}
+use Rattle.tree_file.specs.declared.Unnested.TheVariants.{Broken, Deep}
+use Rattle.tree_file.specs.Check.{refuses}
 use Rattle.tree_file.proofs.Answers.{Lined, lined, answer-lines, grown}
 use Rattle.tree_file.proofs.check_areas.Goals.{After-check_rows}
 use Rattle.tree_file.proofs.check_areas.Goals as goal
@@ -18,7 +19,7 @@ lined-here : (c : After-check_rows) (n : ℕ) → length c.args.rows.now ≡ 8 *
 lined-here c n e = lined n _ _ (λ i. omega (arith, c.type_inv.rows i)) e c.lines_fit.result (c.lines_fit.ensures n e) c.if-not-lines_fit.false
 
 -- and nest, or not
-nested : (c : After-check_rows) (x : Nest) → c.check_rows.result ≡ x → (n : ℕ) (e : length c.args.rows.now ≡ 8 * n)
+nested : (c : After-check_rows) (x : Result ⊤ Unnested) → c.check_rows.result ≡ x → (n : ℕ) (e : length c.args.rows.now ≡ 8 * n)
     → Nested (grow (lined-here c n e).ls) depth_most x
 nested c x told n e =
     let w = lined-here c n e in
@@ -35,25 +36,27 @@ check_root-requires c =
     let called = (goal.at.check_root-requires c).After-check_rows in
     let p = c.requires in
     let w = lined-here called p.many p.so_many in
-    let v = nested called Fine c.in-Fine.is p.many p.so_many in
+    let v = nested called (Ok tt) c.in-Ok.is p.many p.so_many in
     record { forest = v.0; spells = grown w.ls v.0 w.read v.1.0; low = v.1.1; few = p.few; short = p.short }
 
-pub returns-in-Broken : goal.returns-in-Broken
-returns-in-Broken c =
-    let called = (goal.at.returns-in-Broken c).After-check_rows in
-    λ n e. answer-lines (lined-here called n e) (Refused 3 0) (sym (ap answer_to (nested called Broken c.in-Broken.is n e)))
+pub returns-in-Err-Broken : goal.returns-in-Err-Broken
+returns-in-Err-Broken c =
+    let called = (goal.at.returns-in-Err-Broken c).After-check_rows in
+    let told = c.in-Err-Broken.is ∙ ap Err c.in-Err-Broken.field-0-is in
+    λ n e. ap Err c.no_row-in-Err-Broken.ensures ∙ answer-lines (lined-here called n e) (refuses 3 0) (sym (ap answer_to (nested called (Err Broken) told n e)))
 
-pub returns-in-Deep : goal.returns-in-Deep
-returns-in-Deep c =
-    let called = (goal.at.returns-in-Deep c).After-check_rows in
+pub returns-in-Err-Deep : goal.returns-in-Err-Deep
+returns-in-Err-Deep c =
+    let called = (goal.at.returns-in-Err-Deep c).After-check_rows in
+    let told = c.in-Err-Deep.is ∙ ap Err c.in-Err-Deep.field-0-is in
     λ n e.
     let w = lined-here called n e in
-    answer-lines w c.check_deep.result (c.check_deep.ensures w.ls w.read.rows_are w.read.fit (nested called Deep c.in-Deep.is n e))
+    answer-lines w (Err c.check_deep.result) (c.check_deep.ensures w.ls w.read.rows_are w.read.fit (nested called (Err Deep) told n e))
 
-pub returns-in-Fine : goal.returns-in-Fine
-returns-in-Fine c =
-    let called = (goal.at.returns-in-Fine c).After-check_rows in
+pub returns-in-Ok : goal.returns-in-Ok
+returns-in-Ok c =
+    let called = (goal.at.returns-in-Ok c).After-check_rows in
     λ n e.
     let w = lined-here called n e in
-    let v = nested called Fine c.in-Fine.is n e in
+    let v = nested called (Ok tt) c.in-Ok.is n e in
     answer-lines w c.check_root.result (c.check_root.ensures v.0 (grown w.ls v.0 w.read v.1.0) v.1.1 ∙ sym (ap answer_to v.1.0))

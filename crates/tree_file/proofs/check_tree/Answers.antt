@@ -1,6 +1,7 @@
 -- The trailer decides, then the areas that it points at.
 use native.Mathlib.Omega.{arith}
-use mathlib.Core.Path.{sym, ◌∙◌}
+use mathlib.Core.Path.{sym, ap, ◌∙◌}
+use Rattle.std.specs.Prelude.{Err}
 use lib.ListN.{length}
 use Prim.Native.Nat.{◌-◌, ◌≤◌}
 use Rattle.text.specs.Trailer.{count_of}
@@ -17,7 +18,7 @@ inside c =
     start-inside c.args.file.now (trailed-says c.args.file.now (sym c.trailed.ensures ∙ c.if-not-trailed.false)) c.start_of-start.result c.start_of-start.ensures.0
 
 pub returns-then-not-trailed : goal.returns-then-not-trailed
-returns-then-not-trailed c = check-not c.args.file.now (sym c.trailed.ensures ∙ c.if-not-trailed.true)
+returns-then-not-trailed c = ap Err c.no_row.ensures ∙ check-not c.args.file.now (sym c.trailed.ensures ∙ c.if-not-trailed.true)
 
 pub check_quickly-requires : goal.check_quickly-requires
 check_quickly-requires c =

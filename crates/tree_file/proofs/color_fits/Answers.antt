@@ -4,4 +4,4 @@ use Rattle.tree_file.proofs.Rules.{place-there}
 use Rattle.tree_file.proofs.color_fits.Goals as goal
 
 pub returns : goal.returns
-returns c = λ f sp. c.is_there.ensures ∙ place-there (c.find_kind.ensures f sp)
+returns c = λ f sp. c.is_some.ensures ∙ place-there (c.find_kind.ensures.finds f sp)

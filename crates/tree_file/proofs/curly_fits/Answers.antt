@@ -1,11 +1,8 @@
 -- The text at the place of the first argument with an ItemCurly is what `good_ends` is asked (`place-text`).
 use mathlib.Core.Path.{ap, ◌∙◌}
-use Rattle.mitex_syntax.proofs.Places.{place-text, place_inside}
+use Rattle.mitex_syntax.proofs.Places.{place-text}
 use Rattle.mitex_syntax.specs.Views.{good_ends}
 use Rattle.tree_file.proofs.curly_fits.Goals as goal
 
-pub text_at-requires : goal.text_at-requires
-text_at-requires c = place_inside (c.argument_with.ensures c.requires.forest c.requires.begins)
-
 pub returns : goal.returns
-returns c = λ f sp. c.good_ends.ensures ∙ ap good_ends (c.text_at.ensures ∙ place-text (c.argument_with.ensures f sp))
+returns c = λ f sp. c.good_ends.ensures ∙ ap good_ends (c.text_at.ensures ∙ place-text (c.argument_with.ensures.finds f sp))

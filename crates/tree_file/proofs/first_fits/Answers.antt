@@ -28,16 +28,17 @@ returns-then-not-is_ruled c = λ t f sp. first-unruled t f sp (sym c.is_ruled.en
 pub returns-then-k-eq-TOKEN_COMMAND_SYM : goal.returns-then-k-eq-TOKEN_COMMAND_SYM
 returns-then-k-eq-TOKEN_COMMAND_SYM c = λ t f sp. c.begins_slashed.ensures ∙ first-sym t f sp c.if-k-eq-TOKEN_COMMAND_SYM.true
 
-pub slice_bounds-node_fits-end : goal.slice_bounds-node_fits-end
-slice_bounds-node_fits-end c = let x = given-scan-head c.requires in omega (arith, x.first.extent, x.first.inside, c.extent-end.ensures)
+pub slice_bounds-children-end : goal.slice_bounds-children-end
+slice_bounds-children-end c = let x = given-scan-head c.requires in omega (arith, x.first.extent, x.first.inside, c.extent-end.ensures)
 
-pub node_fits-requires : goal.node_fits-requires
-node_fits-requires c =
+pub invariant_of-children : goal.invariant_of-children
+invariant_of-children c =
     let p = c.requires in
     let few = p.few in
     let short = p.short in
     let x = given-scan-head p in
-    some-forest (under (goal.at.node_fits-requires c).After-extent-end x.tree x.others x.exact).1.1 (simp (length-take, length-drop) (omega arith)) (omega arith)
+    let u = under (goal.at.invariant_of-children c).After-extent-end x.tree x.others x.exact in
+    record { some = some-forest u.1.1 (simp (length-take, length-drop) (omega arith)) (omega arith) }
 
 pub returns : goal.returns
 returns c =

@@ -1,4 +1,5 @@
 use mathlib.Core.Path.{◌≡◌}
+use mathlib.Core.Logic.{inl, inr}
 use mathlib.Core.Option.Option.{some}
 use mathlib.Core.List.{List}
 use Rattle.mitex_syntax.specs.Tree.{Forest}
@@ -17,10 +18,10 @@ pub returns-then-rest-lt8 : goal.returns-then-rest-lt8
 returns-then-rest-lt8 c = λ ls f e h g. lands-out (c.loop-left.invariant ls f e h g) c.loop-left-test.true c.if-rest-lt8.true
 
 pub returns-then-left-m : goal.returns-then-left-m
-returns-then-left-m c = λ ls f e h g. lands-over (here (goal.at.returns-then-left-m c).After-under-m ls f e h g) c.loop-left-test.true c.if-left-m.true
-
-pub returns-then-rest-past : goal.returns-then-rest-past
-returns-then-rest-past c = λ ls f e h g. absurd (lands-never (here (goal.at.returns-then-rest-past c).After-under-m ls f e h g) c.if-rest-past.true)
+returns-then-left-m c =
+    λ ls f e h g.
+    let w = here (goal.at.returns-then-left-m c).After-under-m ls f e h g in
+    elim c.then-left-m.either [ inl p ↦ lands-over w c.loop-left-test.true p | inr q ↦ absurd (lands-never w q.1) ]
 
 pub loop-left-preserved : goal.loop-left-preserved
 loop-left-preserved c = λ ls f e h g. lands-next (here (goal.at.loop-left-preserved c).After-under-m ls f e h g) c.if-rest-past.false c.if-left-m.false

@@ -1,9 +1,12 @@
--- The element that stands first (`Head`): what the answer for it says of all.
+-- The element that stands first (`ScanHead`): what the answer for it says of all.
 use native.Mathlib.Omega.{arith}
+use mathlib.Core.Path.{sym, subst}
 use lib.ListN.{length-take}
 use lib.Seq.{length-take-le}
-use mathlib.Core.Path.{sym}
-use Rattle.tree_file.proofs.Scanning.{given-scan-head, scan-head, scan-head-spans, Spanned, pass-whole-rows, pass-whole-text, pass-whole-spells, pass-whole-breaks, pass-whole-past}
+use Rattle.tree_file.specs.Parts.{PassSays}
+use Rattle.tree_file.proofs.Shapes.{handed-on}
+use Rattle.tree_file.proofs.Scanning.{Spanned, scan-head, given-scan-head, scan-head-spans, pass-whole-rows, pass-whole-text, pass-whole-spells}
+use Rattle.tree_file.proofs.Scanning.{pass-whole-rest, pass-whole-breaks, pass-whole-same}
 use Rattle.tree_file.proofs.pass_whole.Goals.{After-span_at-s}
 use Rattle.tree_file.proofs.pass_whole.Goals as goal
 
@@ -37,16 +40,18 @@ check_shape-requires c =
       low = simp length-take (omega arith);
     }
 
-pub returns-in-Breaks : goal.returns-in-Breaks
-returns-in-Breaks c =
+pub returns-in_err-check_shape : goal.returns-in_err-check_shape
+returns-in_err-check_shape c =
+    let at = (goal.at.returns-in_err-check_shape c).After-span_at-s in
     let p = c.requires.0 in
-    λ f sp.
-    pass-whole-breaks (spanned (goal.at.returns-in-Breaks c).After-span_at-s) (scan-head f sp p.some p.few p.short) c.args.row c.check_shape.result
-    c.check_shape.ensures c.in-Breaks.r c.in-Breaks.is
+    let a = c.args in
+    let r = c.in_err-check_shape.field-0.0 in
+    subst (PassSays a.rows.now a.text.now a.row) (sym (handed-on c.from_residual.result r c.from_residual.ensures.1))
+    (λ f sp. pass-whole-breaks (spanned at) (scan-head f sp p.some p.few p.short) 0 a.row c.check_shape.result c.check_shape.ensures r c.in_err-check_shape.was)
 
-pub returns-in-Right : goal.returns-in-Right
-returns-in-Right c =
-    let at = (goal.at.returns-in-Right c).After-span_at-s in
+pub returns : goal.returns
+returns c =
+    let at = (goal.at.returns c).After-span_at-s in
     let p = c.requires.0 in
     let x = given-scan-head p in
     let er = pass-whole-rows (spanned at) x in
@@ -54,5 +59,11 @@ returns-in-Right c =
       omega (arith, x.some),
       omega (arith, x.first.inside),
       omega (arith, x.first.fits),
-      λ f sp. pass-whole-past (spanned at) (scan-head f sp p.some p.few p.short) c.args.row c.check_shape.result c.check_shape.ensures c.in-Right.is,
+      λ f sp.
+          let y = scan-head f sp p.some p.few p.short in
+          record {
+            forest = y.others;
+            spells = pass-whole-rest (spanned at) y;
+            same = pass-whole-same (spanned at) y 0 c.args.row c.check_shape.result c.check_shape.ensures c.in_ok-check_shape.was;
+          },
     )

@@ -1,14 +1,10 @@
--- The numbers are a writer, or the answer is 16; the step of that writer is the step of the numbers (`steps-in`).
-use mathlib.Core.Path.{sym, ◌∙◌}
+-- What is called with the writer that the numbers say is its step, so the whole is the step of the numbers (`steps-told`).
+use Rattle.std.proofs.Common.{rules}
 use Rattle.tree_writer.specs.Steps.{closes_node}
-use Rattle.tree_writer.proofs.Numbers.{steps-no-state, steps-in}
+use Rattle.tree_writer.proofs.Numbers.{steps-told}
 use Rattle.tree_writer.proofs.close_in.Goals as goal
-
-pub returns-then-not-is_state : goal.returns-then-not-is_state
-returns-then-not-is_state c =
-    steps-no-state c.args.state.now c.args.buffer.now closes_node (sym c.is_state.ensures ∙ c.if-not-is_state.true)
 
 pub returns : goal.returns
 returns c =
-    steps-in c.args.state.now c.args.buffer.now closes_node c.close_node-r.result (sym c.is_state.ensures ∙ c.if-not-is_state.false)
-    c.load.ensures c.close_node-r.ensures c.save.ensures
+    let e = c.with_writer.ensures in
+    steps-told _ c.args.state.now c.args.buffer.now closes_node (λ w l r w' l' e. search rules) e.no_state e.stepped c.told.ensures

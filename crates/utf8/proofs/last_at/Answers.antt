@@ -1,16 +1,17 @@
-use mathlib.Core.Path.{sym, ◌∙◌}
-use Rattle.utf8.proofs.Chars.{one-start, one_on, one-stop, one-all}
+-- The last byte that continues no character is where the last begins (`last-found`).
+use mathlib.Core.Path.{◌≡◌}
+use mathlib.Core.Bool.{false}
+use Prim.Native.Nat.{◌+◌, ◌<◌}
+use lib.ListN.{length, get_or}
+use Rattle.std.proofs.Common.{rules, subst, sym}
+use Rattle.std.specs.Option.{MatchOption}
+use Rattle.utf8.specs.Chars.{continues, LastAt}
+use Rattle.utf8.proofs.Chars.{ContinuesFrom, last-found}
 use Rattle.utf8.proofs.last_at.Goals as goal
 
-pub loop-k-init : goal.loop-k-init
-loop-k-init c = one-start _ c.requires
-
-pub returns-then-not-continues : goal.returns-then-not-continues
-returns-then-not-continues c = one-stop _ _ c.loop-k.invariant (sym c.continues.ensures ∙ c.if-not-continues.true)
-
-pub loop-k-preserved : goal.loop-k-preserved
-loop-k-preserved c =
-    one_on _ _ c.loop-k.invariant c.loop-k-test.true (sym c.continues.ensures ∙ c.if-not-continues.false)
-
 pub returns : goal.returns
-returns c = one-all _ _ c.loop-k.invariant c.loop-k-test.false
+returns c =
+    let s = c.args.s.now in
+    let found : MatchOption c.rposition.result (ContinuesFrom s 0) (λ i. (i < length s) × (continues (get_or s i 0) ≡ false) × ContinuesFrom s (i + 1)) =
+    search rules in
+    subst (LastAt s) (sym c.unwrap_or.ensures) (last-found s c.rposition.result c.requires found)

@@ -4,8 +4,8 @@ use lib.ListN.{length}
 use Rattle.utf8.specs.Trim.{trim_end}
 use Rattle.utf8.proofs.trim_end.Given as goal
 
-abbrev pub invariant-loop-t : goal.invariant-loop-t
-invariant-loop-t l = trim_end l.t ≡ trim_end l.s
+abbrev pub invariant-loop-k : goal.invariant-loop-k
+invariant-loop-k l = trim_end l.t ≡ trim_end l.s
 
-abbrev pub decreases-loop-t : goal.decreases-loop-t
-decreases-loop-t l = length l.t
+abbrev pub decreases-loop-k : goal.decreases-loop-k
+decreases-loop-k l = length l.t

@@ -4,8 +4,8 @@ use lib.ListN.{length}
 use Rattle.utf8.specs.Trim.{trim_start}
 use Rattle.utf8.proofs.trim_start.Given as goal
 
-abbrev pub invariant-loop-t : goal.invariant-loop-t
-invariant-loop-t l = trim_start l.t ≡ trim_start l.s
+abbrev pub invariant-loop-n : goal.invariant-loop-n
+invariant-loop-n l = trim_start l.t ≡ trim_start l.s
 
-abbrev pub decreases-loop-t : goal.decreases-loop-t
-decreases-loop-t l = length l.t
+abbrev pub decreases-loop-n : goal.decreases-loop-n
+decreases-loop-n l = length l.t

@@ -1,14 +1,23 @@
--- Each answer's tests, in order, choose the same case of `white-20`.
 use borrow.Author.Rules.{rules}
-use borrow.Author.Tests.{le-leb, lt-leb}
+use native.Mathlib.Omega.{arith}
+use Rattle.std.proofs.lemmas.Bool.Decides.{nat_tests}
 use Rattle.utf8.proofs.White.{white-20}
 use Rattle.utf8.proofs.white_20.Goals as goal
 
-pub returns-then-c-le138 : goal.returns-then-c-le138
-returns-then-c-le138 c = rw (white-20 c.args.c (search rules), le-leb _ _ c.if-c-le138.true)
+pub returns-in_default : goal.returns-in_default
+returns-in_default c = rw (white-20 c.args.c (search rules)) (grind (arith, nat_tests))
 
-pub returns-then-c-le169 : goal.returns-then-c-le169
-returns-then-c-le169 c = rw (white-20 c.args.c (search rules), lt-leb _ _ c.if-c-le138.false, le-leb _ _ c.if-c-le169.true)
+pub returns-in_default-2 : goal.returns-in_default-2
+returns-in_default-2 c = rw (white-20 c.args.c (search rules)) (grind (arith, nat_tests))
 
-pub returns : goal.returns
-returns c = rw (white-20 c.args.c (search rules), lt-leb _ _ c.if-c-le138.false, lt-leb _ _ c.if-c-le169.false)
+pub returns-in_default-3 : goal.returns-in_default-3
+returns-in_default-3 c = rw (white-20 c.args.c (search rules)) (grind (arith, nat_tests))
+
+pub returns-in-128-to-138 : goal.returns-in-128-to-138
+returns-in-128-to-138 c = rw (white-20 c.args.c (search rules)) (grind (arith, nat_tests))
+
+pub returns-in-128-to-138-2 : goal.returns-in-128-to-138-2
+returns-in-128-to-138-2 c = rw (white-20 c.args.c (search rules)) (grind (arith, nat_tests))
+
+pub returns-in-128-to-138-3 : goal.returns-in-128-to-138-3
+returns-in-128-to-138-3 c = rw (white-20 c.args.c (search rules)) (grind (arith, nat_tests))

@@ -1,17 +1,16 @@
--- The table's rows of two bytes are what is left of it once the tests are known.
-use mathlib.Core.Bool.{and-true, and-false, or-false}
-use borrow.Author.Tests.{eq-eqb, ne_eqb}
+use native.Mathlib.Omega.{arith}
+use Rattle.std.proofs.lemmas.Bool.Decides.{nat_tests}
 use Rattle.text.specs.Compare.{same}
 use Rattle.utf8.proofs.white_two.Goals as goal
 
-pub returns-then-b-eq133 : goal.returns-then-b-eq133
+pub returns-in-133 : goal.returns-in-133
 unfolding same
-returns-then-b-eq133 c = simp (eq-eqb _ _ c.if-a-eq194.true, eq-eqb _ _ c.if-b-eq133.true, and-true, and-false)
+returns-in-133 c = grind (arith, nat_tests)
 
-pub returns-else-b-eq133 : goal.returns-else-b-eq133
+pub returns-in_default : goal.returns-in_default
 unfolding same
-returns-else-b-eq133 c = simp (eq-eqb _ _ c.if-a-eq194.true, ne_eqb _ _ c.if-b-eq133.false, and-true, and-false, or-false)
+returns-in_default c = grind (arith, nat_tests)
 
 pub returns-else-a-eq194 : goal.returns-else-a-eq194
 unfolding same
-returns-else-a-eq194 c = simp (ne_eqb _ _ c.if-a-eq194.false, and-true, and-false, or-false)
+returns-else-a-eq194 c = grind (arith, nat_tests)
