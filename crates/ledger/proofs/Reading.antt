@@ -1,17 +1,17 @@
 -- A row read at its place of the ledger. `row_fits` is five tests and the padding; with both marks 0 or 1 a label of at most
 -- `label_most` times its mark is short enough, and empty while unheld.
 use mathlib.Core.Path.{◌≡◌, refl, sym, ap, ◌∙◌}
-use mathlib.Core.Bool.{Bool, true, false, ◌&&◌, ◌||◌, and-eq-true_iff}
-use mathlib.Core.List.{List, [], ◌∷◌}
+use mathlib.Core.Bool.{Bool, true, false, ◌&&◌, ◌||◌, and-eq-true_iff, and-false}
+use mathlib.Core.List.{List}
 use Prim.Native.Nat.{ℕ, ◌+◌, ◌*◌, ◌-◌, ◌≤◌, ◌<◌}
 use native.Mathlib.Nat.{add-zero}
+use native.Mathlib.Numerals.{add-one}
 use native.Mathlib.Omega.{arith}
 use borrow.Author.Tests.{leb-true, eqb-true, eq-eqb, ne_eqb}
-use lib.ListN.{length, take, drop, get_or, length-take}
-use lib.Seq.{get_or-drop, drop-drop, length-take-le}
+use lib.ListN.{length, take, drop, get_or, length-take, drop_of_length-le}
+use lib.Seq.{get_or-drop, drop-drop, drop-cons, length-take-le}
 use lib.Dec.{leb, eqb}
 use Rattle.std.proofs.lemmas.List.{drop-take, take-take, get_or-take}
-use Rattle.std.specs.List.{list_all}
 use Rattle.text.specs.Numbers.{four_at}
 use Rattle.text.proofs.Numbers.{four_at-drop}
 use Rattle.text.proofs.Writing.{part-rest}
@@ -153,10 +153,31 @@ module _ (l row : List ℕ) (here : row ≡ take row_size l) where
 pub marks-short : (flag mark len blank : ℕ) → marks_fit flag mark len blank ≡ true → len ≤ label_most
 marks-short flag mark len blank e = (marks_fit-true flag mark len blank e).short
 
--- ---- zeros
+-- ---- zeros, from a place to the next
 
--- as std tests each byte
-pub all_zero-is : (s : List ℕ) → list_all (λ b. eqb b 0) s ≡ all_zero s
+all_zero-at : (s : List ℕ) (i : ℕ) → i < length s → all_zero (drop i s) ≡ eqb (get_or s i 0) 0 && all_zero (drop (i + 1) s)
 unfolding all_zero
-all_zero-is [] = refl
-all_zero-is (b ∷ s) = ap (λ t. eqb b 0 && t) (all_zero-is s)
+all_zero-at s i h = rw (add-one, drop-cons s i 0 h)
+
+and-true : (b : Bool) → (b && true) ≡ b
+and-true true = refl
+and-true false = refl
+
+-- the next byte is zero, and those before it go on to be; or it is not
+module _ (s : List ℕ) (i : ℕ) (z : Bool) {z' : Bool} (h : i < length s) (p : all_zero s ≡ (z && all_zero (drop i s))) where
+  pub all_zero-next : get_or s i 0 ≡ 0 → z' ≡ z → all_zero s ≡ (z' && all_zero (drop (i + 1) s))
+  all_zero-next x e =
+      p
+      ∙ ap (λ b. z && b) (all_zero-at s i h ∙ ap (λ b. b && all_zero (drop (i + 1) s)) (eq-eqb (get_or s i 0) 0 x))
+      ∙ ap (λ b. b && all_zero (drop (i + 1) s)) (sym e)
+
+  pub all_zero-not : (get_or s i 0 ≡ 0 → ⊥) → z' ≡ eqb (get_or s i 0) 0 → all_zero s ≡ (z' && all_zero (drop (i + 1) s))
+  all_zero-not x e =
+      p
+      ∙ ap (λ b. z && b) (all_zero-at s i h ∙ ap (λ b. b && all_zero (drop (i + 1) s)) (ne_eqb (get_or s i 0) 0 x))
+      ∙ and-false z
+      ∙ ap (λ b. b && all_zero (drop (i + 1) s)) (sym (e ∙ ne_eqb (get_or s i 0) 0 x))
+
+pub all_zero-end : (s : List ℕ) (i : ℕ) (z : Bool) → length s ≤ i → all_zero s ≡ (z && all_zero (drop i s)) → z ≡ all_zero s
+unfolding all_zero
+all_zero-end s i z h p = sym (p ∙ ap (λ l. z && all_zero l) (drop_of_length-le s h) ∙ and-true z)

@@ -1,17 +1,15 @@
-use mathlib.Core.Path.{◌≡◌, ◌∙◌}
-use Prim.Native.Nat.{ℕ}
-use lib.Dec.{eqb}
-use borrow.Author.Tests.{tests}
-use Rattle.std.proofs.Common.{rules}
-use Rattle.std.specs.List.{list_all}
-use Rattle.std.proofs.lemmas.Iterator.{YieldsList-from_slice}
-use Rattle.std.proofs.lemmas.Iterator.Search.{all_from_yields_List}
-use Rattle.ledger.proofs.Reading.{all_zero-is}
+use native.Mathlib.Omega.{arith}
+use Rattle.ledger.proofs.Reading.{all_zero-next, all_zero-not, all_zero-end}
+use Rattle.ledger.proofs.all_zero.Goals.{then-b-eq0, else-b-eq0}
 use Rattle.ledger.proofs.all_zero.Goals as goal
 
+pub loop-b-preserved : goal.loop-b-preserved
+loop-b-preserved c =
+    let l = c.loop-b in
+    let s = c.args.s.now in elim c.if-b-eq0.branch [
+      | then-b-eq0 w ↦ all_zero-next s l.b-index l.zero c.loop-b-test.true l.invariant w.if-b-eq0.true w.zero-is
+      | else-b-eq0 w ↦ all_zero-not s l.b-index l.zero c.loop-b-test.true l.invariant w.if-b-eq0.false w.zero-is
+    ]
+
 pub returns : goal.returns
-returns c =
-    let all : c.all.result ≡ list_all (λ (b : ℕ). eqb b 0) c.args.s.now =
-    all_from_yields_List (λ (b : ℕ). eqb b 0) _ _ c.all.result c.all.ensures.ran (YieldsList-from_slice c.args.s.now cc)
-    (λ x b q k. search (rules, tests)) in
-    all ∙ all_zero-is c.args.s.now
+returns c = all_zero-end c.args.s.now c.loop-b.b-index c.loop-b.zero (omega (arith, c.loop-b-test.false)) c.loop-b.invariant
