@@ -165,9 +165,8 @@ fn write_stretch(
 }
 
 // The stretches of a plan in the place of the kept blocks, the first of them from `at` on. What is kept after a stretch moves down before
-// what follows is handled, or up after that: so nothing is overwritten that has still to be moved. The stretch is written by one of two
-// calls: were there one only, the compiler would put `write_stretch` into this function, and a level of the recursion would take 768 bytes
-// of stack and not 128. The document is lent, since a level would else keep a copy of it.
+// what follows is handled, or up after that: so nothing is overwritten that has still to be moved. The document is lent, since a level of
+// the recursion would else keep a copy of it: as it is, a level takes 528 bytes of stack in the static library.
 pub fn exchange_from(d: &OpenDocument, plan: &[Note], at: usize, out: &mut [u8], ledger: &mut [u8])
     requires { Exchangeable d.now.rules.file.now d.now.rules.index.now d.now.rows.now d.now.text.now d.now.mode d.now.blocks
         plan.now at out.old ledger.old }
