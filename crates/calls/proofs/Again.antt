@@ -202,11 +202,11 @@ module _ (d : OpenDocument) (way : Way) (k kept : ℕ) (out ledger : List ℕ) w
     pub ends : EndsBefore ledger k at
     pub low : at < cap
     pub carries : CarriesBefore ledger k d.mode converter
-    pub stood : Stood d.open.blocks d.rows.now d.text.now k at converter from
+    pub stood : Stood d.open.blocks d.content.rows.now d.content.text.now k at converter from
     pub measured : MeasuresAgain d from was ledger r
 
   module _ {was : ℕ} {from : Standing} {r : Reply Standing Refusal} (p : MeasuredAgain was from r) where
-    abbrev st : Stood d.open.blocks d.rows.now d.text.now k p.at p.converter from
+    abbrev st : Stood d.open.blocks d.content.rows.now d.content.text.now k p.at p.converter from
     st = p.stood
 
     abbrev fit : Fitting way n was k kept out ledger
@@ -217,7 +217,7 @@ module _ (d : OpenDocument) (way : Way) (k kept : ℕ) (out ledger : List ℕ) w
     pub carried : Carried (new_of d.mode) (carry_before k (decode_rows was ledger)) p.converter
     carried = p.carries was fit.before
 
-    abbrev whole : BlocksUpTo d.rules.file.now d.rules.index.now d.rows.now d.text.now from d.blocks
+    abbrev whole : BlocksUpTo d.content.rules.file.now d.content.rules.index.now d.content.rows.now d.content.text.now from d.blocks
     whole = blocks-begin d.open st carried (omega (arith, p.low)) fit.now
 
     -- what was measured is the walk of the blocks converted again

@@ -98,8 +98,8 @@ module _ (tree : List ℕ) (bytes : Bytes tree) {whole : Whole} (is : checked_an
 
   -- whatever document has these rows and this text, with the rules of the file, is that of the files
   pub files-open :
-      {mode : ℕ} {file : List ℕ} (d : OpenDocument) → mode_of mode ≡ some d.mode → d.rules.file.now ≡ file
-      → d.rows.now ≡ block_rows whole.start tree → d.text.now ≡ take whole.start tree
+      {mode : ℕ} {file : List ℕ} (d : OpenDocument) → mode_of mode ≡ some d.mode → d.content.rules.file.now ≡ file
+      → d.content.rows.now ≡ block_rows whole.start tree → d.content.text.now ≡ take whole.start tree
       → d.blocks ≡ whole.blocks → FilesOpen mode file tree d
   files-open d in_mode file_is rows_are text_is count_is =
       let w = d.open in

@@ -231,7 +231,7 @@ module _ {d : OpenDocument} {kept : ℕ} {plan : List Note} {p : Planned} {out l
           pub long : at + length (rest_text kept rs w.ss out) ≡ length new_text
           long = omega (arith, at-is, over_first d.open d.mode ledger kept w.fitting out w.inside w.laid)
 
-          abbrev pub exchangeable : Exchangeable d.rules.file.now d.rules.index.now d.rows.now d.text.now d.mode d.blocks plan at out ledger
+          abbrev pub exchangeable : Exchangeable d.content.rules.file.now d.content.rules.index.now d.content.rows.now d.content.text.now d.mode d.blocks plan at out ledger
           exchangeable =
               record {
                 document = d.open;

@@ -104,15 +104,15 @@ document_walk d = walk (blocks_in d.mode d.open.rs) start_carry 1 (listed d.open
 -- the pass stood before the first block, and came from there to the document's walk
 pub record DraftPassed (d : OpenDocument) (from : Standing) (r : Result Standing Refusal) : Type 0 where
   pub converter : Converter
-  pub stood : Stood d.open.blocks d.rows.now d.text.now 0 0 converter from
+  pub stood : Stood d.open.blocks d.content.rows.now d.content.text.now 0 0 converter from
   pub carried : Carried (new_of d.mode) start_carry converter
   pub came : Came from r (document_walk d)
 
 module _ {d : OpenDocument} where
   pub draft-passed :
-      {c : Converter} {from : Standing} {r : Result Standing Refusal} → Stood d.open.blocks d.rows.now d.text.now 0 0 c from
+      {c : Converter} {from : Standing} {r : Result Standing Refusal} → Stood d.open.blocks d.content.rows.now d.content.text.now 0 0 c from
       → Carried (new_of d.mode) start_carry c
-      → Measures d.rules.file.now d.rules.index.now d.rows.now d.text.now from d.blocks d.blocks false [] r → DraftPassed d from r
+      → Measures d.content.rules.file.now d.content.rules.index.now d.content.rows.now d.content.text.now from d.blocks d.blocks false [] r → DraftPassed d from r
   draft-passed {c} {from} {r} st car me =
       record {
         converter = c;
@@ -162,7 +162,7 @@ module _ {d : OpenDocument} where
           settled-within = omega (arith, fit.0, exact)
 
           -- they can be written, with a ledger that has a row for each block
-          abbrev pieced : (l : List ℕ) → row_size * d.blocks ≤ length l → Pieced d.rules.file.now d.rules.index.now d.rows.now d.text.now from d.blocks l
+          abbrev pieced : (l : List ℕ) → row_size * d.blocks ≤ length l → Pieced d.content.rules.file.now d.content.rules.index.now d.content.rows.now d.content.text.now from d.blocks l
           pieced l h =
               let s = p.stood in
               record {
@@ -192,7 +192,7 @@ module _ {d : OpenDocument} where
 
           -- the pass wrote to buffers of its own
           module _ {text₀ rows₀ text₁ rows₁ : List ℕ} (lt : length text₁ ≡ length text₀) (lr : length rows₁ ≡ length rows₀)
-              (h : row_size * d.blocks ≤ length rows₀) (writes : Writes d.rules.file.now d.rules.index.now d.rows.now d.text.now from d.blocks text₀ rows₀ text₁ rows₁) where
+              (h : row_size * d.blocks ≤ length rows₀) (writes : Writes d.content.rules.file.now d.content.rules.index.now d.content.rows.now d.content.text.now from d.blocks text₀ rows₀ text₁ rows₁) where
             abbrev draft : Draft d from text₁ rows₁ (take r.at out) ledger
             draft =
                 let x = writes (pieced rows₀ h) in

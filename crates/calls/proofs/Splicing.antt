@@ -130,7 +130,7 @@ module _ {d : OpenDocument} {was kept : ℕ} {from m : Standing} {out ledger : L
   measured-place h = omega (arith, w.end)
 
   module _ (small : m.at < cap) where
-    abbrev pub pieced : (l : List ℕ) → row_size * n ≤ length l → Pieced d.rules.file.now d.rules.index.now d.rows.now d.text.now from m.block l
+    abbrev pub pieced : (l : List ℕ) → row_size * n ≤ length l → Pieced d.content.rules.file.now d.content.rules.index.now d.content.rows.now d.content.text.now from m.block l
     pieced l room =
         record {
           given = w.given;

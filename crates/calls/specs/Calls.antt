@@ -65,7 +65,7 @@ block_rows start tree = take (length tree - 8 - (start + 8)) (drop (start + 8) t
 
 -- the pieces of a document's blocks, and a draft of them: their text, where it is no longer than the draft, and their rows
 pub record Draft (d : OpenDocument) (from : Standing) (draft draft_rows out ledger : List ℕ) : Type 0 where
-  pub pieced : Pieced d.rules.file.now d.rules.index.now d.rows.now d.text.now from d.blocks ledger
+  pub pieced : Pieced d.content.rules.file.now d.content.rules.index.now d.content.rows.now d.content.text.now from d.blocks ledger
   pub first : from.at ≡ 0
   pub begins : from.block ≡ 0
   pub long : length out ≡ length (written pieced.ps)
@@ -91,7 +91,7 @@ kind_by TakeOut k = take_out k
 -- The blocks of a document from a standing on were measured up to another, where there were `was` blocks: their pieces, and a ledger of the
 -- kept blocks that fits the kept text.
 pub record Measured (d : OpenDocument) (was kept : ℕ) (from m : Standing) (out ledger : List ℕ) : Type 0 where
-  pub given : BlocksGiven d.rules.file.now d.rules.index.now d.rows.now d.text.now from
+  pub given : BlocksGiven d.content.rules.file.now d.content.rules.index.now d.content.rows.now d.content.text.now from
   pub qs : List Piece
   pub are : FirstPieces (converter_of given) (carry_of from.converter) (listed given.blocks) qs
   pub many : m.block ≡ from.block + length qs
@@ -144,7 +144,7 @@ Splices d was kept from m out ledger r out' ledger' =
 -- the measuring pass of a change: where a block was taken out, nothing is converted if the carry before it is that of its kept row
 abbrev pub MeasuresAgain : (d : OpenDocument) (from : Standing) (was : ℕ) (kept : List ℕ) (r : Result Standing Refusal) → Type 0
 MeasuresAgain d from was kept r =
-    (w : BlocksUpTo d.rules.file.now d.rules.index.now d.rows.now d.text.now from d.blocks)
+    (w : BlocksUpTo d.content.rules.file.now d.content.rules.index.now d.content.rows.now d.content.text.now from d.blocks)
     → Came from r
     (cond (ltb d.blocks was && same_carry (carry_of from.converter) (carry_before (suc from.block) (decode_rows was kept))) (pieces [])
     (walk_until (converter_of w.given) (carry_of from.converter) (row_no from) (listed w.given.blocks)

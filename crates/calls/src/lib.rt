@@ -26,7 +26,7 @@ ghost use Rattle.calls.specs.Three.{three_changes, three_answers};
 use ledger::ROW_SIZE;
 use mitex_meaning::{Converter, LaTeXMode};
 use mitex_spec::{INDEX_SIZE, Rules};
-use passes::{OpenDocument, Standing};
+use passes::{Content, OpenDocument, Standing};
 use refusals::{Reason, Refusal, no_row};
 use stretches::{Note, PLAN_SIZE, Planned};
 use tree_file::BLOCKS_MOST;
@@ -127,9 +127,11 @@ fn open<'a>(
     let whole = tree_file::check_tree(tree)?;
     Ok(OpenDocument {
         mode,
-        rules: Rules { file: rules, index },
-        rows: block_rows(tree, whole.start),
-        text: &tree[..whole.start],
+        content: Content {
+            rules: Rules { file: rules, index },
+            rows: block_rows(tree, whole.start),
+            text: &tree[..whole.start],
+        },
         blocks: whole.blocks,
     })
 }
@@ -166,7 +168,7 @@ fn deliver(
 {
     let at = out.len();
     if draft.len() < at {
-        passes::write_blocks(d, out, ledger, from, d.blocks);
+        passes::write_blocks(d.content, out, ledger, from, d.blocks);
         return;
     }
     let end = ROW_SIZE * d.blocks;
@@ -185,8 +187,8 @@ fn convert_by_draft(
     requires { (length draft.old ≤ cap) × (row_size * d.blocks ≤ length draft_rows.old) }
     ensures { ConvertsBlocks d.entry out.old ledger.old result out.new ledger.new }
 {
-    let from = passes::stand_at(d, 0, 0, Converter::opening(d.mode));
-    let m = passes::draft_blocks(d, draft, draft_rows, from)?;
+    let from = passes::stand_at(d.content.rows, 0, 0, Converter::opening(d.mode));
+    let m = passes::draft_blocks(d.content, draft, draft_rows, from, d.blocks)?;
     if !has_room(out, ledger, m.at, d.blocks) {
         return Err(no_row(Reason::TooShort));
     }
@@ -215,7 +217,7 @@ fn convert_over<const TEXT: usize, const ROWS: usize>(
 fn is_within(d: OpenDocument, longest: usize, most: usize) -> bool
     ensures { result ≡ true → d.entry.blocks ≤ most }
 {
-    d.text.len() <= longest && d.blocks <= most
+    d.content.text.len() <= longest && d.blocks <= most
 }
 
 // The blocks of a document, over a draft: a shorter one for a shorter document, since a draft is cleared before it is used.
@@ -356,7 +358,7 @@ fn overwrite(
     text::move_bytes(out, old, at, kept - old);
     ledger::move_rows(ledger, q, was, old, at);
     shift_rows(ledger, q, to, was);
-    passes::write_blocks(d, &mut out[..at], ledger, from, to);
+    passes::write_blocks(d.content, &mut out[..at], ledger, from, to);
     clear_between(out, at + (kept - old), kept);
     clear_between(ledger, ROW_SIZE * d.blocks, ROW_SIZE * was);
 }
@@ -406,14 +408,14 @@ fn measure_again(
     from: Standing,
     was: usize,
 ) -> Result<Standing, Refusal>
-    requires blocks_up_to { BlocksUpTo d.rules.file.now d.rules.index.now d.rows.now d.text.now from d.blocks }
+    requires blocks_up_to { BlocksUpTo d.content.rules.file.now d.content.rules.index.now d.content.rows.now d.content.text.now from d.blocks }
     requires blocks_bound { (d.blocks ≤ from.block + 1 + was) × (was ≤ d.blocks + 1) × ((i : ℕ) → i < was → RowFits i ledger.now) }
     ensures { MeasuresAgain d.entry from was ledger.now result }
 {
     if met_at_once(ledger, from, d.blocks, was) {
         return Ok(from);
     }
-    passes::measure(d, ledger, from, was)
+    passes::measure(d.content, ledger, from, d.blocks, was)
 }
 
 // One block changed, and those after it converted again up to the first after which the carry is the kept one.
@@ -432,7 +434,12 @@ fn change_blocks(
     }
     let was = old_count(way, d.blocks);
     let at = passes::end_before(ledger, block);
-    let from = passes::stand_at(d, block, at, passes::carry_before(ledger, block, d.mode));
+    let from = passes::stand_at(
+        d.content.rows,
+        block,
+        at,
+        passes::carry_before(ledger, block, d.mode),
+    );
     let m = measure_again(d, ledger, from, was)?;
     splice(d, was, kept, from, m, out, ledger)
 }

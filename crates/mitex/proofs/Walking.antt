@@ -14,7 +14,7 @@ use Rattle.text.proofs.Writing.{part-rest}
 use Rattle.mitex_spec.specs.Rules.{Rule}
 use Rattle.mitex_spec.specs.RuleFile.{rules_of}
 use Rattle.mitex_spec.specs.Index.{Ready, SomeRules}
-use Rattle.mitex_syntax.specs.Tree.{Tree, Forest, size, sizes, kind_of, text_of}
+use Rattle.mitex_syntax.specs.Tree.{Tree, Forest, size, sizes, kind_of, text_of, texts_of}
 use Rattle.mitex_syntax.specs.Tree.Tree.{node}
 use Rattle.mitex_syntax.specs.Tree.Forest.{none, more}
 use Rattle.mitex_syntax.specs.Views.{children_of}
@@ -144,7 +144,7 @@ pub record Looping (rules index rows text : List ℕ) (row : ℕ) (out₀ : List
       (rs : List Rule) → Ready rules index rs → (f : Forest) → SpellsAll f rows text → (n : ℕ) → sizes f ≤ n
       → Left (wholly rs n d₀ l₀ f) (place_of d₀) row w₀ out₀ (remains rs n d₀ i l d) n rows text i j w out
 
--- the same in the terms of the code: the elements that are left, and the output over the same lent buffer
+-- the same in the terms of the code: the elements that are left, and the output over the same lent buffer, of the same length
 pub record Head (rules : Rules) (e : Elements) (o₀ : Output) (d₀ : Converter) (l₀ : Loop) (o : Output) (d : Converter) (l : Loop) (rest : Elements)
     : Type 0 where
   pub i : ℕ
@@ -154,6 +154,7 @@ pub record Head (rules : Rules) (e : Elements) (o₀ : Output) (d₀ : Converter
   pub text : rest.text.now ≡ drop j e.text.now
   pub row : rest.row ≡ e.row + i / 8
   pub lent : o.buffer.ghost_name ≡ o₀.buffer.ghost_name
+  pub kept : length o.buffer.now ≡ length o₀.buffer.now
 
 pub head-start :
     {rules : Rules} {e : Elements} {o : Output} {d : Converter} {l : Loop} → Room 0 e.rows.now d → number_of l ≡ 0
@@ -174,7 +175,12 @@ head-start {rules} {e} {o} {d} {l} r h =
       text = refl;
       row = omega arith;
       lent = refl;
+      kept = refl;
     }
+
+-- the text of what is left is few bytes enough to be counted
+pub rest-short : (text : List ℕ) (j : ℕ) {f : Forest} {rows : List ℕ} → SpellsAll f rows (tail_at text j) → length text < cap → length (texts_of f) < cap
+rest-short text j sp short = omega (arith, ap length sp.text_is, ap length (part-rest text j), length-drop j text)
 
 -- what is left, and parts of it, in the whole
 module _ (l : List ℕ) (i : ℕ) {r : List ℕ} (is : r ≡ drop i l) where

@@ -21,14 +21,14 @@ pub struct Elements<'a> {
 
 impl<'a> Elements<'a> {
     ghost use Rattle.std.specs.Prelude.{◌≡◌, ◌-◌, ◌/◌, take, drop, slice_index};
-    ghost use Rattle.mitex_syntax.specs.Tree.{Tree, Forest};
-    ghost use Rattle.mitex_syntax.specs.Spells.{Spells, SpellsAll, SomeTree};
+    ghost use Rattle.mitex_syntax.specs.Tree.{Tree, Forest, rows_ofs};
+    ghost use Rattle.mitex_syntax.specs.Spells.{Spells, SomeTree};
     ghost use Rattle.mitex_meaning.specs.Parts.{LiesIn, part_rows, part_text, inner_rows};
     ghost use Rattle.mitex_loops.specs.Given.{ChildIs};
     ghost use Rattle.mitex.specs.Walks.{tail_at};
 
     // As the children of a node.
-    pub fn children(self) -> Children<'a>
+    pub fn children(self) -> Children<'a, 'a>
         ensures rows { result.rows.now ≡ self.entry.rows.now }
         ensures text { result.text.now ≡ self.entry.text.now }
     {
@@ -118,15 +118,15 @@ impl<'a> Elements<'a> {
         }
     }
 
-    // The first of them, with so many bytes, and those behind it, as a loop has it.
+    // The first of them, with so many bytes, and the rows of those behind it, as a loop has it.
     pub fn first_child(self, span: Span) -> Child<'a>
         requires some { 8 ≤ span.rows }
         requires high { span.rows ≤ length self.rows.now }
         requires stop { span.text ≤ length self.text.now }
         requires element { SomeTree (take span.rows self.rows.now) (take span.text self.text.now) }
-        requires behind { Siblings (tail_at self.rows.now span.rows) (tail_at self.text.now span.text) }
         ensures child { (t : Tree) (f : Forest) → Spells t (take span.rows self.entry.rows.now) (take span.text self.entry.text.now)
-            → SpellsAll f (tail_at self.entry.rows.now span.rows) (tail_at self.entry.text.now span.text) → ChildIs t f result }
+            → tail_at self.entry.rows.now span.rows ≡ rows_ofs f → ChildIs t f result }
+        ensures behind { result.behind.now ≡ tail_at self.entry.rows.now span.rows }
         ensures kind { result.kind ≡ slice_index self.entry.rows.now 0 }
     {
         let first = Spot {
@@ -138,7 +138,7 @@ impl<'a> Elements<'a> {
         Child {
             kind: self.rows[0],
             inner: self.children().children_at(first),
-            behind: self.behind(span.rows, span.text).children(),
+            behind: &self.rows[span.rows..],
         }
     }
 }

@@ -2,7 +2,7 @@
 // as parts of the tree file. The mode and the environment are entered before what stands in them and left behind it.
 #![tactic(auto)]
 
-ghost use Rattle.std.specs.Prelude.{◌≡◌, ◌+◌};
+ghost use Rattle.std.specs.Prelude.{◌≡◌, ◌+◌, length};
 ghost use Rattle.mitex_syntax.specs.Spells.{SomeTree};
 ghost use Rattle.mitex_meaning.specs.Contract.{walked_by};
 ghost use Rattle.mitex_meaning.specs.Groups.{children, formula, curly_group, clause_lr};
@@ -38,13 +38,14 @@ pub fn convert_block<'a>(
     c: &mut Converter,
     out: &mut Output,
     e: Elements<'a>,
-    rules: Rules<'a>,
+    rules: Rules<'a, 'a>,
 ) -> Result<(), Refusal>
     requires room { Room 0 e.rows.now c.old }
     requires some_tree { SomeTree e.rows.now e.text.now }
     ensures converts { ConvertsElement rules.entry.file.now rules.entry.index.now e.entry.rows.now e.entry.text.now (1 + e.entry.row)
         c.old out.old.at out.old.buffer.now (walked_by c.new out.new.at result) out.new.buffer.now }
     ensures lent { out.new.buffer.ghost_name ≡ out.old.buffer.ghost_name }
+    ensures kept { length out.new.buffer.now ≡ length out.old.buffer.now }
 {
     convert(c, out, e, rules)
 }
@@ -55,12 +56,13 @@ fn convert<'a>(
     c: &mut Converter,
     out: &mut Output,
     e: Elements<'a>,
-    rules: Rules<'a>,
+    rules: Rules<'a, 'a>,
 ) -> Result<(), Refusal>
     requires { Room 0 e.rows.now c.old }
     ensures walks { Walks rules.entry.file.now rules.entry.index.now e.entry.rows.now e.entry.text.now e.entry.row
         c.old out.old.at out.old.buffer.now (walked_by c.new out.new.at result) out.new.buffer.now children }
     ensures lent { out.new.buffer.ghost_name ≡ out.old.buffer.ghost_name }
+    ensures kept { length out.new.buffer.now ≡ length out.old.buffer.now }
 {
     let mut rest = e;
     while !rest.rows.is_empty() {
@@ -88,13 +90,14 @@ fn arm<'a>(
     c: &mut Converter,
     out: &mut Output,
     e: Elements<'a>,
-    rules: Rules<'a>,
+    rules: Rules<'a, 'a>,
     kind: u8,
 ) -> Result<(), Refusal>
     requires { Room 8 e.rows.now c.old }
     ensures walks { Walks rules.entry.file.now rules.entry.index.now e.entry.rows.now e.entry.text.now e.entry.row
         c.old out.old.at out.old.buffer.now (walked_by c.new out.new.at result) out.new.buffer.now (arm_by (element_of kind)) }
     ensures lent { out.new.buffer.ghost_name ≡ out.old.buffer.ghost_name }
+    ensures kept { length out.new.buffer.now ≡ length out.old.buffer.now }
 {
     match mitex_commands::element_of(kind) {
         Element::Unexpected | Element::Token => Err(Refusal {
@@ -125,7 +128,7 @@ fn turn<'a>(
     c: &mut Converter,
     out: &mut Output,
     e: Elements<'a>,
-    rules: Rules<'a>,
+    rules: Rules<'a, 'a>,
     act: Act,
 ) -> Result<(), Refusal>
     requires room { Room 0 e.rows.now c.old }
@@ -133,6 +136,7 @@ fn turn<'a>(
     ensures walks { Turns rules.entry.file.now rules.entry.index.now e.entry.rows.now e.entry.text.now e.entry.row
         c.old out.old.at out.old.buffer.now (walked_by c.new out.new.at result) out.new.buffer.now act }
     ensures lent { out.new.buffer.ghost_name ≡ out.old.buffer.ghost_name }
+    ensures kept { length out.new.buffer.now ≡ length out.old.buffer.now }
 {
     mitex_loops::put_before(out, act, e.text);
     if !mitex_loops::converts(act) {
@@ -149,7 +153,7 @@ fn each<'a>(
     c: &mut Converter,
     out: &mut Output,
     e: Elements<'a>,
-    rules: Rules<'a>,
+    rules: Rules<'a, 'a>,
     how: Loop,
 ) -> Result<(), Refusal>
     requires room { Room 0 e.rows.now c.old }
@@ -157,11 +161,12 @@ fn each<'a>(
     ensures walks { Walks rules.entry.file.now rules.entry.index.now e.entry.rows.now e.entry.text.now e.entry.row
         c.old out.old.at out.old.buffer.now (walked_by c.new out.new.at result) out.new.buffer.now (looping how) }
     ensures lent { out.new.buffer.ghost_name ≡ out.old.buffer.ghost_name }
+    ensures kept { length out.new.buffer.now ≡ length out.old.buffer.now }
 {
     let mut l = how;
     let mut rest = e;
     while !rest.rows.is_empty() {
-        let run = mitex_loops::steady_run(l, rest.children());
+        let run = mitex_loops::steady_run(l, rest.rows);
         if 0 < run.rows {
             convert(c, out, rest.front(run), rules)?;
             rest = rest.behind(run.rows, run.text);
@@ -184,12 +189,13 @@ fn convert_formula<'a>(
     c: &mut Converter,
     out: &mut Output,
     e: Elements<'a>,
-    rules: Rules<'a>,
+    rules: Rules<'a, 'a>,
 ) -> Result<(), Refusal>
     requires { Room 8 e.rows.now c.old }
     ensures walks { Walks rules.entry.file.now rules.entry.index.now e.entry.rows.now e.entry.text.now e.entry.row
         c.old out.old.at out.old.buffer.now (walked_by c.new out.new.at result) out.new.buffer.now formula }
     ensures lent { out.new.buffer.ghost_name ≡ out.old.buffer.ghost_name }
+    ensures kept { length out.new.buffer.now ≡ length out.old.buffer.now }
 {
     let children = e.children();
     if !children.is_valid() {
@@ -211,12 +217,13 @@ fn convert_curly_group<'a>(
     c: &mut Converter,
     out: &mut Output,
     e: Elements<'a>,
-    rules: Rules<'a>,
+    rules: Rules<'a, 'a>,
 ) -> Result<(), Refusal>
     requires { Room 8 e.rows.now c.old }
     ensures walks { Walks rules.entry.file.now rules.entry.index.now e.entry.rows.now e.entry.text.now e.entry.row
         c.old out.old.at out.old.buffer.now (walked_by c.new out.new.at result) out.new.buffer.now curly_group }
     ensures lent { out.new.buffer.ghost_name ≡ out.old.buffer.ghost_name }
+    ensures kept { length out.new.buffer.now ≡ length out.old.buffer.now }
 {
     match c.mode {
         LaTeXMode::Text => convert(c, out, e, rules),
@@ -225,7 +232,7 @@ fn convert_curly_group<'a>(
             let prev = c.enter_env(group);
             convert(c, out, e, rules)?;
             c.exit_env(prev);
-            mitex_loops::put_curly_end(out, mitex_loops::is_blank_group(e.children()));
+            mitex_loops::put_curly_end(out, mitex_loops::is_blank_group(e.rows));
             Ok(())
         }
     }
@@ -237,12 +244,13 @@ fn convert_clause_lr<'a>(
     c: &mut Converter,
     out: &mut Output,
     e: Elements<'a>,
-    rules: Rules<'a>,
+    rules: Rules<'a, 'a>,
 ) -> Result<(), Refusal>
     requires { Room 8 e.rows.now c.old }
     ensures walks { Walks rules.entry.file.now rules.entry.index.now e.entry.rows.now e.entry.text.now e.entry.row
         c.old out.old.at out.old.buffer.now (walked_by c.new out.new.at result) out.new.buffer.now clause_lr }
     ensures lent { out.new.buffer.ghost_name ≡ out.old.buffer.ghost_name }
+    ensures kept { length out.new.buffer.now ≡ length out.old.buffer.now }
 {
     let children = e.children();
     let first = mitex_loops::first_span(children);
@@ -265,12 +273,13 @@ fn cmd<'a>(
     c: &mut Converter,
     out: &mut Output,
     e: Elements<'a>,
-    rules: Rules<'a>,
+    rules: Rules<'a, 'a>,
 ) -> Result<(), Refusal>
     requires { Room 8 e.rows.now c.old }
     ensures walks { Walks rules.entry.file.now rules.entry.index.now e.entry.rows.now e.entry.text.now e.entry.row
         c.old out.old.at out.old.buffer.now (walked_by c.new out.new.at result) out.new.buffer.now command }
     ensures lent { out.new.buffer.ghost_name ≡ out.old.buffer.ghost_name }
+    ensures kept { length out.new.buffer.now ≡ length out.old.buffer.now }
 {
     let children = e.children();
     let name = mitex_loops::past_first(children.name_tok());
@@ -302,7 +311,7 @@ fn convert_command_color<'a>(
     c: &mut Converter,
     out: &mut Output,
     e: Elements<'a>,
-    rules: Rules<'a>,
+    rules: Rules<'a, 'a>,
     name: &'a [u8],
     model: ColorModel<'a>,
     how: Loop,
@@ -312,6 +321,7 @@ fn convert_command_color<'a>(
     ensures walks { Colors rules.entry.file.now rules.entry.index.now e.entry.rows.now e.entry.text.now e.entry.row
         c.old out.old.at out.old.buffer.now (walked_by c.new out.new.at result) out.new.buffer.now name.now model.entry how }
     ensures lent { out.new.buffer.ghost_name ≡ out.old.buffer.ghost_name }
+    ensures kept { length out.new.buffer.now ≡ length out.old.buffer.now }
 {
     mitex_colors::put_color_head(out, rules.get_cmd(name), model);
     let rest = e.part(model.rest);
@@ -336,13 +346,14 @@ fn convert_normal_command<'a>(
     c: &mut Converter,
     out: &mut Output,
     e: Elements<'a>,
-    rules: Rules<'a>,
+    rules: Rules<'a, 'a>,
     name: &'a [u8],
 ) -> Result<(), Refusal>
     requires { Room 8 e.rows.now c.old }
     ensures walks { Walks rules.entry.file.now rules.entry.index.now e.entry.rows.now e.entry.text.now e.entry.row
         c.old out.old.at out.old.buffer.now (walked_by c.new out.new.at result) out.new.buffer.now (normal_command name.now) }
     ensures lent { out.new.buffer.ghost_name ≡ out.old.buffer.ghost_name }
+    ensures kept { length out.new.buffer.now ≡ length out.old.buffer.now }
 {
     let Some(found) = rules.get_cmd(name) else {
         let reason = Reason::NoCommand;
@@ -365,13 +376,14 @@ fn args<'a>(
     c: &mut Converter,
     out: &mut Output,
     e: Elements<'a>,
-    rules: Rules<'a>,
+    rules: Rules<'a, 'a>,
     how: Arguments,
 ) -> Result<(), Refusal>
     requires { Room 8 e.rows.now c.old }
     ensures walks { Walks rules.entry.file.now rules.entry.index.now e.entry.rows.now e.entry.text.now e.entry.row
         c.old out.old.at out.old.buffer.now (walked_by c.new out.new.at result) out.new.buffer.now (arguments_by how) }
     ensures lent { out.new.buffer.ghost_name ≡ out.old.buffer.ghost_name }
+    ensures kept { length out.new.buffer.now ≡ length out.old.buffer.now }
 {
     match how {
         Arguments::NoArguments => {
@@ -410,12 +422,13 @@ fn convert_env<'a>(
     c: &mut Converter,
     out: &mut Output,
     e: Elements<'a>,
-    rules: Rules<'a>,
+    rules: Rules<'a, 'a>,
 ) -> Result<(), Refusal>
     requires { Room 8 e.rows.now c.old }
     ensures walks { Walks rules.entry.file.now rules.entry.index.now e.entry.rows.now e.entry.text.now e.entry.row
         c.old out.old.at out.old.buffer.now (walked_by c.new out.new.at result) out.new.buffer.now environment }
     ensures lent { out.new.buffer.ghost_name ≡ out.old.buffer.ghost_name }
+    ensures kept { length out.new.buffer.now ≡ length out.old.buffer.now }
 {
     let name = utf8::trim(e.children().env_name());
     let Some(found) = rules.get_env(name) else {
@@ -434,7 +447,7 @@ fn body<'a>(
     c: &mut Converter,
     out: &mut Output,
     e: Elements<'a>,
-    rules: Rules<'a>,
+    rules: Rules<'a, 'a>,
     name: &'a [u8],
     env: LaTeXEnv,
 ) -> Result<(), Refusal>
@@ -442,6 +455,7 @@ fn body<'a>(
     ensures walks { Walks rules.entry.file.now rules.entry.index.now e.entry.rows.now e.entry.text.now e.entry.row
         c.old out.old.at out.old.buffer.now (walked_by c.new out.new.at result) out.new.buffer.now (env_body env name.now) }
     ensures lent { out.new.buffer.ghost_name ≡ out.old.buffer.ghost_name }
+    ensures kept { length out.new.buffer.now ≡ length out.old.buffer.now }
 {
     match env {
         LaTeXEnv::None | LaTeXEnv::Itemize | LaTeXEnv::Enumerate => {
@@ -468,7 +482,7 @@ fn math<'a>(
     c: &mut Converter,
     out: &mut Output,
     e: Elements<'a>,
-    rules: Rules<'a>,
+    rules: Rules<'a, 'a>,
     name: &'a [u8],
     env: LaTeXEnv,
 ) -> Result<(), Refusal>
@@ -476,6 +490,7 @@ fn math<'a>(
     ensures walks { Walks rules.entry.file.now rules.entry.index.now e.entry.rows.now e.entry.text.now e.entry.row
         c.old out.old.at out.old.buffer.now (walked_by c.new out.new.at result) out.new.buffer.now (math_env env name.now) }
     ensures lent { out.new.buffer.ghost_name ≡ out.old.buffer.ghost_name }
+    ensures kept { length out.new.buffer.now ≡ length out.old.buffer.now }
 {
     let begin = mitex_environments::begin_part(e.children());
     let arguments = Elements {
@@ -500,13 +515,14 @@ fn convert_env_figure<'a>(
     c: &mut Converter,
     out: &mut Output,
     e: Elements<'a>,
-    rules: Rules<'a>,
+    rules: Rules<'a, 'a>,
     name: &'a [u8],
 ) -> Result<(), Refusal>
     requires { Room 8 e.rows.now c.old }
     ensures walks { Walks rules.entry.file.now rules.entry.index.now e.entry.rows.now e.entry.text.now e.entry.row
         c.old out.old.at out.old.buffer.now (walked_by c.new out.new.at result) out.new.buffer.now (figure_env name.now) }
     ensures lent { out.new.buffer.ghost_name ≡ out.old.buffer.ghost_name }
+    ensures kept { length out.new.buffer.now ≡ length out.old.buffer.now }
 {
     let caption = match mitex_environments::last_caption(e.children()) {
         Ok(caption) => caption,
@@ -532,13 +548,14 @@ fn convert_env_table<'a>(
     c: &mut Converter,
     out: &mut Output,
     e: Elements<'a>,
-    rules: Rules<'a>,
+    rules: Rules<'a, 'a>,
     name: &'a [u8],
 ) -> Result<(), Refusal>
     requires { Room 8 e.rows.now c.old }
     ensures walks { Walks rules.entry.file.now rules.entry.index.now e.entry.rows.now e.entry.text.now e.entry.row
         c.old out.old.at out.old.buffer.now (walked_by c.new out.new.at result) out.new.buffer.now (table_env name.now) }
     ensures lent { out.new.buffer.ghost_name ≡ out.old.buffer.ghost_name }
+    ensures kept { length out.new.buffer.now ≡ length out.old.buffer.now }
 {
     let argument = mitex_environments::table_argument(e.children());
     if !mitex_tables::has_ends(argument) {

@@ -14,6 +14,8 @@ use Rattle.std.specs.Prelude.{Option, Some, None}
 use Rattle.std.specs.Borrow.{Bor}
 use Rattle.std.proofs.lemmas.List.{drop-take}
 use Rattle.text.specs.Compare.{starts_with, ends_with}
+use Rattle.text.specs.Slices.{PartOf}
+use Rattle.text.proofs.Slices.{part-at, part-of-part}
 use Rattle.mitex_spec.specs.Rules.{get_cmd}
 use Rattle.mitex_syntax.specs.Syntax.{ClauseArgument, TokenLBracket, TokenRBracket}
 use Rattle.mitex_syntax.specs.Tree.{Tree, Forest, size, sizes, rows_of, text_of, texts_of}
@@ -27,8 +29,8 @@ use Rattle.mitex_meaning.specs.Texts.{left_bracket, right_bracket, no_model}
 use Rattle.mitex_meaning.specs.Colors.{Rest, rest, Model, model, seek, past_first, in_model, bracket_model, model_in}
 use Rattle.mitex_meaning.specs.Colors.{greedy_model, is_model, first_model, model_first, with_model, color_alias, body_loop}
 use Rattle.mitex_meaning.specs.Parts.{between, part_text, inner_rows}
-use Rattle.mitex_colors.specs.Scanning.{Left, Sought, FirstPassed}
-use Rattle.mitex_colors.specs.Models.{ModelPassed, ModelFound, ColorFound}
+use Rattle.mitex_colors.specs.Scanning.{Left, ScanMoved, Sought, FirstPassed}
+use Rattle.mitex_colors.specs.Models.{ModelIn, ModelPassed, ModelFound, ColorFound}
 use Rattle.mitex_colors.proofs.Scans.{before-last, exact-left, left-exact, left-first, left-kind, moved_then, moved-text}
 use Rattle.mitex_colors.proofs.Standing.{node-there, children-there, smaller}
 
@@ -82,13 +84,29 @@ argument-models = record { at_none = λ o. refl; at_more = λ o t f. refl }
 abbrev pub bracket_end : Rest → Rest
 bracket_end s = seek (is_of TokenRBracket) (past_first (seek is_solid s))
 
+-- what a scan leaves is a part of the text
+last-is-part :
+    {rows text tail a v rows' text' : List ℕ} {r s : Rest} → ScanMoved rows text tail r s a v rows' text' → PartOf text' text
+last-is-part {v = v} {text' = text'} p =
+    record {
+      from = length v;
+      inside = omega (arith, ap length p.text_is, length-append v text');
+      is = sym (ap (λ (l : List ℕ). take (length text') (drop (length v) l)) p.text_is
+          ∙ ap (take (length text')) (drop_at v text' (length v) refl) ∙ take_all (length text') text' (omega arith));
+    }
+
+-- a model in a part of the text is in the text
+model-in : (w : Option (Bor (List ℕ))) {part text : List ℕ} → ModelIn w part → PartOf part text → ModelIn w text
+model-in None m p = tt
+model-in (Some s) m p = part-of-part m p
+
 -- no model at the first element that a scan stops at
 pub bare-passed :
     {p : Tree → Bool} {m : Model} {rows text rows' text' : List ℕ} {s : Rest} → Sought p rows text [] s rows' text' → m ≡ model no_model (seek p s)
     → ModelPassed m s rows text None rows' text'
 bare-passed {rows = rows} {text = text} {rows' = rows'} {text' = text'} {s = s} a q =
     subst (λ (x : Model). ModelPassed x s rows text None rows' text') (sym q)
-    (record { text_is = refl; over_rows = a.over_rows; over_text = a.over_text; moved = a.moved })
+    (record { text_is = refl; part = tt; over_rows = a.over_rows; over_text = a.over_text; moved = a.moved })
 
 -- `\color`: a bracket, the text up to the next one, and what is no trivia after that
 pub held-passed :
@@ -106,6 +124,7 @@ held-passed {rows = rows} {text = text} {t₃ = t₃} {r₅ = r₅} {t₅ = t₅
     subst (λ (m : Model). ModelPassed m s rows text (Some w) r₅ t₅) (sym held)
     (record {
       text_is = ap in_model (c.before ∙ sym (e ∙ before-last c.over_text t₃ c.moved.text_is));
+      part = part-of-part (part-at 0 _ (omega arith) e) (last-is-part (moved_then a.moved b.moved));
       over_rows = (((a.over_rows ++ b.over_rows) ++ c.over_rows) ++ d.over_rows) ++ f.over_rows;
       over_text = (((a.over_text ++ b.over_text) ++ c.over_text) ++ d.over_text) ++ f.over_text;
       moved = moved_then (moved_then (moved_then (moved_then a.moved b.moved) c.moved) d.moved) f.moved;
@@ -157,6 +176,7 @@ model-found {m} {s} {f} {rows} {text} {r' = r'} {v' = v'} {w = w} i e j u hi he 
     subst (λ (y : Spot). ModelFound m f rows text (record { text = w; rest = y })) (sym q)
     (record {
       text_is = x.text_is;
+      part = model-in w x.part (part-at j (u - j) (omega arith) ev);
       spells = record { rows_are = a.is ∙ sp.rows_are; text_is = b.is ∙ sp.text_is; sound = sp.sound };
       inside = record { low = omega arith; high = he; begun = omega arith; stop = hu };
       row = omega (arith, x.moved.row, a.place);
@@ -213,6 +233,7 @@ module _ {rows text r₁ t₁ r₂ t₂ : List ℕ} {s : Rest} (a : Sought (is_o
       subst (λ (m : Model). ModelPassed m s rows text (Some w) r₃ t₃) (sym held)
       (record {
         text_is = ap in_model (ap inner t ∙ sym e);
+        part = part-of-part (part-of-part (part-at 1 _ (omega (arith, long)) e) (part-at 0 _ (omega arith) refl)) (last-is-part a.moved);
         over_rows = (a.over_rows ++ b.over_rows) ++ c.over_rows;
         over_text = (a.over_text ++ b.over_text) ++ c.over_text;
         moved = moved_then (moved_then a.moved b.moved) c.moved;
@@ -238,6 +259,7 @@ color-missing {f} {rows} {text} sp e =
       model = model no_model (rest (1 + sizes f) none);
       found = record {
         text_is = refl;
+        part = tt;
         spells = record { rows_are = between_none (length rows) rows; text_is = between_none (length text) text; sound = tt };
         inside = record { low = omega arith; high = omega arith; begun = omega arith; stop = omega arith };
         row = omega (arith, ap length sp.rows_are, length-rowss f);

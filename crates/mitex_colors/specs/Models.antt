@@ -1,6 +1,7 @@
 -- A colour's model: what is written for it, and where the elements after it stand.
 use Rattle.std.specs.Prelude.{◌≡◌, [], List, ℕ, ◌+◌, ◌*◌, ◌≤◌, Option, Some, None}
 use Rattle.std.specs.Borrow.{Bor}
+use Rattle.text.specs.Slices.{PartOf}
 use Rattle.mitex_spec.specs.Rules.{get_cmd}
 use Rattle.mitex_syntax.specs.Tree.{Forest, sizes}
 use Rattle.mitex_syntax.specs.Spells.{SpellsAll}
@@ -17,9 +18,15 @@ abbrev pub model_text : Option (Bor (List ℕ)) → List ℕ
 model_text None = no_model
 model_text (Some s) = in_model s.now
 
+-- a model is a part of the text
+abbrev pub ModelIn : Option (Bor (List ℕ)) → List ℕ → Type 0
+ModelIn None text = Unit {0}
+ModelIn (Some s) text = PartOf s.now text
+
 -- from r, with these rows and this text, a scan has gone past a model
 pub record ModelPassed (m : Model) (r : Rest) (rows text : List ℕ) (s : Option (Bor (List ℕ))) (rows' text' : List ℕ) : Type 0 where
   pub text_is : m.text ≡ model_text s
+  pub part : ModelIn s text
   pub over_rows : List ℕ
   pub over_text : List ℕ
   pub moved : ScanMoved rows text [] r m.behind over_rows over_text rows' text'
@@ -27,6 +34,7 @@ pub record ModelPassed (m : Model) (r : Rest) (rows text : List ℕ) (s : Option
 -- a model was found, and the elements after it
 pub record ModelFound (m : Model) (f : Forest) (rows text : List ℕ) (p : ColorModel) : Type 0 where
   pub text_is : m.text ≡ model_text p.text
+  pub part : ModelIn p.text text
   pub spells : SpellsAll m.behind.elements (part_rows p.rest rows) (part_text p.rest text)
   pub inside : LiesIn rows text p.rest
   pub row : 8 * m.behind.rows ≡ 8 + p.rest.row

@@ -62,7 +62,7 @@ fn stops(kind: u8, stop: Stop) -> bool
 }
 
 // Past the first element, if there is one.
-fn past_child<'a>(elements: Children<'a>) -> Children<'a>
+fn past_child<'r, 't>(elements: Children<'r, 't>) -> Children<'r, 't>
     ensures { (tail : List ℕ) (s : Rest) → Left elements.entry.rows.now elements.entry.text.now tail s.elements
         → FirstPassed elements.entry.rows.now elements.entry.text.now tail s result.rows.now result.text.now }
 {
@@ -77,7 +77,7 @@ fn past_child<'a>(elements: Children<'a>) -> Children<'a>
 }
 
 // From the first element on that a scan stops at.
-fn seek<'a>(elements: Children<'a>, stop: Stop) -> Children<'a>
+fn seek<'r, 't>(elements: Children<'r, 't>, stop: Stop) -> Children<'r, 't>
     ensures { (tail : List ℕ) (s : Rest) → Left elements.entry.rows.now elements.entry.text.now tail s.elements
         → Sought (picks stop) elements.entry.rows.now elements.entry.text.now tail s result.rows.now result.text.now }
 {
@@ -110,7 +110,7 @@ fn last_place(rest: Children, end: usize, to: usize) -> Spot
 }
 
 // `\color`: a model in brackets, with trivia around it passed over; and the elements that are left after it.
-fn greedy_model<'a>(elements: Children<'a>) -> (Option<&'a [u8]>, Children<'a>)
+fn greedy_model<'r, 't>(elements: Children<'r, 't>) -> (Option<&'t [u8]>, Children<'r, 't>)
     ensures { (s : Rest) → Left elements.entry.rows.now elements.entry.text.now [] s.elements
         → ModelPassed (model_in (seek is_solid s)) s elements.entry.rows.now elements.entry.text.now result.0 result.1.rows.now result.1.text.now }
 {
@@ -127,7 +127,7 @@ fn greedy_model<'a>(elements: Children<'a>) -> (Option<&'a [u8]>, Children<'a>)
 }
 
 // The model of `\color`, among the children of its first argument, wherever that stands.
-pub fn color_model<'a>(children: Children<'a>) -> ColorModel<'a>
+pub fn color_model<'a>(children: Children<'_, 'a>) -> ColorModel<'a>
     ensures { (f : Forest) → SpellsAll f children.entry.rows.now children.entry.text.now
         → ColorFound f children.entry.rows.now children.entry.text.now result }
 {
@@ -155,7 +155,7 @@ fn is_model(s: &[u8]) -> bool
 }
 
 // The model of `\textcolor` and `\colorbox`, their first argument.
-pub fn argument_model<'a>(children: Children<'a>) -> ColorModel<'a>
+pub fn argument_model<'a>(children: Children<'_, 'a>) -> ColorModel<'a>
     ensures { (f : Forest) → SpellsAll f children.entry.rows.now children.entry.text.now
         → ModelFound (argument_model 1 f) f children.entry.rows.now children.entry.text.now result }
 {

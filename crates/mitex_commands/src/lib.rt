@@ -105,6 +105,7 @@ pub fn convert_command_item(c: &Converter, out: &mut Output, row: usize) -> Resu
     ensures agrees { Agrees (walked_by c.now out.new.at result) (place_of c.now) row out.old.at
         out.old.buffer.now out.new.buffer.now (item_in c.now.env c.now.indent (carry_of c.now)) }
     ensures lent { out.new.buffer.ghost_name ≡ out.old.buffer.ghost_name }
+    ensures kept { length out.new.buffer.now ≡ length out.old.buffer.now }
     ensures untouched { OnErr result (out.new ≡ out.old) }
 {
     let Some(mark) = mark_of(c.env) else {
@@ -139,14 +140,14 @@ pub fn put_label(out: &mut Output, s: &[u8])
 }
 
 // The text of the first argument; none where there is none.
-pub fn argument_text<'a>(children: Children<'a>) -> &'a [u8]
+pub fn argument_text<'a>(children: Children<'_, 'a>) -> &'a [u8]
     ensures { (f : Forest) → Begins f children.entry.rows.now children.entry.text.now → result.now ≡ text_in (first_of ClauseArgument f) }
 {
     children.text_at(children.find_kind(CLAUSE_ARGUMENT))
 }
 
 // The text of a label: the first argument without its ends, trimmed.
-pub fn label_text<'a>(children: Children<'a>) -> &'a [u8]
+pub fn label_text<'a>(children: Children<'_, 'a>) -> &'a [u8]
     ensures { (f : Forest) → Begins f children.entry.rows.now children.entry.text.now → result.now ≡ label_text f }
 {
     mitex_syntax::trimmed_inner(argument_text(children))
@@ -171,7 +172,9 @@ pub fn convert_command_label(
         → Agrees (walked_by c.new out.new.at result) (place_of c.old) row out.old.at
         out.old.buffer.now out.new.buffer.now (label_in c.old.env c.old.mode (label_text f) (carry_of c.old)) }
     ensures lent { out.new.buffer.ghost_name ≡ out.old.buffer.ghost_name }
+    ensures kept { length out.new.buffer.now ≡ length out.old.buffer.now }
     ensures untouched { OnErr result (out.new ≡ out.old) }
+    ensures same { OnErr result (c.new ≡ c.old) }
 {
     let s = label_text(children);
     if writes_now(c.env) {

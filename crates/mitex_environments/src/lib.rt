@@ -2,8 +2,9 @@
 // their children. Nothing here recurses.
 #![tactic(auto)]
 
-ghost use Rattle.std.specs.Prelude.{◌≡◌, ◌++◌, ℕ, ◌+◌, ◌*◌, ◌≤◌, length};
+ghost use Rattle.std.specs.Prelude.{◌≡◌, ◌++◌, ℕ, ◌+◌, ◌*◌, ◌≤◌, length, take, drop};
 ghost use Rattle.text.specs.Outputs.{Puts};
+ghost use Rattle.text.specs.Slices.{PartOf};
 ghost use Rattle.mitex_syntax.specs.Syntax.{ClauseArgument};
 ghost use Rattle.mitex_syntax.specs.Tree.{Tree, Forest, size};
 ghost use Rattle.mitex_syntax.specs.Views.{first_of, text_in, begin_of, children_of};
@@ -173,17 +174,19 @@ pub fn take_label(c: &mut Converter, out: &mut Output, list: bool)
 
 // The children of an environment's begin, and from which byte on their rows stand among those of its children.
 #[derive(Clone, Copy)]
-pub struct BeginPart<'a> {
+pub struct BeginPart<'r, 't> {
     pub row: usize,
-    pub children: Children<'a>,
+    pub children: Children<'r, 't>,
 }
 
 // The children of the first ItemBegin; none where there is none.
-pub fn begin_part<'a>(children: Children<'a>) -> BeginPart<'a>
+pub fn begin_part<'r, 't>(children: Children<'r, 't>) -> BeginPart<'r, 't>
     ensures found { (f : Forest) → SpellsAll f children.entry.rows.now children.entry.text.now
         → BeginFound f result.row result.children.rows.now result.children.text.now }
     ensures inside { result.row + length result.children.rows.now ≤ length children.entry.rows.now }
     ensures stop { length result.children.text.now ≤ length children.entry.text.now }
+    ensures rows { result.children.rows.now ≡ take (length result.children.rows.now) (drop result.row children.entry.rows.now) }
+    ensures text { PartOf result.children.text.now children.entry.text.now }
 {
     match children.begin() {
         Some(spot) => BeginPart {
@@ -201,7 +204,7 @@ pub fn begin_part<'a>(children: Children<'a>) -> BeginPart<'a>
 }
 
 // The text of the first argument of a table; none where there is none.
-pub fn table_argument<'a>(children: Children<'a>) -> &'a [u8]
+pub fn table_argument<'a>(children: Children<'_, 'a>) -> &'a [u8]
     ensures { (f : Forest) → SpellsAll f children.entry.rows.now children.entry.text.now → result.now ≡ text_in (first_of ClauseArgument (begin_of f)) }
 {
     mitex_commands::argument_text(begin_part(children).children)

@@ -101,7 +101,7 @@ fn put_options(out: &mut Output, s: &[u8])
 // ---- the command
 
 // The text of the first argument whose first node is of a kind, without its ends and trimmed; none where there is no such argument.
-fn found_argument<'a>(children: Children<'a>, kind: u8) -> &'a [u8]
+fn found_argument<'a>(children: Children<'_, 'a>, kind: u8) -> &'a [u8]
     ensures { (f : Forest) → Begins f children.entry.rows.now children.entry.text.now → result.now ≡ inner_text (argument_with kind f) }
 {
     mitex_syntax::trimmed_inner(children.text_at(children.argument_with(kind)))

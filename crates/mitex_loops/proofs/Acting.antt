@@ -7,7 +7,7 @@ use native.Mathlib.Omega.{arith}
 use lib.Dec.{eqb}
 use lib.ListN.{drop, get_or}
 use Rattle.mitex_syntax.specs.Syntax.{ClauseArgument}
-use Rattle.mitex_syntax.specs.Tree.{Tree, Forest}
+use Rattle.mitex_syntax.specs.Tree.{Tree, Forest, rows_ofs}
 use Rattle.mitex_syntax.specs.Views.{children_of}
 use Rattle.mitex_syntax.specs.Spells.{Spells, Begins}
 use Rattle.mitex_syntax.proofs.Trees.{kind-spelt, children-begin}
@@ -21,7 +21,7 @@ use Rattle.mitex_loops.specs.Given.{ChildIs, number_of}
 -- the child with these rows and this text, and the others behind it
 pub child-is :
     {t : Tree} {f : Forest} {rows text : List ℕ} (c : Child) → Spells t rows text → c.kind ≡ get_or rows 0 0
-    → c.inner.rows.now ≡ drop 8 rows → c.inner.text.now ≡ text → Begins f c.behind.rows.now c.behind.text.now → ChildIs t f c
+    → c.inner.rows.now ≡ drop 8 rows → c.inner.text.now ≡ text → c.behind.now ≡ rows_ofs f → ChildIs t f c
 child-is {t} {f} {rows} {text} c sp k r x o =
     record {
       kind = k ∙ kind-spelt t sp;

@@ -25,7 +25,7 @@ use Rattle.mitex_meaning.specs.declared.Loop.{Loop}
 use Rattle.std.specs.Bool.{MatchBool}
 use Rattle.mitex_loops.proofs.RowTests.{EachRow, SomeRow, all_kinds, kinds-all, kinds-not}
 use Rattle.mitex_meaning.proofs.Runs.{one-so, beside-beside, sizes-beside, rows-beside, texts-beside, first-apart, others_apart, steady-beside}
-use Rattle.mitex_loops.specs.Steady.{SteadyRun}
+use Rattle.mitex_loops.specs.Steady.{SteadyGiven, SteadyRun}
 
 -- ---- a child ahead_of, by its rows
 
@@ -72,10 +72,6 @@ pub run-start : (l : Loop) (f : Forest) → RunTo l f 0 0
 unfolding beside all_steady size text_of
 run-start l f = record { first = none; others = f; is = refl; steady = refl; rows_are = refl; text_is = refl }
 
--- no more text than there is
-pub begun-short : {f : Forest} {rows text : List ℕ} → Begins f rows text → length (texts_of f) ≤ length text
-begun-short {f} sp = omega (arith, ap length sp.text_is, length-append (texts_of f) sp.rest)
-
 -- the child at k, and how the run goes on over it
 pub record Onward (l : Loop) (f : Forest) (rows : List ℕ) (k n : ℕ) : Type 0 where
   pub tree : Tree
@@ -86,13 +82,13 @@ pub record Onward (l : Loop) (f : Forest) (rows : List ℕ) (k n : ℕ) : Type 0
       is_steady l (get_or rows k 0) ≡ true → (e m : ℕ) → e ≡ extent_of (drop k rows)
       → m ≡ token_sum (take (extent_of (drop k rows)) (drop k rows)) → RunTo l f (k + e) (n + m)
 
-module _ {l : Loop} {f : Forest} {rows text : List ℕ} {k n : ℕ} (sp : Begins f rows text) (r : RunTo l f k n) where
+module _ {l : Loop} {f : Forest} {rows : List ℕ} {k n : ℕ} (e : rows ≡ rows_ofs f) (r : RunTo l f k n) where
   run-left : drop k rows ≡ rows_ofs r.others
   run-left =
-      ap (drop k) (sp.rows_are ∙ ap rows_ofs r.is ∙ rows-beside r.first r.others)
+      ap (drop k) (e ∙ ap rows_ofs r.is ∙ rows-beside r.first r.others)
       ∙ drop_at (rows_ofs r.first) (rows_ofs r.others) k (length-rowss r.first ∙ sym r.rows_are)
 
-  pub run_on : k < length rows → length rows < cap → length text < cap → Onward l f rows k n
+  pub run_on : k < length rows → length rows < cap → length (texts_of f) < cap → Onward l f rows k n
   unfolding beside all_steady size text_of
   run_on h few short =
       let ld = length-drop k rows in
@@ -102,7 +98,6 @@ module _ {l : Loop} {f : Forest} {rows text : List ℕ} {k n : ℕ} (sp : Begins
       let is : f ≡ beside r.first (more t g) = r.is ∙ ap (beside r.first) x.1.1 in
       let lt = ap length (ap texts_of is ∙ texts-beside r.first (more t g)) ∙ length-append (texts_of r.first) (texts_of (more t g)) in
       let lm = length-append (text_of t) (texts_of g) in
-      let le = ap length sp.text_is ∙ length-append (texts_of f) sp.rest in
       let q = r.text_is in
       let p = r.rows_are in
       let a = ahead_of rows k t g (run-left ∙ ap rows_ofs x.1.1) few (omega arith) in
@@ -136,6 +131,10 @@ module _ {l : Loop} {f : Forest} {rows text : List ℕ} {k n : ℕ} (sp : Begins
 module _ (rows text : List ℕ) (i j : ℕ) {f : Forest} (sp : SpellsAll f (drop i rows) (drop j text)) where
   pub texts-short : length text < cap → length (texts_of f) < cap
   texts-short short = omega (arith, ap length sp.text_is, length-drop j text)
+
+  pub steady-given : length rows < cap → length text < cap → SteadyGiven (drop i rows)
+  steady-given few short =
+      record { few = omega (arith, length-drop i rows); forest = f; rows_are = sp.rows_are; short = texts-short short }
 
   module _ {l : Loop} {r : Span} (s : SteadyRun l f r) where
     apart : SpellsAll (beside s.first s.others) (drop i rows) (drop j text)

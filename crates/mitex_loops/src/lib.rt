@@ -5,7 +5,7 @@ ghost use Rattle.std.specs.Prelude.{◌≡◌, true, false, ◌&&◌, ◌||◌, 
 ghost use Rattle.text.specs.Writing.{cap, decimal};
 ghost use Rattle.text.specs.Outputs.{Puts};
 ghost use Rattle.mitex_syntax.specs.Syntax.{ClauseArgument, ClauseCommandName, ItemCurly, ItemAttachComponent};
-ghost use Rattle.mitex_syntax.specs.Tree.{Tree, Forest, kind_of};
+ghost use Rattle.mitex_syntax.specs.Tree.{Tree, Forest, kind_of, rows_ofs, texts_of};
 ghost use Rattle.mitex_syntax.specs.Views.{children_of, cmd_name};
 ghost use Rattle.mitex_syntax.specs.Spells.{SpellsAll, Begins};
 ghost use Rattle.mitex_meaning.specs.Children.{is_blank, is_dot, is_split, is_ends, follows, others_follow, is_named, act_of, attach_act, rule_act, cell_act, before, converts, behind, next_attach, next_exterior, next_loop, attach_end, loop_end};
@@ -15,8 +15,8 @@ ghost use Rattle.mitex_meaning.specs.Groups.{group_env, lr_begin, lr_end, attach
 ghost use Rattle.mitex_meaning.specs.Colors.{body_loop, arguments_loop};
 ghost use Rattle.mitex_meaning.specs.Runs.{is_children, is_flat, is_steady, all_blank};
 ghost use Rattle.mitex_meaning.specs.declared.Act.TheVariants.{Skip, Convert, Space, ThenSpace, ThenComma, InDollars};
-ghost use Rattle.mitex_loops.specs.Given.{ChildIs, Decides, number_of};
-ghost use Rattle.mitex_loops.specs.Steady.{SteadyRun};
+ghost use Rattle.mitex_loops.specs.Given.{OthersGiven, ChildIs, Decides, number_of};
+ghost use Rattle.mitex_loops.specs.Steady.{SteadyGiven, SteadyRun};
 ghost use Rattle.mitex_loops.specs.FirstChild.{FirstApart, lr_name};
 
 use mitex_meaning::{Act, Attach, LaTeXEnv, LaTeXMode, Loop};
@@ -28,12 +28,12 @@ use mitex_syntax::{
 };
 use text::Output;
 
-// A child in a loop: its kind, what stands in it with its text, and the children behind it.
+// A child in a loop: its kind, what stands in it with its text, and the rows of the children behind it.
 #[derive(Clone, Copy)]
 pub struct Child<'a> {
     pub kind: u8,
-    pub inner: Children<'a>,
-    pub behind: Children<'a>,
+    pub inner: Children<'a, 'a>,
+    pub behind: &'a [u8],
 }
 
 // ---- what a loop looks at
@@ -84,17 +84,23 @@ impl Child<'_> {
     fn is_followed(self) -> bool
         ensures { (t : Tree) (f : Forest) → ChildIs t f self.entry → result ≡ follows f }
     {
-        !self.behind.rows.is_empty()
+        !self.behind.is_empty()
     }
 
-    // Whether one of the children behind is no command name.
+    // Whether one of the children behind is no command name. It goes by a place, since children have unlike numbers of rows.
     fn others_follow(self) -> bool
+        requires { OthersGiven self.behind.now }
         ensures { (t : Tree) (f : Forest) → ChildIs t f self.entry → result ≡ others_follow f }
     {
-        self.behind
-            .rows
-            .chunks_exact(8)
-            .any(|row| row[0] != CLAUSE_COMMAND_NAME)
+        let behind = self.behind;
+        let mut i = 0;
+        while i < behind.len() {
+            if behind[i] != CLAUSE_COMMAND_NAME {
+                return true;
+            }
+            i += mitex_syntax::extent(behind, i);
+        }
+        false
     }
 
     // A command that a figure takes for itself.
@@ -145,6 +151,7 @@ fn greedy_act(child: Child) -> Act
 
 // The arguments of a command in Math: a comma after an argument that another element follows.
 fn separated_act(child: Child) -> Act
+    requires { OthersGiven child.behind.now }
     ensures { (t : Tree) (f : Forest) → ChildIs t f child.entry → result ≡ cond (eqb child.entry.kind ClauseCommandName) Skip (cond (eqb child.entry.kind ClauseArgument && others_follow f) ThenComma Convert) }
 {
     match child.kind {
@@ -255,6 +262,7 @@ fn figure_act(child: Child) -> Act
 
 // What a loop does with a child.
 pub fn act_of(l: Loop, child: Child) -> Act
+    requires { OthersGiven child.behind.now }
     ensures { Decides l child.entry result }
 {
     let kind = child.kind;
@@ -380,10 +388,10 @@ fn is_steady(l: Loop, kind: u8) -> bool
 
 // How many bytes of rows and of text the first of these children have, up to the first that the loop is not steady on. It goes by a
 // place, since children have unlike numbers of rows.
-pub fn steady_run(l: Loop, children: Children) -> Span
-    ensures { (f : Forest) → Begins f children.entry.rows.now children.entry.text.now → SteadyRun l f result }
+pub fn steady_run(l: Loop, rows: &[u8]) -> Span
+    requires { SteadyGiven rows.now }
+    ensures { (f : Forest) → rows.now ≡ rows_ofs f → length (texts_of f) < cap → SteadyRun l f result }
 {
-    let rows = children.rows;
     let mut k = 0;
     let mut n = 0;
     while k < rows.len() && is_steady(l, rows[k]) {
@@ -395,10 +403,10 @@ pub fn steady_run(l: Loop, children: Children) -> Span
 }
 
 // Whether these children leave a curly group blank. They are tokens then, each with one row.
-pub fn is_blank_group(children: Children) -> bool
-    ensures { (f : Forest) → Begins f children.entry.rows.now children.entry.text.now → result ≡ all_blank f }
+pub fn is_blank_group(rows: &[u8]) -> bool
+    ensures { (f : Forest) (text : List ℕ) → Begins f rows.now text → result ≡ all_blank f }
 {
-    children.rows.chunks_exact(8).all(|row| is_blank(row[0]))
+    rows.chunks_exact(8).all(|row| is_blank(row[0]))
 }
 
 // ---- the first child
@@ -415,7 +423,7 @@ pub fn first_span(children: Children) -> Span
 }
 
 // The name of `\left` or `\right`: the first child without its backslash; none where there is no child.
-pub fn lr_name<'a>(children: Children<'a>) -> &'a [u8]
+pub fn lr_name<'a>(children: Children<'_, 'a>) -> &'a [u8]
     ensures { (f : Forest) → SpellsAll f children.entry.rows.now children.entry.text.now → result.now ≡ lr_name f }
 {
     let first = first_span(children);
@@ -425,7 +433,7 @@ pub fn lr_name<'a>(children: Children<'a>) -> &'a [u8]
 // ---- what is written
 
 // The token that splits an attachment, and the bracket that the rest stands in.
-fn put_split(out: &mut Output, s: &[u8])
+pub fn put_split(out: &mut Output, s: &[u8])
     ensures { Puts out.old (s.now ++ left_paren) out.new }
 {
     out.put(s);

@@ -8,3 +8,6 @@ pub mod Blocks
 pub mod Sizes
 pub mod Levels
 pub mod Runs
+pub mod LentForms
+pub mod LentWalks
+pub mod LentCalls

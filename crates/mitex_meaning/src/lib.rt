@@ -186,6 +186,40 @@ impl Converter {
         }
     }
 
+    // The converter in a mode; the caller keeps the mode before.
+    pub fn entered_mode(mut self, context: LaTeXMode) -> Converter
+        ensures { result ≡ with_mode context self }
+    {
+        self.enter_mode(context);
+        self
+    }
+
+    // The converter back in the mode before.
+    pub fn exited_mode(mut self, prev: LaTeXMode) -> Converter
+        ensures { result ≡ with_mode prev self }
+    {
+        self.exit_mode(prev);
+        self
+    }
+
+    // The converter in an environment; a list is two further in.
+    pub fn entered_env(mut self, context: LaTeXEnv) -> Converter
+        requires { self.indent + step_of context < 2 ^ 64 }
+        ensures { result ≡ entered_env context self }
+    {
+        self.enter_env(context);
+        self
+    }
+
+    // The converter back in the environment before; the indent of a list is at least 2.
+    pub fn exited_env(mut self, prev: LaTeXEnv) -> Converter
+        requires { step_of self.env ≤ self.indent }
+        ensures { result ≡ exited_env prev self }
+    {
+        self.exit_env(prev);
+        self
+    }
+
     // In a mode; the mode before is returned.
     pub fn enter_mode(&mut self, context: LaTeXMode) -> LaTeXMode
         ensures { (result ≡ self.old.mode) × (self.new ≡ with_mode context self.old) }
@@ -264,4 +298,16 @@ impl Converter {
             ..self
         }
     }
+}
+
+// By how much what stands in an environment is further in than what follows it: the environment is entered and left on a converter
+// that this function lends. Its own parameters are plain, so that whoever calls it needs to know nothing of a loan.
+pub fn indent_in(mut c: Converter, context: LaTeXEnv) -> usize
+    requires { c.indent + step_of context < 2 ^ 64 }
+    ensures { result ≡ step_of context }
+{
+    let prev = c.enter_env(context);
+    let inside = c.indent;
+    c.exit_env(prev);
+    inside - c.indent
 }

@@ -17,6 +17,7 @@ use Rattle.std.proofs.lemmas.List.{drop-take}
 use Rattle.text.specs.Numbers.{two_at}
 use Rattle.text.specs.Compare.{same, precedes}
 use Rattle.text.proofs.Writing.{part-rest}
+use Rattle.text.proofs.Slices.{part-at}
 use Rattle.text.proofs.Compare.{by-test, same-differ, precedes-trans, precedes-not-same}
 use Rattle.mitex_spec.specs.Rules.{Rule, rule, get, alias_or, written_name}
 use Rattle.text.specs.Trailer.{file_most, start_of, count_of, text_area, row_area, ahead}
@@ -24,7 +25,7 @@ use Rattle.text.proofs.Trailer.{length-text_area, ahead-some}
 use Rattle.mitex_spec.specs.RuleFile.{no_alias, rises_from, rises, length_of_name, alias_length, alias_size, rule_taken, rule_at}
 use Rattle.mitex_spec.specs.RuleFile.{rule_row_fits, rules_in, rules_of, number_of_alias, alias_text, rule_text}
 use Rattle.mitex_spec.specs.Index.{offsets_from, rule_row_at, rule_no, rank_of, SomeRule}
-use Rattle.mitex_spec.specs.LookUp.{lent, alias_of, rule_found, rule_of}
+use Rattle.mitex_spec.specs.LookUp.{lent, alias_of, rule_found, rule_of, LentIn}
 use Rattle.mitex_spec.specs.declared.rules.Found.{Found}
 use Rattle.mitex_spec.proofs.RuleFile.{RuleRowFits, rule-row-says, alias_number, alias-text, no-rules, rising-some, rules-whole, rules-tested}
 use Rattle.mitex_spec.proofs.Firsts.{rank-cons}
@@ -377,6 +378,16 @@ pub lent-map :
 lent-map text None part h e = ap lent e
 lent-map text (Some n) None h e = absurd e
 lent-map text (Some n) (Some s) h e = ap some (h n s e)
+
+-- what it makes of one is a part of the file, where the text is what is left of the file from a place on
+pub lent-in :
+    {post : ℕ → Bor (List ℕ) → Type 0} (file : List ℕ) (at : ℕ) → at ≤ length file → (size : Maybe ℕ) (part : Maybe (Bor (List ℕ)))
+    → ((n : ℕ) (s : Bor (List ℕ)) → post n s → s.now ≡ take n (take (length file - at) (drop at file)))
+    → MatchOption size (part ≡ None) (λ n. IsSomeAnd part (post n)) → LentIn file part
+lent-in file at h None None cut e = tt
+lent-in file at h None (Some s) cut e = absurd cc
+lent-in file at h (Some n) None cut e = absurd e
+lent-in file at h (Some n) (Some s) cut e = part-at at n h (cut n s e ∙ ap (take n) (part-rest file at))
 
 -- ---- the written name
 

@@ -72,7 +72,10 @@ fn rule_row_fits(row: &[u8], text: &[u8], plain: bool) -> bool
 fn may_follow(last: Option<&[u8]>, name: &[u8]) -> bool
     ensures { result ≡ may_follow (lent last.entry) name.now }
 {
-    last.is_none_or(|last| last < name)
+    match last {
+        Some(last) => text::precedes(last, name),
+        None => true,
+    }
 }
 
 // Whether each row is one, the texts fill the text, and the names rise.

@@ -6,15 +6,15 @@ ghost use Rattle.mitex_spec.specs.Rules.{Rule, get, get_cmd, get_env, alias_or};
 ghost use Rattle.mitex_spec.specs.RuleFile.{rules_of};
 ghost use Rattle.mitex_spec.specs.Index.{rule_no, rank_of, SomeRule, SomeRules};
 ghost use Rattle.mitex_spec.specs.Unique.{some_rules-unique};
-ghost use Rattle.mitex_spec.specs.LookUp.{alias_of, rule_found, Answers};
+ghost use Rattle.mitex_spec.specs.LookUp.{alias_of, rule_found, LentIn, AliasIn, Answers};
 
 use crate::{FIRSTS, alias_size, first_byte, name_at, rule_row_at, wide_u32};
 
 // A rule file that was checked, and its index.
 #[derive(Clone, Copy)]
-pub struct Rules<'a> {
-    pub file: &'a [u8],
-    pub index: &'a [u32],
+pub struct Rules<'f, 'i> {
+    pub file: &'f [u8],
+    pub index: &'i [u32],
     pub ghost some: { SomeRules file.now index.now } by { some_rules-unique },
 }
 
@@ -27,7 +27,7 @@ pub struct Found<'a> {
 
 const CMD_MOST: u8 = 2;
 
-impl<'a> Rules<'a> {
+impl<'f, 'i> Rules<'f, 'i> {
     // How many names come before a name: by halving those that begin as it does.
     fn rank(self, name: &[u8]) -> usize
         ensures { (rs : List Rule) → rules_of self.entry.file.now ≡ some rs → result ≡ rank_of rs name.now }
@@ -38,7 +38,7 @@ impl<'a> Rules<'a> {
         // `partition_point` asks that its closure may be called at any number, and a name may only be read at those of the index.
         while low < high {
             let middle = low + (high - low) / 2;
-            if name_at(self.file, self.index, middle) < name {
+            if text::precedes(name_at(self.file, self.index, middle), name) {
                 low = middle + 1;
             } else {
                 high = middle;
@@ -48,9 +48,10 @@ impl<'a> Rules<'a> {
     }
 
     // The rule of a number, found.
-    fn rule_at(self, k: usize) -> Found<'a>
+    fn rule_at(self, k: usize) -> Found<'f>
         requires { SomeRule self.file.now self.index.now k }
-        ensures { (rs : List Rule) → rules_of self.entry.file.now ≡ some rs → rule_found (rule_no rs k).name result ≡ rule_no rs k }
+        ensures rule { (rs : List Rule) → rules_of self.entry.file.now ≡ some rs → rule_found (rule_no rs k).name result ≡ rule_no rs k }
+        ensures inside { LentIn self.entry.file.now result.alias }
     {
         let row = rule_row_at(self.file, k);
         let text = &self.file[wide_u32(self.index[k]) + text::read_u16(row, 0)..];
@@ -61,8 +62,9 @@ impl<'a> Rules<'a> {
     }
 
     // The rule of a name.
-    pub fn get(self, name: &[u8]) -> Option<Found<'a>>
-        ensures { Answers self.entry.file.now name.now (λ rs. get rs name.now) result }
+    pub fn get(self, name: &[u8]) -> Option<Found<'f>>
+        ensures answers { Answers self.entry.file.now name.now (λ rs. get rs name.now) result }
+        ensures inside { AliasIn self.entry.file.now result }
     {
         let k = self.rank(name);
         if k < text::count_of(self.file) && name_at(self.file, self.index, k) == name {
@@ -73,15 +75,17 @@ impl<'a> Rules<'a> {
     }
 
     // The rule of a name in the kind of a command.
-    pub fn get_cmd(self, name: &[u8]) -> Option<Found<'a>>
-        ensures { Answers self.entry.file.now name.now (λ rs. get_cmd rs name.now) result }
+    pub fn get_cmd(self, name: &[u8]) -> Option<Found<'f>>
+        ensures answers { Answers self.entry.file.now name.now (λ rs. get_cmd rs name.now) result }
+        ensures inside { AliasIn self.entry.file.now result }
     {
         self.get(name).filter(|found| found.class <= CMD_MOST)
     }
 
     // The rule of a name in the kind of an environment.
-    pub fn get_env(self, name: &[u8]) -> Option<Found<'a>>
-        ensures { Answers self.entry.file.now name.now (λ rs. get_env rs name.now) result }
+    pub fn get_env(self, name: &[u8]) -> Option<Found<'f>>
+        ensures answers { Answers self.entry.file.now name.now (λ rs. get_env rs name.now) result }
+        ensures inside { AliasIn self.entry.file.now result }
     {
         self.get(name).filter(|found| found.class > CMD_MOST)
     }

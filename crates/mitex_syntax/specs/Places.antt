@@ -3,6 +3,7 @@
 use Rattle.std.specs.Prelude.{Bool, ◌≡◌, ℕ, ◌+◌, ◌*◌, ◌-◌, ◌≤◌, ◌<◌, List, [], length, take, drop, Option, None, Some}
 use Rattle.std.proofs.Math.Option.{Option as Maybe}
 use Rattle.std.proofs.Math.Option.Option.{none as nothing, some}
+use Rattle.text.specs.Slices.{PartOf}
 use Rattle.mitex_syntax.specs.Tree.{Tree, Forest, size, sizes, kind_of}
 use Rattle.mitex_syntax.specs.Tree.Forest.{more}
 use Rattle.mitex_syntax.specs.Rows.{extent_of, token_sum}
@@ -89,6 +90,11 @@ text_told (Some r) = r.text.now
 pub record TokenIs (o : Maybe Tree) (r : Option Token) : Type 0 where
   pub kind : kind_told r ≡ kind_found o
   pub text_is : text_told r ≡ text_in o
+
+-- the token, if there is one, has a part of the text
+abbrev pub TokenIn : List ℕ → Option Token → Type 0
+TokenIn text None = Unit {0}
+TokenIn text (Some r) = PartOf r.text.now text
 
 -- the way to the last token: over an element that is not the last, and into one that is
 pub record LastHop (rows : List ℕ) (i : ℕ) (r : Span) : Type 0 where

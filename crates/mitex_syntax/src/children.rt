@@ -5,7 +5,7 @@ ghost use Rattle.mitex_syntax.specs.Syntax.{ItemBegin};
 ghost use Rattle.mitex_syntax.specs.Tree.{Forest};
 ghost use Rattle.mitex_syntax.specs.Views.{is_of, is_argument_with, cmd_name, first_tokens, last_tokens, env_name, is_inline, is_valid};
 ghost use Rattle.mitex_syntax.specs.Spells.{Begins, SomeForest};
-ghost use Rattle.mitex_syntax.specs.Places.{is_wanted, FindsSpot, InText, part_at, SpotIn, FoundIn, TokenIs};
+ghost use Rattle.mitex_syntax.specs.Places.{is_wanted, FindsSpot, InText, part_at, SpotIn, FoundIn, TokenIs, TokenIn};
 ghost use Rattle.mitex_syntax.specs.Once.{SomeForest-prop};
 
 use super::{
@@ -15,38 +15,58 @@ use super::{
 
 // The children of a node: the rows after the node's own, and the text, which begins with theirs.
 #[derive(Clone, Copy)]
-pub struct Children<'a> {
-    pub rows: &'a [u8],
-    pub text: &'a [u8],
+pub struct Children<'r, 't> {
+    pub rows: &'r [u8],
+    pub text: &'t [u8],
     pub ghost some: { SomeForest rows.now text.now 0 0 } by { SomeForest-prop rows.now text.now 0 0 },
 }
 
-impl<'a> Children<'a> {
+// The first of these elements from a cursor on that is what is looked for; those before the cursor need not be of any.
+pub fn find(rows: &[u8], text: &[u8], at: Cursor, wanted: Wanted) -> Option<Spot>
+    requires { SomeForest rows.now text.now at.row at.text }
+    ensures finds { FindsSpot (is_wanted wanted) rows.now text.now at.row at.text result }
+    ensures found { FoundIn rows.now text.now result }
+{
+    // what is found is told by its place among all the bytes, so the place is counted on, element by element
+    let mut i = at.row;
+    let mut j = at.text;
+    while i < rows.len() {
+        let s = span_at(rows, i);
+        let end = i + s.rows;
+        let to = j + s.text;
+        if is_wanted(&rows[i..end], wanted) {
+            return Some(Spot {
+                row: i,
+                end,
+                from: j,
+                to,
+            });
+        }
+        i = end;
+        j = to;
+    }
+    None
+}
+
+// The text at a place; none where nothing was found.
+pub fn text_at<'t>(text: &'t [u8], place: Option<Spot>) -> &'t [u8]
+    requires { InText text.now place }
+    ensures { result.now ≡ part_at place text.now }
+{
+    match place {
+        Some(spot) => &text[spot.from..spot.to],
+        None => &[],
+    }
+}
+
+impl<'r, 't> Children<'r, 't> {
     // The first child from a cursor on that is what is looked for.
     pub fn find(self, at: Cursor, wanted: Wanted) -> Option<Spot>
         requires { SomeForest self.rows.now self.text.now at.row at.text }
         ensures finds { FindsSpot (is_wanted wanted) self.entry.rows.now self.entry.text.now at.row at.text result }
         ensures found { FoundIn self.entry.rows.now self.entry.text.now result }
     {
-        // what is found is told by its place among all the bytes, so the place is counted on, element by element
-        let mut i = at.row;
-        let mut j = at.text;
-        while i < self.rows.len() {
-            let s = span_at(self.rows, i);
-            let end = i + s.rows;
-            let to = j + s.text;
-            if is_wanted(&self.rows[i..end], wanted) {
-                return Some(Spot {
-                    row: i,
-                    end,
-                    from: j,
-                    to,
-                });
-            }
-            i = end;
-            j = to;
-        }
-        None
+        find(self.rows, self.text, at, wanted)
     }
 
     // The first child of a kind.
@@ -66,18 +86,15 @@ impl<'a> Children<'a> {
     }
 
     // The text at a place; none where nothing was found.
-    pub fn text_at(self, place: Option<Spot>) -> &'a [u8]
+    pub fn text_at(self, place: Option<Spot>) -> &'t [u8]
         requires { InText self.text.now place }
         ensures { result.now ≡ part_at place self.entry.text.now }
     {
-        match place {
-            Some(spot) => &self.text[spot.from..spot.to],
-            None => &[],
-        }
+        text_at(self.text, place)
     }
 
     // The children of the element at a place.
-    pub fn children_at(self, spot: Spot) -> Children<'a>
+    pub fn children_at(self, spot: Spot) -> Children<'r, 't>
         requires { SpotIn self.rows.now self.text.now spot }
         ensures rows { result.rows.now ≡ take (spot.end - (spot.row + 8)) (drop (spot.row + 8) self.entry.rows.now) }
         ensures text { result.text.now ≡ take (spot.to - spot.from) (drop spot.from self.entry.text.now) }
@@ -89,15 +106,16 @@ impl<'a> Children<'a> {
     }
 
     // `CmdItem::name_tok`: the name of a command over these children.
-    pub fn name_tok(self) -> &'a [u8]
+    pub fn name_tok(self) -> &'t [u8]
         ensures { (f : Forest) → Begins f self.entry.rows.now self.entry.text.now → result.now ≡ cmd_name f }
     {
         self.text_at(self.find_kind(CLAUSE_COMMAND_NAME))
     }
 
     // The first token, following first children only.
-    pub fn first_token(self) -> Option<Token<'a>>
-        ensures { (f : Forest) → Begins f self.entry.rows.now self.entry.text.now → TokenIs (first_tokens f) result }
+    pub fn first_token(self) -> Option<Token<'t>>
+        ensures token { (f : Forest) → Begins f self.entry.rows.now self.entry.text.now → TokenIs (first_tokens f) result }
+        ensures inside { TokenIn self.entry.text.now result }
     {
         let mut rows = self.rows;
         while !rows.is_empty() {
@@ -114,8 +132,9 @@ impl<'a> Children<'a> {
     }
 
     // The last token, following last children only: that of the row that stands last of all, if it is a token's.
-    pub fn last_token(self) -> Option<Token<'a>>
-        ensures { (f : Forest) → Begins f self.entry.rows.now self.entry.text.now → TokenIs (last_tokens f) result }
+    pub fn last_token(self) -> Option<Token<'t>>
+        ensures token { (f : Forest) → Begins f self.entry.rows.now self.entry.text.now → TokenIs (last_tokens f) result }
+        ensures inside { TokenIn self.entry.text.now result }
     {
         let mut rows = self.rows;
         let mut text = self.text;
@@ -142,7 +161,7 @@ impl<'a> Children<'a> {
     }
 
     // `EnvItem::name_tok`: the name of an environment over these children.
-    pub fn env_name(self) -> &'a [u8]
+    pub fn env_name(self) -> &'t [u8]
         ensures { (f : Forest) → Begins f self.entry.rows.now self.entry.text.now → result.now ≡ env_name f }
     {
         let Some(begin) = self.begin() else {

@@ -15,7 +15,7 @@ ghost use Rattle.mitex_syntax.specs.Places.{is_wanted, kind_found, TokenIs, Last
 
 mod children;
 
-pub use children::Children;
+pub use children::{Children, find, text_at};
 
 // ---- kinds, in the order in which the main match of `Converter::convert` names them
 // They are numbers and no enum: a row's first byte is the caller's, any of 256, and `is_token`, `is_node` and `is_trivia` answer for each

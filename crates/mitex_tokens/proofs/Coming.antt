@@ -6,7 +6,7 @@ use mathlib.Core.Option.Option.{none as nothing, some}
 use mathlib.Core.List.{List, [], ◌++◌}
 use Prim.Native.Nat.{ℕ}
 use lib.Dec.{eqb}
-use lib.ListN.{drop}
+use lib.ListN.{length, drop}
 use Rattle.std.specs.Prelude.{Result, Ok, Err}
 use Rattle.refusals.specs.Refusals.{refusal_number}
 use Rattle.refusals.specs.declared.Reason.{Reason}
@@ -101,3 +101,9 @@ module _ {b : Bool} {o o2 : Output} where
       {l : Label} {w : Outcome} {r : Result (Unit {0}) Reason} → Comes r b l o o2 w → r ≡ Ok tt → o2.buffer.ghost_name ≡ o.buffer.ghost_name
   comes-lent (declines y) z = cc
   comes-lent (accepts y t) z = t.lent
+
+  -- and left its length
+  pub comes-kept :
+      {l : Label} {w : Outcome} {r : Result (Unit {0}) Reason} → Comes r b l o o2 w → r ≡ Ok tt → length o2.buffer.now ≡ length o.buffer.now
+  comes-kept (declines y) z = cc
+  comes-kept (accepts y t) z = t.kept

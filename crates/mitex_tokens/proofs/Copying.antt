@@ -173,3 +173,7 @@ copies-run {x} t q = record { high = q.high; stop = q.stop; some = q.some; goes 
 pub copies-lent :
     {rows text : List ℕ} {o o2 : Output} {s : Span} → RunGiven rows text → Copies rows text o s o2 → o2.buffer.ghost_name ≡ o.buffer.ghost_name
 copies-lent g q = (q.goes in_text refl g.forest (sizes g.forest) g.spells (omega arith)).wrote.lent
+
+pub copies-kept :
+    {rows text : List ℕ} {o o2 : Output} {s : Span} → RunGiven rows text → Copies rows text o s o2 → length o2.buffer.now ≡ length o.buffer.now
+copies-kept g q = (q.goes in_text refl g.forest (sizes g.forest) g.spells (omega arith)).wrote.kept

@@ -270,6 +270,7 @@ fn put_part(
         → PartGoes (context_of rs c.old) c.old.skip_next_space rows.now text.now out.old result c.new.skip_next_space out.new }
     ensures flag_alone { c.new ≡ with_flag c.new.skip_next_space c.old }
     ensures lent { out.new.buffer.ghost_name ≡ out.old.buffer.ghost_name }
+    ensures kept { length out.new.buffer.now ≡ length out.old.buffer.now }
 {
     let kind = rows[0];
     if c.mode == LaTeXMode::Text && !c.skip_next_space && is_copied(kind) {
@@ -295,6 +296,7 @@ pub fn convert_tokens(
         → RunGoes (context_of rs c.old) c.old.skip_next_space rows.now text.now row out.old result c.new.skip_next_space out.new }
     ensures flag_alone { c.new ≡ with_flag c.new.skip_next_space c.old }
     ensures lent { out.new.buffer.ghost_name ≡ out.old.buffer.ghost_name }
+    ensures kept { length out.new.buffer.now ≡ length out.old.buffer.now }
 {
     let mut i = 0;
     let mut j = 0;

@@ -16,7 +16,7 @@ use Rattle.mitex_meaning.specs.declared.Converter.{Converter}
 use Rattle.edit_meaning.specs.Walk.{rows_all}
 use Rattle.manuscript.specs.Manuscript.{listed}
 use Rattle.manuscript.proofs.Manuscript.{listed-count}
-use Rattle.passes.specs.Passes.{Document, Reached, Reaches, StandsBefore}
+use Rattle.passes.specs.Passes.{SomeBlocks, Reached, Reaches, StandsBefore}
 use Rattle.passes.specs.declared.Standing.{Standing}
 
 -- ---- counting blocks and their rows
@@ -89,29 +89,28 @@ stood-reaches s blocks text sp many short =
 pub reaches-start : {rows : List ℕ} {block : ℕ} → Reaches rows block 0 0 0
 reaches-start blocks text sp many short = reached-start sp
 
-module _ {rules index rows text : List ℕ} {n : ℕ} (d : Document rules index rows text n) {block k i j : ℕ} (within : block ≤ n)
-    (r : Reaches rows block k i j) where
-  -- of the document's own
-  given : Reached d.blocks rows text k i j
-  given = r d.blocks text d.spells (omega (arith, d.many)) d.short
+module _ {rows : List ℕ} {block k i j : ℕ} (g : SomeBlocks rows block) (r : Reaches rows block k i j) where
+  -- of the one that is given
+  given : Reached g.blocks rows g.text k i j
+  given = r g.blocks g.text g.spells g.many g.short
 
   pub reaches-low : i ≤ file_most
-  reaches-low = omega (arith, given.low, d.few)
+  reaches-low = omega (arith, given.low, g.few)
 
   pub reaches-begun : j ≤ file_most
-  reaches-begun = omega (arith, given.begun, d.short)
+  reaches-begun = omega (arith, given.begun, g.short)
 
   module _ (h : k < block) where
     pub reaches-spans : Spans rows i
     reaches-spans =
-        let few = d.few in
-        let short = d.short in
-        spans (reached-element given (omega (arith, d.many)) few short) (omega arith) (omega arith)
+        let few = g.few in
+        let short = g.short in
+        spans (reached-element given (omega (arith, g.many)) few short) (omega arith) (omega arith)
 
     pub reaches-next :
-        {e m : ℕ} → e ≡ extent_of (drop i rows) → m ≡ token_sum (take (extent_of (drop i rows)) (drop i rows))
-        → Reaches rows block (k + 1) (i + e) (j + m)
-    reaches-next is_e is_m blocks text sp many short = reached-next (r blocks text sp many short) (omega arith) d.few short _ _ is_e is_m
+        {e n : ℕ} → e ≡ extent_of (drop i rows) → n ≡ token_sum (take (extent_of (drop i rows)) (drop i rows))
+        → Reaches rows block (k + 1) (i + e) (j + n)
+    reaches-next is_e is_n blocks text sp many short = reached-next (r blocks text sp many short) (omega arith) g.few short _ _ is_e is_n
 
 -- after the last turn
 pub reaches-stands :

@@ -1,5 +1,5 @@
--- What Convert and the changes begin with: the pass that stands before block k of a document is given all blocks that are left
--- (`blocks-begin`), and its walk is that of the document from block k on (`begins-as`).
+-- What Convert and the changes begin with: `stand_at` may be called, the pass that stands before block k of a document is given all blocks that
+-- are left (`blocks-begin`), and its walk is that of the document from block k on (`begins-as`).
 use mathlib.Core.Path.{◌≡◌, ap, ◌∙◌}
 use mathlib.Core.Bool.{Bool}
 use mathlib.Core.List.{List}
@@ -15,10 +15,21 @@ use Rattle.mitex_meaning.specs.declared.Converter.{Converter}
 use Rattle.edit_meaning.specs.Walk.{rows_all}
 use Rattle.manuscript.specs.Manuscript.{listed, blocks_in}
 use Rattle.manuscript.proofs.Manuscript.{listed-count}
-use Rattle.passes.specs.Passes.{Document, Outside, BlocksUpTo, Stood, row_no, converter_of, walk_by}
+use Rattle.passes.specs.Passes.{Document, Outside, BlocksUpTo, SomeBlocks, Stood, row_no, converter_of, walk_by}
 use Rattle.passes.specs.declared.Standing.{Standing}
 
 module _ {rules index rows text : List ℕ} {n : ℕ} (w : Document rules index rows text n) where
+  pub some-blocks : (k : ℕ) → k ≤ n → SomeBlocks rows k
+  some-blocks k h =
+      record {
+        blocks = w.blocks;
+        text = text;
+        spells = w.spells;
+        many = omega (arith, w.many);
+        few = w.few;
+        short = w.short;
+      }
+
   -- the pass stands before block k, with a converter in the mode m and the carry d
   module _ {m : LaTeXMode} {d : Carry} {k at : ℕ} {c : Converter} {from : Standing} (st : Stood w.blocks rows text k at c from)
       (car : Carried (new_of m) d c) where

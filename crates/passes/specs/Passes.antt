@@ -92,6 +92,15 @@ pub record Pieced (rules index rows text : List ℕ) (s : Standing) (to : ℕ) (
   pub room : row_size * to ≤ length ledger
   pub few : to ≤ blocks_most
 
+-- the rows are those of so many blocks or more
+pub record SomeBlocks (rows : List ℕ) (block : ℕ) : Type 0 where
+  pub blocks : Forest
+  pub text : List ℕ
+  pub spells : SpellsAll blocks rows text
+  pub many : block ≤ count blocks
+  pub few : length rows ≤ file_most
+  pub short : length text ≤ file_most
+
 -- before block k of some blocks: those from it on are spelt by the rows from byte i and the text from byte j on
 pub record Reached (blocks : Forest) (rows text : List ℕ) (k i j : ℕ) : Type 0 where
   pub left : Forest

@@ -9,7 +9,7 @@ ghost use Rattle.text.specs.Writing.{cap};
 ghost use Rattle.mitex_meaning.specs.Outcome.{label_most};
 ghost use Rattle.mitex_meaning.specs.State.{carry_of};
 ghost use Rattle.ledger.specs.Ledger.{row_size, encode_row, HasRow, RowFits};
-ghost use Rattle.passes.specs.Passes.{BlocksGiven, BlocksUpTo, Pieced, Reaches, EndsBefore, CarriesBefore, Steps, StandsBefore, MeetsBefore, Measures, Writes};
+ghost use Rattle.passes.specs.Passes.{BlocksGiven, BlocksUpTo, Pieced, SomeBlocks, Reaches, EndsBefore, CarriesBefore, Steps, StandsBefore, MeetsBefore, Measures, Writes};
 
 use mitex::Elements;
 use mitex_meaning::{Converter, LaTeXMode};
@@ -18,7 +18,7 @@ use text::Output;
 
 mod open;
 
-pub use open::OpenDocument;
+pub use open::{Content, OpenDocument};
 
 // The end of a text that a row cannot say any more.
 const CAP: usize = 4294967296;
@@ -57,15 +57,15 @@ pub fn carry_before(ledger: &[u8], k: usize, mode: LaTeXMode) -> Converter
 }
 
 // From a standing on before block `block`, by the rows alone: no block is converted.
-pub fn stand_on(d: OpenDocument, s: Standing, block: usize) -> Standing
-    requires within { block ≤ d.blocks }
-    requires reaches { (s.block ≤ block) × Reaches d.rows.now block s.block s.i s.j }
-    ensures { StandsBefore d.entry.rows.now block s.at s.converter result }
+pub fn stand_on(rows: &[u8], s: Standing, block: usize) -> Standing
+    requires some_blocks { SomeBlocks rows.now block }
+    requires reaches { (s.block ≤ block) × Reaches rows.now block s.block s.i s.j }
+    ensures { StandsBefore rows.now block s.at s.converter result }
 {
     let mut i = s.i;
     let mut j = s.j;
     for _ in s.block..block {
-        let span = mitex_syntax::span_at(d.rows, i);
+        let span = mitex_syntax::span_at(rows, i);
         i += span.rows;
         j += span.text;
     }
@@ -73,9 +73,9 @@ pub fn stand_on(d: OpenDocument, s: Standing, block: usize) -> Standing
 }
 
 // Before block `block`, where its text goes to `at`.
-pub fn stand_at(d: OpenDocument, block: usize, at: usize, converter: Converter) -> Standing
-    requires { block ≤ d.blocks }
-    ensures { StandsBefore d.entry.rows.now block at converter result }
+pub fn stand_at(rows: &[u8], block: usize, at: usize, converter: Converter) -> Standing
+    requires { SomeBlocks rows.now block }
+    ensures { StandsBefore rows.now block at converter result }
 {
     let first = Standing {
         block: 0,
@@ -84,11 +84,11 @@ pub fn stand_at(d: OpenDocument, block: usize, at: usize, converter: Converter) 
         at,
         converter,
     };
-    stand_on(d, first, block)
+    stand_on(rows, first, block)
 }
 
 // The next block, converted. It stands one row after those before it, since the root is row 0.
-pub fn next_block(d: OpenDocument, out: &mut [u8], s: Standing) -> Result<Standing, Refusal>
+pub fn next_block(d: Content, out: &mut [u8], s: Standing) -> Result<Standing, Refusal>
     requires blocks_given { BlocksGiven d.rules.file.now d.rules.index.now d.rows.now d.text.now s }
     requires i_in_bounds { (s.i < length d.rows.now) × (s.block < cap) × (length out.old ≤ cap) }
     ensures { Steps d.entry.rules.file.now d.entry.rules.index.now d.entry.rows.now d.entry.text.now s out.old result
@@ -132,21 +132,22 @@ pub fn met(kept: &[u8], j: usize, s: Standing) -> bool
 // Blocks measured from a standing on, up to the first after which the carry is the kept one, or up to the last. Of the `was` kept blocks
 // as many are left as of the new ones, so the carry is compared with that before the kept block as far from the last.
 pub fn measure(
-    d: OpenDocument,
+    d: Content,
     kept: &[u8],
     from: Standing,
+    blocks: usize,
     was: usize,
 ) -> Result<Standing, Refusal>
-    requires blocks_up_to { BlocksUpTo d.rules.file.now d.rules.index.now d.rows.now d.text.now from d.blocks }
-    requires blocks_bound { (d.blocks ≤ from.block + 1 + was) × (was ≤ d.blocks + 1) × ((i : ℕ) → i < was → RowFits i kept.now) }
-    ensures { Measures d.entry.rules.file.now d.entry.rules.index.now d.entry.rows.now d.entry.text.now from d.entry.blocks was true
+    requires blocks_up_to { BlocksUpTo d.rules.file.now d.rules.index.now d.rows.now d.text.now from blocks }
+    requires blocks_bound { (blocks ≤ from.block + 1 + was) × (was ≤ blocks + 1) × ((i : ℕ) → i < was → RowFits i kept.now) }
+    ensures { Measures d.entry.rules.file.now d.entry.rules.index.now d.entry.rows.now d.entry.text.now from blocks was true
         kept.now result }
 {
     let mut s = from;
     // The standing itself counts the blocks, here and in the passes below: a `for` would count them once more.
-    while s.block < d.blocks {
+    while s.block < blocks {
         let next = next_block(d, &mut [], s)?;
-        let j = next.block + was - d.blocks;
+        let j = next.block + was - blocks;
         if met(kept, j, next) {
             return Ok(next);
         }
@@ -168,19 +169,20 @@ fn draft_row(ledger: &mut [u8], k: usize, s: Standing)
 
 // All blocks from a standing on, measured and written with their rows in one pass: what falls outside the buffer is not written but counted.
 pub fn draft_blocks(
-    d: OpenDocument,
+    d: Content,
     out: &mut [u8],
     ledger: &mut [u8],
     from: Standing,
+    blocks: usize,
 ) -> Result<Standing, Refusal>
-    requires blocks_up_to { BlocksUpTo d.rules.file.now d.rules.index.now d.rows.now d.text.now from d.blocks }
-    requires out_len_bound { (length out.old ≤ cap) × (row_size * d.blocks ≤ length ledger.old) }
-    ensures measured { Measures d.entry.rules.file.now d.entry.rules.index.now d.entry.rows.now d.entry.text.now from d.entry.blocks d.entry.blocks false [] result }
-    ensures written { Writes d.entry.rules.file.now d.entry.rules.index.now d.entry.rows.now d.entry.text.now from d.entry.blocks
+    requires blocks_up_to { BlocksUpTo d.rules.file.now d.rules.index.now d.rows.now d.text.now from blocks }
+    requires out_len_bound { (length out.old ≤ cap) × (row_size * blocks ≤ length ledger.old) }
+    ensures measured { Measures d.entry.rules.file.now d.entry.rules.index.now d.entry.rows.now d.entry.text.now from blocks blocks false [] result }
+    ensures written { Writes d.entry.rules.file.now d.entry.rules.index.now d.entry.rows.now d.entry.text.now from blocks
         out.old ledger.old out.new ledger.new }
 {
     let mut s = from;
-    while s.block < d.blocks {
+    while s.block < blocks {
         let next = next_block(d, out, s)?;
         draft_row(ledger, s.block, next);
         s = next;
@@ -189,7 +191,7 @@ pub fn draft_blocks(
 }
 
 // Blocks written from a standing up to one that was measured, with their rows.
-pub fn write_blocks(d: OpenDocument, out: &mut [u8], ledger: &mut [u8], from: Standing, to: usize)
+pub fn write_blocks(d: Content, out: &mut [u8], ledger: &mut [u8], from: Standing, to: usize)
     requires pieced { Pieced d.rules.file.now d.rules.index.now d.rows.now d.text.now from to ledger.old }
     requires out_len_bound { length out.old ≤ cap }
     ensures { Writes d.entry.rules.file.now d.entry.rules.index.now d.entry.rows.now d.entry.text.now from to

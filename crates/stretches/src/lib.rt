@@ -65,8 +65,8 @@ fn plan_stretch(
     k: usize,
 ) -> Result<Planned, Refusal>
     requires ledger_fits { LedgerFits d.blocks ledger.now }
-    requires plan_stands { PlanStands d.rows.now d.blocks s × (k < d.blocks) × (length plan.old ≡ plan_size) }
-    ensures { PlansStretch d.entry.rules.file.now d.entry.rules.index.now d.entry.rows.now d.entry.text.now ledger.now
+    requires plan_stands { PlanStands d.content.rows.now d.blocks s × (k < d.blocks) × (length plan.old ≡ plan_size) }
+    ensures { PlansStretch d.entry.content.rules.file.now d.entry.content.rules.index.now d.entry.content.rows.now d.entry.content.text.now ledger.now
         d.entry.mode d.entry.blocks s k plan.old result plan.new }
 {
     if k < s.block {
@@ -79,8 +79,8 @@ fn plan_stretch(
         at: 0,
         converter: passes::carry_before(ledger, k, d.mode),
     };
-    let from = passes::stand_on(d, before, k);
-    let m = passes::measure(d, ledger, from, d.blocks)?;
+    let from = passes::stand_on(d.content.rows, before, k);
+    let m = passes::measure(d.content, ledger, from, d.blocks, d.blocks)?;
     plan[s.stretches] = Note {
         block: k,
         after: m.block,
@@ -109,7 +109,7 @@ pub fn plan_stretches(
 ) -> Result<Planned, Refusal>
     requires ledger_fits { LedgerFits d.blocks ledger.now }
     requires by_index { ((i : ℕ) → i < length named.now → get_or named.now i 0 < d.blocks) × (length plan.old ≡ plan_size) }
-    ensures { PlansStretches d.entry.rules.file.now d.entry.rules.index.now d.entry.rows.now d.entry.text.now ledger.now
+    ensures { PlansStretches d.entry.content.rules.file.now d.entry.content.rules.index.now d.entry.content.rows.now d.entry.content.text.now ledger.now
         d.entry.mode d.entry.blocks named.now result plan.new }
 {
     let mut s = Planned {
@@ -149,9 +149,9 @@ fn write_stretch(
     out: &mut [u8],
     ledger: &mut [u8],
 )
-    requires { Writable d.now.rules.file.now d.now.rules.index.now d.now.rows.now d.now.text.now d.now.mode d.now.blocks
+    requires { Writable d.now.content.rules.file.now d.now.content.rules.index.now d.now.content.rows.now d.now.content.text.now d.now.mode d.now.blocks
         note at to out.old ledger.old }
-    ensures { WritesStretch d.now.rules.file.now d.now.rules.index.now d.now.rows.now d.now.text.now d.now.mode d.now.blocks
+    ensures { WritesStretch d.now.content.rules.file.now d.now.content.rules.index.now d.now.content.rows.now d.now.content.text.now d.now.mode d.now.blocks
         note at to out.old ledger.old out.new ledger.new }
 {
     let from = Standing {
@@ -161,16 +161,16 @@ fn write_stretch(
         at,
         converter: passes::carry_before(ledger, note.block, d.mode),
     };
-    passes::write_blocks(*d, &mut out[..to], ledger, from, note.after);
+    passes::write_blocks(d.content, &mut out[..to], ledger, from, note.after);
 }
 
 // The stretches of a plan in the place of the kept blocks, the first of them from `at` on. What is kept after a stretch moves down before
 // what follows is handled, or up after that: so nothing is overwritten that has still to be moved. The document is lent, since a level of
 // the recursion would else keep a copy of it: as it is, a level takes 528 bytes of stack in the static library.
 pub fn exchange_from(d: &OpenDocument, plan: &[Note], at: usize, out: &mut [u8], ledger: &mut [u8])
-    requires { Exchangeable d.now.rules.file.now d.now.rules.index.now d.now.rows.now d.now.text.now d.now.mode d.now.blocks
+    requires { Exchangeable d.now.content.rules.file.now d.now.content.rules.index.now d.now.content.rows.now d.now.content.text.now d.now.mode d.now.blocks
         plan.now at out.old ledger.old }
-    ensures { Exchanges d.now.rules.file.now d.now.rules.index.now d.now.rows.now d.now.text.now d.now.mode d.now.blocks
+    ensures { Exchanges d.now.content.rules.file.now d.now.content.rules.index.now d.now.content.rows.now d.now.content.text.now d.now.mode d.now.blocks
         plan.now at out.old ledger.old out.new ledger.new }
 {
     let note = plan[0];

@@ -4,12 +4,14 @@ use mathlib.Core.Path.{◌≡◌, refl, sym, ap, ◌∙◌}
 use mathlib.Core.Bool.{Bool, true, false, ◌&&◌, ◌||◌, cond, beq, false≢true, and-eq-true_iff, or-false}
 use mathlib.Core.Logic.{◌⊎◌, inl, inr, ⊎_elim}
 use mathlib.Core.List.{List, [], ◌∷◌}
-use Prim.Native.Nat.{ℕ, ◌+◌, ◌-◌, ◌≤◌, ◌<◌}
+use Prim.Native.Nat.{ℕ, ◌+◌, ◌-◌, ◌≤◌, ◌<◌, min}
 use native.Mathlib.Decide.{dec_le}
 use native.Mathlib.Omega.{arith}
 use lib.Dec.{eqb, ltb}
-use borrow.Author.Tests.{ltb-true, ltb-false, eqb-true, lt-ltb, le-ltb, le-leb, lt-leb, eq-eqb}
-use lib.ListN.{length, take, drop, length-take, length-drop}
+use borrow.Author.Tests.{ltb-true, ltb-false, eqb-true, lt-ltb, le-ltb, le-leb, lt-leb, eq-eqb, ne_eqb}
+use lib.ListN.{length, take, drop, get_or, length-take, length-drop, drop_of_length-le}
+use lib.Seq.{drop-cons}
+use native.Mathlib.Numerals.{add-one}
 use lib.Pointwise.{pointwise}
 use Rattle.std.proofs.Common.{Some, Less, Equal, Greater, Option, Ordering}
 use Rattle.std.specs.Ordering.{is_lt, nat_cmp, is_some_and, partial_lt, partial_ordering_then}
@@ -78,6 +80,9 @@ step-equal : (x y : ℕ) (t : Bool) → x ≡ y → (ltb x y || (eqb x y && t)) 
 step-equal x y t q =
     ap (λ s. s || (eqb x y && t)) (le-ltb x y (omega arith)) ∙ ap (λ s. s && t) (eq-eqb x y q)
 
+step-differ : (x y : ℕ) (t : Bool) → (x ≡ y → ⊥) → (ltb x y || (eqb x y && t)) ≡ ltb x y
+step-differ x y t q = ap (λ s. ltb x y || (s && t)) (ne_eqb x y q) ∙ or-false (ltb x y)
+
 pub precedes-self : (a : List ℕ) → precedes a a ≡ false
 unfolding precedes
 precedes-self [] = refl
@@ -105,6 +110,46 @@ precedes-trans (x ∷ a) (y ∷ b) (z ∷ c) p q =
 -- what precedes another neither is it nor follows it
 pub precedes-not-same : (a b : List ℕ) → precedes a b ≡ true → a ≡ b → ⊥
 precedes-not-same a b p e = false≢true (sym (precedes-self a) ∙ ap (precedes a) e ∙ p)
+
+-- at a place of both
+precedes-at :
+    (a b : List ℕ) (i : ℕ) → i < length a → i < length b
+    → precedes (drop i a) (drop i b) ≡ (ltb (get_or a i 0) (get_or b i 0) || (eqb (get_or a i 0) (get_or b i 0) && precedes (drop (i + 1) a) (drop (i + 1) b)))
+unfolding precedes
+precedes-at a b i ha hb = rw (add-one, drop-cons a i 0 ha, drop-cons b i 0 hb)
+
+pub precedes-next :
+    (a b : List ℕ) (i n : ℕ) → n ≡ min (length a) (length b) → i < n → get_or a i 0 ≡ get_or b i 0
+    → precedes a b ≡ precedes (drop i a) (drop i b) → precedes a b ≡ precedes (drop (i + 1) a) (drop (i + 1) b)
+precedes-next a b i n l h q p = p ∙ precedes-at a b i (omega arith) (omega arith) ∙ step-equal (get_or a i 0) (get_or b i 0) _ q
+
+pub precedes-stop :
+    (a b : List ℕ) (i n : ℕ) → n ≡ min (length a) (length b) → i < n → (get_or a i 0 ≡ get_or b i 0 → ⊥)
+    → precedes a b ≡ precedes (drop i a) (drop i b) → ltb (get_or a i 0) (get_or b i 0) ≡ precedes a b
+precedes-stop a b i n l h q p =
+    sym (p ∙ precedes-at a b i (omega arith) (omega arith) ∙ step-differ (get_or a i 0) (get_or b i 0) _ q)
+
+precedes-nil : (a : List ℕ) → precedes a [] ≡ false
+unfolding precedes
+precedes-nil [] = refl
+precedes-nil (x ∷ a) = refl
+
+pub precedes-end :
+    (a b : List ℕ) (i n : ℕ) → n ≡ min (length a) (length b) → i ≤ n → n ≤ i → precedes a b ≡ precedes (drop i a) (drop i b)
+    → ltb (length a) (length b) ≡ precedes a b
+unfolding precedes
+precedes-end a b i n l lo hi p =
+    elim (dec_le (length b) (length a)) [
+      | yes le ↦
+          le-ltb (length a) (length b) le
+          ∙ sym (p ∙ ap (precedes (drop i a)) (drop_of_length-le b {i = i} (omega arith)) ∙ precedes-nil (drop i a))
+      | no gt ↦
+          lt-ltb (length a) (length b) (omega arith)
+          ∙ sym
+          (p
+          ∙ ap (λ x. precedes x (drop i b)) (drop_of_length-le a {i = i} (omega arith))
+          ∙ ap (precedes []) (drop-cons b i 0 (omega arith)))
+    ]
 
 -- as std compares two slices
 step-is :

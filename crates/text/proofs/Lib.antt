@@ -4,3 +4,5 @@ pub mod Compare
 pub mod Writing
 pub mod Decimal
 pub mod Outputs
+pub mod Slices
+pub mod Moving

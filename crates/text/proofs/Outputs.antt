@@ -36,14 +36,14 @@ stored-inside s l ys at from inside k f i e y =
 -- ---- writing in parts
 
 pub puts_nil : {o : Output} → Puts o [] o
-puts_nil {o} = record { wrote = wrote-nil o.at o.buffer.now o.near; lent = refl }
+puts_nil {o} = record { wrote = wrote-nil o.at o.buffer.now o.near; lent = refl; kept = refl }
 
 pub puts_then : {o o1 o2 : Output} {w v : List ℕ} → Puts o w o1 → Puts o1 v o2 → Puts o (w ++ v) o2
-puts_then {o} {o1} {o2} {w} {v} p q = record { wrote = wrote_then o.few p.wrote q.wrote; lent = q.lent ∙ p.lent }
+puts_then {o} {o1} {o2} {w} {v} p q = record { wrote = wrote_then o.few p.wrote q.wrote; lent = q.lent ∙ p.lent; kept = q.kept ∙ p.kept }
 
 -- other names for the same
 pub puts_as : {o o2 : Output} {w v : List ℕ} → w ≡ v → Puts o w o2 → Puts o v o2
-puts_as e p = record { wrote = wrote_as e p.wrote; lent = p.lent }
+puts_as e p = record { wrote = wrote_as e p.wrote; lent = p.lent; kept = p.kept }
 
 -- so many spaces
 pub spaces-inside :

@@ -4,4 +4,5 @@ pub mod Compare
 pub mod Writing
 pub mod Trailer
 pub mod Outputs
+pub mod Slices
 pub mod Examples

@@ -94,11 +94,18 @@ pub fn same(a: &[u8], b: &[u8]) -> bool
     a == b
 }
 
-// Whether `a` comes strictly before `b` in the order by bytes.
+// Whether `a` comes strictly before `b` in the order by bytes. It asks of each pair whether they differ, and only then which is less: `a < b`
+// takes more than twice as many instructions for a byte that is the same, and names of rules begin alike.
 pub fn precedes(a: &[u8], b: &[u8]) -> bool
     ensures { result ≡ precedes a.now b.now }
 {
-    a < b
+    let n = a.len().min(b.len());
+    for i in 0..n {
+        if a[i] != b[i] {
+            return a[i] < b[i];
+        }
+    }
+    a.len() < b.len()
 }
 
 // Whether `s` begins with `p`.
@@ -131,10 +138,36 @@ pub fn clear(out: &mut [u8])
     out.fill(0);
 }
 
-// `n` bytes moved from `old` to `new`; the two parts may overlap.
+// `n` bytes moved down from `old` to `new`, the lowest first.
+fn move_down(out: &mut [u8], old: usize, new: usize, n: usize)
+    requires { (new ≤ old) × (old + n ≤ length out.old) }
+    ensures { out.new ≡ sets out.old new (take n (drop old out.old)) }
+{
+    for i in 0..n {
+        out[new + i] = out[old + i];
+    }
+}
+
+// `n` bytes moved up from `old` to `new`, the highest first.
+fn move_up(out: &mut [u8], old: usize, new: usize, n: usize)
+    requires { (old ≤ new) × (new + n ≤ length out.old) }
+    ensures { out.new ≡ sets out.old new (take n (drop old out.old)) }
+{
+    let mut i = n;
+    while 0 < i {
+        i -= 1;
+        out[new + i] = out[old + i];
+    }
+}
+
+// `n` bytes moved from `old` to `new`; the two parts may overlap. Not by `copy_within`: for that the archive would need `memmove` from outside.
 pub fn move_bytes(out: &mut [u8], old: usize, new: usize, n: usize)
     requires { (old + n ≤ length out.old) × (new + n ≤ length out.old) }
     ensures { out.new ≡ sets out.old new (take n (drop old out.old)) }
 {
-    out.copy_within(old..old + n, new);
+    if new < old {
+        move_down(out, old, new, n);
+    } else {
+        move_up(out, old, new, n);
+    }
 }

@@ -15,7 +15,7 @@ use Rattle.passes.specs.declared.open.OpenDocument.{OpenDocument}
 use Rattle.passes.specs.declared.Standing.{Standing}
 use Rattle.calls.specs.Calls.{kind_by, MeasuresAgain}
 use Rattle.calls.specs.declared.Way.{Way}
-use Rattle.passes.proofs.Starting.{blocks-begin}
+use Rattle.passes.proofs.Starting.{some-blocks, blocks-begin}
 use Rattle.calls.proofs.Again.{Fitting, fitting, MeasuredAgain, fitting-row, row_before, changed-unfit, changed-refused, change-measured, changed-as}
 use Rattle.calls.proofs.change_blocks.Goals as goal
 
@@ -31,7 +31,7 @@ here :
     (d : OpenDocument) (way : Way) (k kept : ℕ) (out ledger : List ℕ) {b : Bool} {was at : ℕ} {converter : Converter} {from : Standing}
     {r : Result Standing Refusal} → b ≡ change_fits (kind_by way k) d.blocks kept out ledger → b ≡ true
     → ((j : ℕ) → was ≡ old_count (kind_by way j) d.blocks) → EndsBefore ledger k at × (at < cap) → CarriesBefore ledger k d.mode converter
-    → StandsBefore d.rows.now k at converter from → MeasuresAgain d from was ledger r → MeasuredAgain d way k kept out ledger was from r
+    → StandsBefore d.content.rows.now k at converter from → MeasuresAgain d from was ledger r → MeasuredAgain d way k kept out ledger was from r
 here d way k kept out ledger {was = was} e t o ends carries stands measured =
     let w = d.open in
     record {
@@ -70,6 +70,7 @@ carry_before-requires c =
 pub stand_at-from-requires : goal.stand_at-from-requires
 stand_at-from-requires c =
     let a = c.args in
+    some-blocks a.d.open a.block
     (fits a.way a.d.blocks c.old_count-was.result a.block a.kept a.out.now a.ledger.now c.change_fits.ensures
     c.if-not-change_fits.false c.old_count-was.ensures).now
 

@@ -4,9 +4,12 @@ use native.Mathlib.Omega.{arith}
 use lib.Seq.{length-take-le}
 use Rattle.std.proofs.lemmas.Result.{err_from_is_err_and}
 use Rattle.mitex_meaning.proofs.Holding.{opening-says}
-use Rattle.passes.proofs.Starting.{blocks-begin}
+use Rattle.passes.proofs.Starting.{some-blocks, blocks-begin}
 use Rattle.calls.proofs.Settling.{draft-passed, settled-refused, settled-no-room, settled-within, settled-draft, settled-done}
 use Rattle.calls.proofs.convert_by_draft.Goals as goal
+
+pub stand_at-from-requires : goal.stand_at-from-requires
+stand_at-from-requires c = some-blocks c.args.d.open 0 (omega arith)
 
 pub draft_blocks-requires-clause-blocks_up_to : goal.draft_blocks-requires-clause-blocks_up_to
 draft_blocks-requires-clause-blocks_up_to c =

@@ -1,5 +1,6 @@
 -- The answers of the walk over trees, function by function. What they lean on stands in the lemma files: the loops over elements in Walking,
 -- what one walk is given by another and what becomes of its answer in Rooms, the arms in Commanding, Environing, Taking, Bodies and Grouping.
+use lib.ListN.{length-drop}
 use Rattle.std.proofs.Common.{arith, ap, subst, sym, refl, inl, inr, true, false, Bool, ℕ, List, length, take, drop, get_or, ◌≡◌, ◌∙◌, ◌+◌, ◌/◌, ◌<◌, ◌≤◌, ◌++◌, ◌⊎◌}
 use Rattle.std.specs.Option.{is_some}
 use Rattle.mitex.proofs.Bodies.{Captioned, caption-walked, math-is}
@@ -9,11 +10,11 @@ use Rattle.mitex.proofs.Grouping.{agrees-further, curly-math, formula-bad, formu
 use Rattle.mitex.proofs.Rooms.{as-children, back-by, back-env, back-mode, back-same, back-set, closed, exact-children, found-by, framed, handed-by, handed-on, leaves, moved, refused-here, room-on, agrees-in, room-at, some-at, told-as, turns-at, walks-at, walks-from, walks-good}
 use Rattle.mitex.proofs.Spelt.{spelt, elements-few}
 use Rattle.mitex.proofs.Taking.{between-short, black-is, color-is, greedy-is, greedy-refused, greedy-stands, halved, part-spans}
-use Rattle.mitex.proofs.Walking.{alone-agrees, arm-room, arm-siblings, arm-turns, below-is, byte-is, child, child-behind, child-spans, children-next, flat-next, front-is, head-start, i-eighth, kind-is, left-behind, loop-done, loop-next, loop-refused, loop-row, on-is, ran-at, rest-is, rest-length, run-asked, run-given, run-next, run-refused, siblings-at, spans-on, spells-at, steady-end, steady-refused, steady-siblings, steady-stop, stops-at, tail-is, turned, turned-passed, turned-refused, under-long, walks-kind}
+use Rattle.mitex.proofs.Walking.{alone-agrees, arm-room, arm-siblings, arm-turns, below-is, byte-is, child, child-behind, child-spans, children-next, flat-next, front-is, head-start, i-eighth, kind-is, left-behind, loop-done, loop-next, loop-refused, loop-row, on-is, ran-at, rest-is, rest-length, rest-short, run-asked, run-given, run-next, run-refused, siblings-at, spans-on, spells-at, steady-end, steady-refused, steady-siblings, steady-stop, stops-at, tail-is, turned, turned-passed, turned-refused, under-long, walks-kind}
 use Rattle.mitex_loops.proofs.FirstChild.{empty, fits-behind, some-left}
 use Rattle.mitex_meaning.proofs.Agreeing.{agrees-as, agrees-good, agrees-done, agrees-shift, agrees_after, agrees-takes, number-some, then-done}
-use Rattle.mitex_syntax.proofs.Trees.{no-left, part, spells-alone}
-use Rattle.text.proofs.Writing.{wrote-nil, wrote_as}
+use Rattle.mitex_syntax.proofs.Trees.{all-begins, no-left, part, spells-alone}
+use Rattle.text.proofs.Writing.{part-rest, wrote-nil, wrote_as}
 use Rattle.mitex_meaning.specs.declared.Act.TheVariants.{Convert}
 use Rattle.mitex_meaning.specs.declared.Arguments.{Arguments}
 use Rattle.mitex_meaning.specs.declared.Arguments.TheVariants.{GreedyArgument, MathArguments, NoArguments, TextArguments}
@@ -315,6 +316,14 @@ cmd-returns-in-IncludeGraphics-clause-lent t c =
     let g = spelt e in
     (c.convert_command_includegraphics.ensures g.forest (as-children q.rows q.text g.spells)).lent
 
+pub cmd-returns-in-IncludeGraphics-clause-kept : goal.cmd-returns-in-IncludeGraphics-clause-kept
+cmd-returns-in-IncludeGraphics-clause-kept t c =
+    let k = c.args.c.now in
+    let e = c.args.e in
+    let q = c.children-children.ensures in
+    let g = spelt e in
+    (c.convert_command_includegraphics.ensures g.forest (as-children q.rows q.text g.spells)).kept
+
 pub cmd-returns-in-Array-clause-walks : goal.cmd-returns-in-Array-clause-walks
 cmd-returns-in-Array-clause-walks t c =
     let k = c.args.c.now in
@@ -438,6 +447,7 @@ convert-loop-rest-preserved-then-rest-eq-TOKEN_MARK t c =
       text = on-is e.text.now z.j z.text run.text b.text;
       row = omega (arith, b.row, z.row, i-eighth inv);
       lent = c.convert_tokens.ensures.lent ∙ z.lent;
+      kept = c.convert_tokens.ensures.kept ∙ z.kept;
     }
 
 pub convert-behind-rest-requires-then-is_flat-clause-high : goal.convert-behind-rest-requires-then-is_flat-clause-high
@@ -488,6 +498,7 @@ convert-loop-rest-preserved-then-is_flat t c =
       text = on-is e.text.now z.j z.text 0 b.text ∙ ap (λ (q : ℕ). drop q e.text.now) same;
       row = omega (arith, b.row, z.row, i-eighth inv);
       lent = z.lent;
+      kept = z.kept;
     }
 
 pub convert-span_at-span-requires : goal.convert-span_at-span-requires
@@ -672,6 +683,7 @@ convert-loop-rest-preserved t c =
       text = on-is e.text.now z.j z.text span.text y.text;
       row = omega (arith, y.row, z.row, i-eighth inv);
       lent = c.arm.ensures.lent ∙ z.lent;
+      kept = c.arm.ensures.kept ∙ z.kept;
     }
 
 pub convert-returns-clause-walks : goal.convert-returns-clause-walks
@@ -691,6 +703,19 @@ pub each-loop-rest-init : goal.each-loop-rest-init
 each-loop-rest-init t c =
     head-start c.requires.room c.requires.how_value
 
+pub each-steady_run-run-requires : goal.each-steady_run-run-requires
+each-steady_run-run-requires t c =
+    let e = c.args.e in
+    let z = c.loop-rest.invariant in
+    let b = left-behind z.loop in
+    let rows = rest-is e.rows.now z.i z.rows in
+    record {
+      few = omega (arith, rest-length e.rows.now z.i z.rows, z.loop.room.few);
+      forest = b.forest;
+      rows_are = rows ∙ b.spells.rows_are;
+      short = rest-short e.text.now z.j b.spells e.short;
+    }
+
 pub each-front-requires-clause-high : goal.each-front-requires-clause-high
 each-front-requires-clause-high t c =
     let e = c.args.e in
@@ -700,10 +725,9 @@ each-front-requires-clause-high t c =
     let inv = z.loop in
     let rest = c.loop-rest.rest in
     let has : z.i < length e.rows.now = omega (arith, some-left rest.rows.now c.is_empty.ensures c.loop-rest-test.true, rest-length e.rows.now z.i z.rows) in
-    let q = c.children.ensures in
     let run = c.steady_run-run.result in
     let steady : (g : Forest) → SpellsAll g (tail_at e.rows.now z.i) (tail_at e.text.now z.j) → SteadyRun c.loop-rest.l g run
-    = λ g sp. c.steady_run-run.ensures g (as-children (q.rows ∙ rest-is e.rows.now z.i z.rows) (q.text ∙ rest-is e.text.now z.j z.text) sp) in
+    = λ g sp. c.steady_run-run.ensures g (rest-is e.rows.now z.i z.rows ∙ sp.rows_are) (rest-short e.text.now z.j sp e.short) in
     omega (arith, steady-end inv steady, rest-length e.rows.now z.i z.rows, inv.stands.high)
 
 pub each-front-requires-clause-stop : goal.each-front-requires-clause-stop
@@ -715,10 +739,9 @@ each-front-requires-clause-stop t c =
     let inv = z.loop in
     let rest = c.loop-rest.rest in
     let has : z.i < length e.rows.now = omega (arith, some-left rest.rows.now c.is_empty.ensures c.loop-rest-test.true, rest-length e.rows.now z.i z.rows) in
-    let q = c.children.ensures in
     let run = c.steady_run-run.result in
     let steady : (g : Forest) → SpellsAll g (tail_at e.rows.now z.i) (tail_at e.text.now z.j) → SteadyRun c.loop-rest.l g run
-    = λ g sp. c.steady_run-run.ensures g (as-children (q.rows ∙ rest-is e.rows.now z.i z.rows) (q.text ∙ rest-is e.text.now z.j z.text) sp) in
+    = λ g sp. c.steady_run-run.ensures g (rest-is e.rows.now z.i z.rows ∙ sp.rows_are) (rest-short e.text.now z.j sp e.short) in
     omega (arith, steady-stop inv steady, rest-length e.text.now z.j z.text, inv.stands.begun)
 
 pub each-front-requires-clause-spelt : goal.each-front-requires-clause-spelt
@@ -730,10 +753,9 @@ each-front-requires-clause-spelt t c =
     let inv = z.loop in
     let rest = c.loop-rest.rest in
     let has : z.i < length e.rows.now = omega (arith, some-left rest.rows.now c.is_empty.ensures c.loop-rest-test.true, rest-length e.rows.now z.i z.rows) in
-    let q = c.children.ensures in
     let run = c.steady_run-run.result in
     let steady : (g : Forest) → SpellsAll g (tail_at e.rows.now z.i) (tail_at e.text.now z.j) → SteadyRun c.loop-rest.l g run
-    = λ g sp. c.steady_run-run.ensures g (as-children (q.rows ∙ rest-is e.rows.now z.i z.rows) (q.text ∙ rest-is e.text.now z.j z.text) sp) in
+    = λ g sp. c.steady_run-run.ensures g (rest-is e.rows.now z.i z.rows ∙ sp.rows_are) (rest-short e.text.now z.j sp e.short) in
     siblings-at (front-is e.rows.now z.i z.rows run.rows) (front-is e.text.now z.j z.text run.text) (steady-siblings inv steady)
 
 pub each-returns-in_err-convert-clause-walks : goal.each-returns-in_err-convert-clause-walks
@@ -745,10 +767,9 @@ each-returns-in_err-convert-clause-walks t c =
     let inv = z.loop in
     let rest = c.loop-rest.rest in
     let has : z.i < length e.rows.now = omega (arith, some-left rest.rows.now c.is_empty.ensures c.loop-rest-test.true, rest-length e.rows.now z.i z.rows) in
-    let q = c.children.ensures in
     let run = c.steady_run-run.result in
     let steady : (g : Forest) → SpellsAll g (tail_at e.rows.now z.i) (tail_at e.text.now z.j) → SteadyRun c.loop-rest.l g run
-    = λ g sp. c.steady_run-run.ensures g (as-children (q.rows ∙ rest-is e.rows.now z.i z.rows) (q.text ∙ rest-is e.text.now z.j z.text) sp) in
+    = λ g sp. c.steady_run-run.ensures g (rest-is e.rows.now z.i z.rows ∙ sp.rows_are) (rest-short e.text.now z.j sp e.short) in
     let p = c.front.ensures in
     let rows = p.rows ∙ front-is e.rows.now z.i z.rows run.rows in
     let text = p.text ∙ front-is e.text.now z.j z.text run.text in
@@ -766,10 +787,9 @@ each-behind-rest-requires-clause-high t c =
     let inv = z.loop in
     let rest = c.loop-rest.rest in
     let has : z.i < length e.rows.now = omega (arith, some-left rest.rows.now c.is_empty.ensures c.loop-rest-test.true, rest-length e.rows.now z.i z.rows) in
-    let q = c.children.ensures in
     let run = c.steady_run-run.result in
     let steady : (g : Forest) → SpellsAll g (tail_at e.rows.now z.i) (tail_at e.text.now z.j) → SteadyRun c.loop-rest.l g run
-    = λ g sp. c.steady_run-run.ensures g (as-children (q.rows ∙ rest-is e.rows.now z.i z.rows) (q.text ∙ rest-is e.text.now z.j z.text) sp) in
+    = λ g sp. c.steady_run-run.ensures g (rest-is e.rows.now z.i z.rows ∙ sp.rows_are) (rest-short e.text.now z.j sp e.short) in
     omega (arith, steady-end inv steady, rest-length e.rows.now z.i z.rows, inv.stands.high)
 
 pub each-behind-rest-requires-clause-begun : goal.each-behind-rest-requires-clause-begun
@@ -781,10 +801,9 @@ each-behind-rest-requires-clause-begun t c =
     let inv = z.loop in
     let rest = c.loop-rest.rest in
     let has : z.i < length e.rows.now = omega (arith, some-left rest.rows.now c.is_empty.ensures c.loop-rest-test.true, rest-length e.rows.now z.i z.rows) in
-    let q = c.children.ensures in
     let run = c.steady_run-run.result in
     let steady : (g : Forest) → SpellsAll g (tail_at e.rows.now z.i) (tail_at e.text.now z.j) → SteadyRun c.loop-rest.l g run
-    = λ g sp. c.steady_run-run.ensures g (as-children (q.rows ∙ rest-is e.rows.now z.i z.rows) (q.text ∙ rest-is e.text.now z.j z.text) sp) in
+    = λ g sp. c.steady_run-run.ensures g (rest-is e.rows.now z.i z.rows ∙ sp.rows_are) (rest-short e.text.now z.j sp e.short) in
     omega (arith, steady-stop inv steady, rest-length e.text.now z.j z.text, inv.stands.begun)
 
 pub each-behind-rest-requires-clause-spelt : goal.each-behind-rest-requires-clause-spelt
@@ -796,10 +815,9 @@ each-behind-rest-requires-clause-spelt t c =
     let inv = z.loop in
     let rest = c.loop-rest.rest in
     let has : z.i < length e.rows.now = omega (arith, some-left rest.rows.now c.is_empty.ensures c.loop-rest-test.true, rest-length e.rows.now z.i z.rows) in
-    let q = c.children.ensures in
     let run = c.steady_run-run.result in
     let steady : (g : Forest) → SpellsAll g (tail_at e.rows.now z.i) (tail_at e.text.now z.j) → SteadyRun c.loop-rest.l g run
-    = λ g sp. c.steady_run-run.ensures g (as-children (q.rows ∙ rest-is e.rows.now z.i z.rows) (q.text ∙ rest-is e.text.now z.j z.text) sp) in
+    = λ g sp. c.steady_run-run.ensures g (rest-is e.rows.now z.i z.rows ∙ sp.rows_are) (rest-short e.text.now z.j sp e.short) in
     let p = c.front.ensures in
     let rows = p.rows ∙ front-is e.rows.now z.i z.rows run.rows in
     let text = p.text ∙ front-is e.text.now z.j z.text run.text in
@@ -816,10 +834,9 @@ each-loop-rest-preserved-then-run-gt0 t c =
     let inv = z.loop in
     let rest = c.loop-rest.rest in
     let has : z.i < length e.rows.now = omega (arith, some-left rest.rows.now c.is_empty.ensures c.loop-rest-test.true, rest-length e.rows.now z.i z.rows) in
-    let q = c.children.ensures in
     let run = c.steady_run-run.result in
     let steady : (g : Forest) → SpellsAll g (tail_at e.rows.now z.i) (tail_at e.text.now z.j) → SteadyRun c.loop-rest.l g run
-    = λ g sp. c.steady_run-run.ensures g (as-children (q.rows ∙ rest-is e.rows.now z.i z.rows) (q.text ∙ rest-is e.text.now z.j z.text) sp) in
+    = λ g sp. c.steady_run-run.ensures g (rest-is e.rows.now z.i z.rows ∙ sp.rows_are) (rest-short e.text.now z.j sp e.short) in
     let p = c.front.ensures in
     let rows = p.rows ∙ front-is e.rows.now z.i z.rows run.rows in
     let text = p.text ∙ front-is e.text.now z.j z.text run.text in
@@ -834,6 +851,7 @@ each-loop-rest-preserved-then-run-gt0 t c =
       text = on-is e.text.now z.j z.text run.text b.text;
       row = omega (arith, b.row, z.row, i-eighth inv);
       lent = c.convert.ensures.lent ∙ z.lent;
+      kept = c.convert.ensures.kept ∙ z.kept;
     }
 
 pub each-span_at-span-requires : goal.each-span_at-span-requires
@@ -959,8 +977,8 @@ each-first_child-child-requires-clause-element t c =
     let x = child inv has span.rows span.text is_e is_n in
     some-at (front-is e.rows.now z.i z.rows span.rows) (front-is e.text.now z.j z.text span.text) x.given
 
-pub each-first_child-child-requires-clause-behind : goal.each-first_child-child-requires-clause-behind
-each-first_child-child-requires-clause-behind t c =
+pub each-act_of-act-requires : goal.each-act_of-act-requires
+each-act_of-act-requires t c =
     let e = c.args.e in
     let k = c.args.c.now in
     let o = c.args.out.now in
@@ -972,7 +990,12 @@ each-first_child-child-requires-clause-behind t c =
     let is_e : span.rows ≡ extent_of (drop z.i e.rows.now) = c.span_at-span.ensures.rows ∙ ap extent_of z.rows in
     let is_n : span.text ≡ token_sum (take (extent_of (drop z.i e.rows.now)) (drop z.i e.rows.now))
     = c.span_at-span.ensures.text ∙ ap (λ (l : List ℕ). token_sum (take (extent_of l) l)) z.rows in
-    siblings-at (tail-is e.rows.now z.i z.rows span.rows) (tail-is e.text.now z.j z.text span.text) (child-behind inv has span.rows span.text is_e is_n)
+    let b = child-behind inv has span.rows span.text is_e is_n in
+    let rows = c.first_child-child.ensures.behind ∙ tail-is e.rows.now z.i z.rows span.rows in
+    record {
+      few = omega (arith, ap length (rows ∙ part-rest e.rows.now (z.i + span.rows)), length-drop (z.i + span.rows) e.rows.now, inv.room.few);
+      others = record { forest = b.forest; rows_are = rows ∙ b.spells.rows_are };
+    }
 
 pub each-behind-rest-requires-in-loop-rest-clause-spelt : goal.each-behind-rest-requires-in-loop-rest-clause-spelt
 each-behind-rest-requires-in-loop-rest-clause-spelt t c =
@@ -1045,7 +1068,7 @@ each-returns-in_err-turn-clause-walks t c =
     → SpellsAll g (tail_at e.rows.now (z.i + span.rows)) (tail_at e.text.now (z.j + span.text)) → act ≡ act_of c.loop-rest.l t g
     = λ t g u v. c.act_of-act.ensures t g
     (c.first_child-child.ensures.child t g (spells-at (front-is e.rows.now z.i z.rows span.rows) (front-is e.text.now z.j z.text span.text) u)
-    (exact-children (tail-is e.rows.now z.i z.rows span.rows) (tail-is e.text.now z.j z.text span.text) v)) in
+    (tail-is e.rows.now z.i z.rows span.rows ∙ v.rows_are)) in
     λ rs ready f sp n h. told-as _ _ _ c.in_err-turn.field-0.0 (c.from_residual-in_err-turn.ensures.1)
     (λ a. Agrees a (place_of k) e.row o.at o.buffer.now c.turn.new.out.buffer.now (looping c.args.how (meaning n) (context_of rs k) f (carry_of k)))
     (loop-refused inv has span.rows span.text is_e is_n act {a = record { converter = c.turn.new.c; at = c.turn.new.out.at; refusal = refusal_number c.in_err-turn.field-0.0.reason; row = c.in_err-turn.field-0.0.row }} (turns-at c.loop-rest.c act rows text (p.row ∙ z.row) c.in_err-turn.ensures.walks)
@@ -1072,7 +1095,7 @@ each-loop-rest-preserved t c =
     → SpellsAll g (tail_at e.rows.now (z.i + span.rows)) (tail_at e.text.now (z.j + span.text)) → act ≡ act_of c.loop-rest.l t g
     = λ t g u v. c.act_of-act.ensures t g
     (c.first_child-child.ensures.child t g (spells-at (front-is e.rows.now z.i z.rows span.rows) (front-is e.text.now z.j z.text span.text) u)
-    (exact-children (tail-is e.rows.now z.i z.rows span.rows) (tail-is e.text.now z.j z.text span.text) v)) in
+    (tail-is e.rows.now z.i z.rows span.rows ∙ v.rows_are)) in
     let kind = ap (λ (q : ℕ). next_loop c.loop-rest.l q act) (c.first_child-child.ensures.kind ∙ kind-is e.rows.now z.i z.rows) in
     let next = loop-next inv has span.rows span.text is_e is_n act {a = went_with c.turn.new.c c.turn.new.out.at} (turns-at c.loop-rest.c act rows text (p.row ∙ z.row) c.in_ok-turn.ensures.walks)
     decide refl c.turn.new.out.few (c.next_loop-l.ensures ∙ kind) in
@@ -1085,6 +1108,7 @@ each-loop-rest-preserved t c =
       text = on-is e.text.now z.j z.text span.text b.text;
       row = omega (arith, b.row, z.row, i-eighth inv);
       lent = c.turn.ensures.lent ∙ z.lent;
+      kept = c.turn.ensures.kept ∙ z.kept;
     }
 
 pub each-returns-clause-walks : goal.each-returns-clause-walks
@@ -1150,7 +1174,7 @@ convert_command_color-returns-then-is_empty-clause-walks t c =
     let head : (u : Model) → u.text ≡ model_text m.text → (rs : List Rule) → Ready c.args.rules.file.now c.args.rules.index.now rs
     → Wrote o.at o.buffer.now (color_alias (get_cmd rs name) ++ (left_paren ++ (u.text ++ left_bracket))) c.put_color_head.new.out.at
     c.put_color_head.new.out.buffer.now
-    = λ u is rs ready. wrote_as (color-head (c.get_cmd.ensures rs ready.decodes) is) (c.put_color_head.ensures name).wrote in
+    = λ u is rs ready. wrote_as (color-head (c.get_cmd.ensures.answers rs ready.decodes) is) (c.put_color_head.ensures name).wrote in
     λ rs ready u f sp found d h.
     let none_here : u.behind.elements ≡ none = no-left u.behind.elements (exact-children b.rows b.text found.spells).rows_are (empty rest.rows.now c.is_empty.ensures c.if-is_empty.true) in
     agrees_after o.few (head u found.text_is rs ready)
@@ -1161,6 +1185,10 @@ convert_command_color-returns-then-is_empty-clause-walks t c =
 pub convert_command_color-returns-then-is_empty-clause-lent : goal.convert_command_color-returns-then-is_empty-clause-lent
 convert_command_color-returns-then-is_empty-clause-lent t c =
     c.put_body_end.ensures.lent ∙ c.put_black.ensures.lent ∙ (c.put_color_head.ensures c.args.name.now).lent
+
+pub convert_command_color-returns-then-is_empty-clause-kept : goal.convert_command_color-returns-then-is_empty-clause-kept
+convert_command_color-returns-then-is_empty-clause-kept t c =
+    c.put_body_end.ensures.kept ∙ c.put_black.ensures.kept ∙ (c.put_color_head.ensures c.args.name.now).kept
 
 pub convert_command_color-span_at-span-requires : goal.convert_command_color-span_at-span-requires
 convert_command_color-span_at-span-requires t c =
@@ -1247,6 +1275,10 @@ convert_command_color-returns-in_err-convert-clause-walks t c =
 pub convert_command_color-returns-in_err-convert-clause-lent : goal.convert_command_color-returns-in_err-convert-clause-lent
 convert_command_color-returns-in_err-convert-clause-lent t c =
     c.convert.ensures.lent ∙ (c.put_color_head.ensures c.args.name.now).lent
+
+pub convert_command_color-returns-in_err-convert-clause-kept : goal.convert_command_color-returns-in_err-convert-clause-kept
+convert_command_color-returns-in_err-convert-clause-kept t c =
+    c.convert.ensures.kept ∙ (c.put_color_head.ensures c.args.name.now).kept
 
 pub convert_command_color-behind-requires-clause-high : goal.convert_command_color-behind-requires-clause-high
 convert_command_color-behind-requires-clause-high t c =
@@ -1371,6 +1403,10 @@ pub convert_command_color-returns-in_err-each-clause-lent : goal.convert_command
 convert_command_color-returns-in_err-each-clause-lent t c =
     c.each.ensures.lent ∙ c.put_color_end.ensures.lent ∙ c.convert.ensures.lent ∙ (c.put_color_head.ensures c.args.name.now).lent
 
+pub convert_command_color-returns-in_err-each-clause-kept : goal.convert_command_color-returns-in_err-each-clause-kept
+convert_command_color-returns-in_err-each-clause-kept t c =
+    c.each.ensures.kept ∙ c.put_color_end.ensures.kept ∙ c.convert.ensures.kept ∙ (c.put_color_head.ensures c.args.name.now).kept
+
 pub convert_command_color-returns-clause-walks : goal.convert_command_color-returns-clause-walks
 convert_command_color-returns-clause-walks t c =
     let k = c.args.c.now in
@@ -1383,7 +1419,7 @@ convert_command_color-returns-clause-walks t c =
     let head : (u : Model) → u.text ≡ model_text m.text → (rs : List Rule) → Ready c.args.rules.file.now c.args.rules.index.now rs
     → Wrote o.at o.buffer.now (color_alias (get_cmd rs name) ++ (left_paren ++ (u.text ++ left_bracket))) c.put_color_head.new.out.at
     c.put_color_head.new.out.buffer.now
-    = λ u is rs ready. wrote_as (color-head (c.get_cmd.ensures rs ready.decodes) is) (c.put_color_head.ensures name).wrote in
+    = λ u is rs ready. wrote_as (color-head (c.get_cmd.ensures.answers rs ready.decodes) is) (c.put_color_head.ensures name).wrote in
     let some = some-left rest.rows.now c.is_empty.ensures c.if-is_empty.false in
     let s = c.span_at-span in
     let n = m.rest.row / 8 in
@@ -1417,6 +1453,11 @@ convert_command_color-returns-clause-lent t c =
     c.put_body_end-2.ensures.lent ∙ c.each.ensures.lent ∙ c.put_color_end.ensures.lent ∙ c.convert.ensures.lent
     ∙ (c.put_color_head.ensures c.args.name.now).lent
 
+pub convert_command_color-returns-clause-kept : goal.convert_command_color-returns-clause-kept
+convert_command_color-returns-clause-kept t c =
+    c.put_body_end-2.ensures.kept ∙ c.each.ensures.kept ∙ c.put_color_end.ensures.kept ∙ c.convert.ensures.kept
+    ∙ (c.put_color_head.ensures c.args.name.now).kept
+
 -- ---- `convert_curly_group`: its children are walked, in Math in an environment of their own, with a mark behind them if all of them are blank
 
 pub convert_curly_group-returns-in_err-convert-in-Math-clause-walks : goal.convert_curly_group-returns-in_err-convert-in-Math-clause-walks
@@ -1443,8 +1484,7 @@ convert_curly_group-returns-in_ok-convert-in-Math-clause-walks t c =
     let e = c.args.e in
     let group = c.group_env-group.result in
     let prev = c.enter_env-prev.ensures in
-    let q = c.children.ensures in
-    λ rs ready f sp n h. agrees-as (curly-math (meaning n) (context_of rs k) f (carry_of k) group c.is_blank_group.result c.in-Math.is c.group_env-group.ensures (c.is_blank_group.ensures f (as-children q.rows q.text sp)))
+    λ rs ready f sp n h. agrees-as (curly-math (meaning n) (context_of rs k) f (carry_of k) group c.is_blank_group.result c.in-Math.is c.group_env-group.ensures (c.is_blank_group.ensures f e.text.now (all-begins sp)))
     (closed c.args.out.now.few (walks-from children (prev.1) c.in_ok-convert-in-Math.ensures.walks rs ready f sp n h)
     c.put_curly_end.ensures.wrote (back-env (place_of k) group (prev.0) c.exit_env.ensures))
 
@@ -1457,7 +1497,7 @@ convert_env-returns-in_default-clause-walks t c =
     let q = c.children.ensures in
     λ rs ready f sp n h. agrees-as
     (env-named (meaning n) (context_of rs k) f (carry_of k) _ (c.trim-name.ensures ∙ ap trim (c.env_name.ensures f (as-children q.rows q.text sp)))
-    ∙ env-absent _ _ (meaning n) (context_of rs k) f (carry_of k) (c.get_env.ensures rs ready.decodes) c.in_default.is)
+    ∙ env-absent _ _ (meaning n) (context_of rs k) f (carry_of k) (c.get_env.ensures.answers rs ready.decodes) c.in_default.is)
     (refused-here NoEnvironment)
 
 pub convert_env-returns-in_err-body-clause-walks : goal.convert_env-returns-in_err-body-clause-walks
@@ -1467,7 +1507,7 @@ convert_env-returns-in_err-body-clause-walks t c =
     let q = c.children.ensures in
     λ rs ready f sp n h. agrees-as
     (env-named (meaning n) (context_of rs k) f (carry_of k) _ (c.trim-name.ensures ∙ ap trim (c.env_name.ensures f (as-children q.rows q.text sp)))
-    ∙ env-found _ _ (meaning n) (context_of rs k) f (carry_of k) c.in-Some.found _ c.env_of-env.result (c.get_env.ensures rs ready.decodes)
+    ∙ env-found _ _ (meaning n) (context_of rs k) f (carry_of k) c.in-Some.found _ c.env_of-env.result (c.get_env.ensures.answers rs ready.decodes)
     c.in-Some.is c.written_name.ensures c.env_of-env.ensures)
     (handed-by _ _ _ c.in_err-body.field-0.0 (take_label (is_list c.env_of-env.result) k.mode) (λ _ _. refl) (c.from_residual.ensures.1)
     (c.in_err-body.ensures.walks rs ready f sp n h))
@@ -1486,7 +1526,7 @@ convert_env-returns-clause-walks t c =
     let good = walks-good k (env_body c.env_of-env.result _) c.args.rules.some (spelt e) c.in_ok-body.ensures.walks refl in
     λ rs ready f sp n h. agrees-as
     (env-named (meaning n) (context_of rs k) f (carry_of k) _ (c.trim-name.ensures ∙ ap trim (c.env_name.ensures f (as-children q.rows q.text sp)))
-    ∙ env-found _ _ (meaning n) (context_of rs k) f (carry_of k) c.in-Some.found _ c.env_of-env.result (c.get_env.ensures rs ready.decodes)
+    ∙ env-found _ _ (meaning n) (context_of rs k) f (carry_of k) c.in-Some.found _ c.env_of-env.result (c.get_env.ensures.answers rs ready.decodes)
     c.in-Some.is c.written_name.ensures c.env_of-env.ensures)
     (subst (λ (b : Bool). Agrees (went_with c.take_label.new.c c.take_label.new.out.at) (place_of k) e.row c.args.out.now.at c.args.out.now.buffer.now c.take_label.new.out.buffer.now (take_label b k.mode (env_body c.env_of-env.result c.written_name.result.now (meaning n) (context_of rs k) f (carry_of k)))) c.is_list.ensures
     (agrees-takes _ k.mode c.args.out.now.few (c.in_ok-body.ensures.walks rs ready f sp n h)
@@ -1772,7 +1812,7 @@ convert_normal_command-returns-in_default-clause-walks t c =
     let k = c.args.c.now in
     let e = c.args.e in
     λ rs ready f sp n h. agrees-as
-    (normal-absent _ c.args.name.now (meaning n) (context_of rs k) f (carry_of k) (c.get_cmd.ensures rs ready.decodes) c.in_default.is)
+    (normal-absent _ c.args.name.now (meaning n) (context_of rs k) f (carry_of k) (c.get_cmd.ensures.answers rs ready.decodes) c.in_default.is)
     (refused-here NoCommand)
 
 pub convert_normal_command-returns-in_err-args-clause-walks : goal.convert_normal_command-returns-in_err-args-clause-walks
@@ -1781,7 +1821,7 @@ convert_normal_command-returns-in_err-args-clause-walks t c =
     let e = c.args.e in
     let name = typst_name k.mode c.args.name.now c.written_name-written.result.now in
     λ rs ready f sp n h. agrees-as
-    (normal-found _ c.args.name.now (meaning n) (context_of rs k) f (carry_of k) c.in-Some.found _ (c.get_cmd.ensures rs ready.decodes)
+    (normal-found _ c.args.name.now (meaning n) (context_of rs k) f (carry_of k) c.in-Some.found _ (c.get_cmd.ensures.answers rs ready.decodes)
     c.in-Some.is c.written_name-written.ensures
     ∙ normal-written c.in-Some.found.class name (meaning n) (context_of rs k) f (carry_of k) c.arguments_of-how.result c.is_stack-stack.result
     c.arguments_of-how.ensures c.is_stack-stack.ensures
@@ -1795,7 +1835,7 @@ convert_normal_command-returns-clause-walks t c =
     let e = c.args.e in
     let name = typst_name k.mode c.args.name.now c.written_name-written.result.now in
     λ rs ready f sp n h. agrees-as
-    (normal-found _ c.args.name.now (meaning n) (context_of rs k) f (carry_of k) c.in-Some.found _ (c.get_cmd.ensures rs ready.decodes)
+    (normal-found _ c.args.name.now (meaning n) (context_of rs k) f (carry_of k) c.in-Some.found _ (c.get_cmd.ensures.answers rs ready.decodes)
     c.in-Some.is c.written_name-written.ensures
     ∙ normal-written c.in-Some.found.class name (meaning n) (context_of rs k) f (carry_of k) c.arguments_of-how.result c.is_stack-stack.result
     c.arguments_of-how.ensures c.is_stack-stack.ensures

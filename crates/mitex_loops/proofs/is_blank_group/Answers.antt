@@ -8,5 +8,5 @@ use Rattle.mitex_loops.proofs.is_blank_group.Goals as goal
 pub returns : goal.returns
 returns c =
     let runs = eights _ _ c.chunks_exact.ensures.runs c.chunks_exact.ensures.size c.chunks_exact.ensures.rest in
-    let answer = all-answers _ _ is_blank (λ x b q k. search (rules, tests)) c.args.children.rows.now runs c.all.result c.all.ensures.runs in
-    λ f sp. blank-answer c.all.result f answer sp
+    let answer = all-answers _ _ is_blank (λ x b q k. search (rules, tests)) c.args.rows.now runs c.all.result c.all.ensures.runs in
+    λ f text sp. blank-answer c.all.result f answer sp

@@ -23,6 +23,7 @@ loop-c-preserved c =
     record {
       flag_alone = flag-on c.args.c.now c.put_part.ensures.flag_alone inv.flag_alone;
       lent = c.put_part.ensures.lent ∙ inv.lent;
+      kept = c.put_part.ensures.kept ∙ inv.kept;
       goes = λ rs e. ran-part c.requires.run_given.0 (inv.goes rs e) (ran-in rs c.args.c.now inv.flag_alone (c.in-Ok.ensures.goes rs e));
     }
 

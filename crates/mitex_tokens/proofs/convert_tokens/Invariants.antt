@@ -15,6 +15,7 @@ invariant-loop-c l =
     record {
       flag_alone : l.c ≡ with_flag l.c.skip_next_space l.initial.c;
       lent : l.out.buffer.ghost_name ≡ l.initial.out.buffer.ghost_name;
+      kept : length l.out.buffer.now ≡ length l.initial.out.buffer.now;
       goes :
           (rs : List Rule) → rules_of l.rules.file.now ≡ some rs
           → RanTo (context_of rs l.initial.c) l.initial.c.skip_next_space l.rows l.text l.initial.out l.i l.j l.c.skip_next_space l.out;

@@ -4,13 +4,16 @@ use lib.Seq.{length-take-le}
 use Rattle.std.proofs.lemmas.Result.{err_from_is_err_and}
 use Rattle.mitex_meaning.specs.Outcome.Label.{unheld}
 use Rattle.mitex_meaning.specs.State.{context_of}
-use Rattle.mitex_tokens.proofs.Coming.{comes-lent}
+use Rattle.mitex_tokens.proofs.Coming.{comes-lent, comes-kept}
 use Rattle.mitex_tokens.proofs.Running.{first-fits, first_runs, first-refused, rows-eight}
-use Rattle.mitex_tokens.proofs.Copying.{copies-lent}
+use Rattle.mitex_tokens.proofs.Copying.{copies-lent, copies-kept}
 use Rattle.mitex_tokens.proofs.put_part.Goals as goal
 
 pub returns-then-is_copied-clause-lent : goal.returns-then-is_copied-clause-lent
 returns-then-is_copied-clause-lent c = copies-lent c.requires.run_given.0 c.put_copied.ensures
+
+pub returns-then-is_copied-clause-kept : goal.returns-then-is_copied-clause-kept
+returns-then-is_copied-clause-kept c = copies-kept c.requires.run_given.0 c.put_copied.ensures
 
 pub number-u-requires : goal.number-u-requires
 number-u-requires c =
@@ -40,3 +43,8 @@ pub returns-clause-lent : goal.returns-clause-lent
 returns-clause-lent c =
     let k = c.args.rules.some in
     comes-lent (c.put_token.ensures.comes k.rules unheld k.ready.decodes) c.in_ok-put_token.was
+
+pub returns-clause-kept : goal.returns-clause-kept
+returns-clause-kept c =
+    let k = c.args.rules.some in
+    comes-kept (c.put_token.ensures.comes k.rules unheld k.ready.decodes) c.in_ok-put_token.was

@@ -16,7 +16,7 @@ returns-in_default-clause-comes c =
     λ x l e.
     comes-as
     (ap (λ (n : List ℕ). symbol_by n (get_cmd x.rules n) (carrying false l)) (sym c.past_first-name.ensures)
-    ∙ symbol-absent _ (carrying false l) (c.get_cmd.ensures x.rules e) c.in_default.is)
+    ∙ symbol-absent _ (carrying false l) (c.get_cmd.ensures.answers x.rules e) c.in_default.is)
     (declines refl)
 
 pub returns-clause-comes : goal.returns-clause-comes
@@ -24,5 +24,5 @@ returns-clause-comes c =
     λ x l e.
     comes-as
     (ap (λ (n : List ℕ). symbol_by n (get_cmd x.rules n) (carrying false l)) (sym c.past_first-name.ensures)
-    ∙ symbol-found _ (carrying false l) (c.get_cmd.ensures x.rules e) c.in-Some.is c.written_name.ensures)
+    ∙ symbol-found _ (carrying false l) (c.get_cmd.ensures.answers x.rules e) c.in-Some.is c.written_name.ensures)
     (accepts refl c.put.ensures)

@@ -8,8 +8,8 @@ use Rattle.passes.proofs.measure.Given as goal
 
 abbrev pub invariant-loop-s : goal.invariant-loop-s
 invariant-loop-s l =
-    (w : BlocksUpTo l.d.rules.file.now l.d.rules.index.now l.d.rows.now l.d.text.now l.initial.s l.d.blocks)
+    (w : BlocksUpTo l.d.rules.file.now l.d.rules.index.now l.d.rows.now l.d.text.now l.initial.s l.blocks)
     → BlocksPassed w l.was true l.kept l.s
 
 abbrev pub decreases-loop-s : goal.decreases-loop-s
-decreases-loop-s l = l.d.blocks - l.s.block
+decreases-loop-s l = l.blocks - l.s.block

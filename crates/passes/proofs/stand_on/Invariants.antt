@@ -3,4 +3,4 @@ use Rattle.passes.specs.Passes.{Reaches}
 use Rattle.passes.proofs.stand_on.Given as goal
 
 abbrev pub invariant-loop : goal.invariant-loop
-invariant-loop l = Reaches l.d.rows.now l.block l.counter l.i l.j
+invariant-loop l = Reaches l.rows l.block l.counter l.i l.j

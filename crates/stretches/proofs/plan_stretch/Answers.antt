@@ -6,6 +6,7 @@ use Rattle.std.proofs.lemmas.Result.{err_from_is_err_and}
 use native.Mathlib.Omega.{arith}
 use Rattle.ledger.proofs.Fitting.{fits-row}
 use Rattle.passes.proofs.Ends.{ends-rise}
+use Rattle.passes.proofs.Starting.{some-blocks}
 use Rattle.stretches.specs.Plans.StretchComes.{passed_over, refused_there, noted_there}
 use Rattle.stretches.proofs.Measuring.{stretch-begins, whole, stretch-refused, stretch-pieces}
 use Rattle.stretches.proofs.Measuring.{stretch-block, stretch-size, stretch-noted}
@@ -16,6 +17,9 @@ returns-then-k-s c w = passed_over c.if-k-s.true refl
 
 pub carry_before-requires : goal.carry_before-requires
 carry_before-requires c h = fits-row _ _ _ c.requires.ledger_fits.fitting _ (omega arith)
+
+pub stand_on-from-requires-clause-some_blocks : goal.stand_on-from-requires-clause-some_blocks
+stand_on-from-requires-clause-some_blocks c = some-blocks c.args.d.open c.args.k (omega arith)
 
 pub measure-requires-clause-blocks_up_to : goal.measure-requires-clause-blocks_up_to
 measure-requires-clause-blocks_up_to c =

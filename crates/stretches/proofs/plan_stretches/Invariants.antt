@@ -8,7 +8,7 @@ use Rattle.stretches.proofs.plan_stretches.Given as goal
 
 abbrev pub invariant-loop-k : goal.invariant-loop-k
 invariant-loop-k l =
-    PlanStands l.d.rows.now l.d.blocks l.s
+    PlanStands l.d.content.rows.now l.d.blocks l.s
     × (length l.plan ≡ plan_size)
-    × ((w : Document l.d.rules.file.now l.d.rules.index.now l.d.rows.now l.d.text.now l.d.blocks)
+    × ((w : Document l.d.content.rules.file.now l.d.content.rules.index.now l.d.content.rows.now l.d.content.text.now l.d.blocks)
     → PlanSoFar w l.d.mode l.ledger l.named l.k-index l.s l.plan)

@@ -15,5 +15,5 @@ returns c =
     λ f sp.
     let s = stands (c.begin.ensures.finds f sp) c.in-Some.is in
     let at = subst₂ (Begins (children_of s.tree)) (sym c.children_at.ensures.rows) (sym c.children_at.ensures.text) (found-children s) in
-    env-some f s.tree s.is c.first_token-name.result c.is_some_and.result (c.first_token-name.ensures (children_of s.tree) at) (λ e. search rules)
+    env-some f s.tree s.is c.first_token-name.result c.is_some_and.result (c.first_token-name.ensures.token (children_of s.tree) at) (λ e. search rules)
     (λ x e. search rules)

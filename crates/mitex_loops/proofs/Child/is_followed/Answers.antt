@@ -5,4 +5,4 @@ use Rattle.mitex_loops.proofs.Others.{follows-by}
 use Rattle.mitex_loops.proofs.Child.is_followed.Goals as goal
 
 pub returns : goal.returns
-returns c = λ t f m. ap not c.is_empty.ensures ∙ follows-by f m.others.rows_are
+returns c = λ t f m. ap not c.is_empty.ensures ∙ follows-by f m.others

@@ -29,19 +29,19 @@ name_at-requires c = few c.args.self.some c.count_of.result c.rank-k.result c.co
 pub rule_at-requires : goal.rule_at-requires
 rule_at-requires c = few c.args.self.some c.count_of.result c.rank-k.result c.count_of.ensures.0 c.if-k-count_of.true
 
-pub returns-then-eq : goal.returns-then-eq
-returns-then-eq c =
+pub returns-then-eq-clause-answers : goal.returns-then-eq-clause-answers
+returns-then-eq-clause-answers c =
     λ rs e.
     let d = rules-counted c.args.self.file.now rs e in
     let q = d.0 in
     let n = c.count_of.ensures.0 in
     let k = c.if-k-count_of.true in
     let t = ap (λ x. same x c.args.name.now) (sym (c.name_at.ensures rs e)) ∙ sym (c.eq.ensures ∙ same-is c.name_at.result.now c.args.name.now) ∙ c.if-eq.true in
-    ap some (ap (λ x. rule_found x c.rule_at.result) (sym (same_true _ _ t)) ∙ c.rule_at.ensures rs e)
+    ap some (ap (λ x. rule_found x c.rule_at.result) (sym (same_true _ _ t)) ∙ c.rule_at.ensures.rule rs e)
     ∙ sym (get-same rs c.args.name.now c.rank-k.result d.1 (c.rank-k.ensures rs e) (omega arith) t)
 
-pub returns-else-k-count_of : goal.returns-else-k-count_of
-returns-else-k-count_of c =
+pub returns-else-k-count_of-clause-answers : goal.returns-else-k-count_of-clause-answers
+returns-else-k-count_of-clause-answers c =
     λ rs e.
     let d = rules-counted c.args.self.file.now rs e in
     let q = d.0 in

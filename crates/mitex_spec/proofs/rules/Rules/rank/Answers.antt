@@ -5,7 +5,6 @@ use mathlib.Core.List.{List}
 use Prim.Native.Nat.{ℕ, ◌+◌, ◌/◌, ◌-◌, ◌≤◌, ◌<◌}
 use lib.ListN.{length}
 use Rattle.text.specs.Compare.{precedes}
-use Rattle.text.proofs.Compare.{precedes-is}
 use Rattle.mitex_spec.specs.Index.{SomeRules}
 use Rattle.mitex_spec.proofs.Firsts.{index-long, rank_between}
 use Rattle.mitex_spec.proofs.Index.{ready_for, ready-numbered}
@@ -53,8 +52,8 @@ name_at-requires c =
     let t = c.loop-low-test.true in
     record { numbered = ready-numbered s; few = omega arith }
 
-pub loop-low-preserved-then-lt : goal.loop-low-preserved-then-lt
-loop-low-preserved-then-lt c =
+pub loop-low-preserved-then-precedes : goal.loop-low-preserved-then-precedes
+loop-low-preserved-then-precedes c =
     let t = c.loop-low-test.true in (
       omega arith,
       c.loop-low.invariant.1,
@@ -63,7 +62,7 @@ loop-low-preserved-then-lt c =
           let top = r.2 in
           let d = rules-counted c.args.self.file.now rs e in (
             rank-high rs c.args.name.now (middle c.loop-low.low c.loop-low.high) d.1 (omega arith)
-                (tested c.args.name.now (c.name_at.ensures rs e) (c.lt.ensures ∙ precedes-is c.name_at.result.now c.args.name.now) c.if-lt.true),
+                (tested c.args.name.now (c.name_at.ensures rs e) c.precedes.ensures c.if-precedes.true),
             r.1,
             top,
           ),
@@ -79,7 +78,7 @@ loop-low-preserved c =
           let top = r.2 in (
             r.0,
             rank-low rs c.args.name.now (middle c.loop-low.low c.loop-low.high) (omega arith)
-                (tested c.args.name.now (c.name_at.ensures rs e) (c.lt.ensures ∙ precedes-is c.name_at.result.now c.args.name.now) c.if-lt.false),
+                (tested c.args.name.now (c.name_at.ensures rs e) c.precedes.ensures c.if-precedes.false),
             omega arith,
           ),
     )

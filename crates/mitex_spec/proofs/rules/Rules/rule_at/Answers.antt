@@ -3,7 +3,7 @@ use mathlib.Core.Path.{refl, sym, ◌∙◌, ap}
 use Prim.Native.Nat.{◌+◌, ◌-◌}
 use lib.ListN.{length, take, drop}
 use Rattle.std.proofs.Common.{rules}
-use Rattle.mitex_spec.proofs.LookUp.{located, located-given, name-room, alias-room, found-is, lent-map, part_of}
+use Rattle.mitex_spec.proofs.LookUp.{located, located-given, name-room, alias-room, found-is, lent-map, lent-in, part_of}
 use Rattle.mitex_spec.proofs.rules.Rules.rule_at.Goals as goal
 
 pub rule_row_at-row-requires : goal.rule_row_at-row-requires
@@ -28,8 +28,8 @@ map-requires c =
     alias-room (located-given c.requires) c.rule_row_at-row.result.now c.wide_u32.result c.read_u16.result
     c.rule_row_at-row.ensures.0 c.wide_u32.ensures.0 c.read_u16.ensures.0 size (sym c.alias_size.ensures.size ∙ e)
 
-pub returns : goal.returns
-returns c =
+pub returns-clause-rule : goal.returns-clause-rule
+returns-clause-rule c =
     λ rs e.
     let file = c.args.self.file.now in
     let at = c.wide_u32.result + c.read_u16.result in
@@ -38,3 +38,9 @@ returns c =
     c.rule_row_at-row.ensures.0 c.wide_u32.ensures.0 c.read_u16.ensures.0 _ refl
     (lent-map text c.alias_size.result c.map.result (λ n s q. search rules) c.map.ensures.cases
     ∙ ap (λ o. part_of o text) c.alias_size.ensures.size)
+
+pub returns-clause-inside : goal.returns-clause-inside
+returns-clause-inside c =
+    let room = name-room (located-given c.requires) c.rule_row_at-row.result.now c.wide_u32.result c.read_u16.result
+    c.rule_row_at-row.ensures.0 c.wide_u32.ensures.0 c.read_u16.ensures.0 in
+    lent-in c.args.self.file.now (c.wide_u32.result + c.read_u16.result) room c.alias_size.result c.map.result (λ n s q. search rules) c.map.ensures.cases

@@ -18,12 +18,12 @@ pub returns-in-Some-first_token : goal.returns-in-Some-first_token
 returns-in-Some-first_token c =
     λ f sp. let s = stands (c.begin.ensures.finds f sp) c.in-Some.is in
     let at = subst₂ (Begins (children_of s.tree)) (sym c.children_at.ensures.rows) (sym c.children_at.ensures.text) (found-children s) in
-    ap text_told (sym c.in-Some-first_token.is) ∙ (c.first_token.ensures (children_of s.tree) at).text_is
+    ap text_told (sym c.in-Some-first_token.is) ∙ (c.first_token.ensures.token (children_of s.tree) at).text_is
     ∙ ap (λ (g : Forest). text_in (first_tokens g)) (sym (children-found s))
 
 pub returns-in-None : goal.returns-in-None
 returns-in-None c =
     λ f sp. let s = stands (c.begin.ensures.finds f sp) c.in-Some.is in
     let at = subst₂ (Begins (children_of s.tree)) (sym c.children_at.ensures.rows) (sym c.children_at.ensures.text) (found-children s) in
-    ap text_told (sym c.in-None.is) ∙ (c.first_token.ensures (children_of s.tree) at).text_is
+    ap text_told (sym c.in-None.is) ∙ (c.first_token.ensures.token (children_of s.tree) at).text_is
     ∙ ap (λ (g : Forest). text_in (first_tokens g)) (sym (children-found s))

@@ -6,6 +6,7 @@ use native.Mathlib.Omega.{arith}
 use lib.ListN.{length, get_or, length-take, length-drop}
 use lib.Seq.{length-take-le}
 use Rattle.text.specs.Writing.{cap}
+use Rattle.text.proofs.Slices.{part-at}
 use Rattle.mitex_syntax.specs.Tree.{Forest}
 use Rattle.mitex_syntax.specs.Rows.{num_of}
 use Rattle.mitex_syntax.specs.Spells.{Begins, SomeForest}
@@ -36,11 +37,14 @@ slice_bounds-result-end c =
     sym (length-take-le _ c.args.self.text.now
     (text-here c.args.self.some inv.1 (some-left _ c.loop-rows-test.ensures) inv.0 c.number-n.ensures.0 c.if-rows-eq1.true))
 
-pub returns-then-rows-eq1 : goal.returns-then-rows-eq1
-returns-then-rows-eq1 c =
+pub returns-then-rows-eq1-clause-token : goal.returns-then-rows-eq1-clause-token
+returns-then-rows-eq1-clause-token c =
     let inv = c.loop-rows.invariant in
     λ f sp. first_found (inv.1 f sp) (some-left _ c.loop-rows-test.ensures) inv.0 c.args.self.some.short _ c.number-n.ensures.0
     c.if-rows-eq1.true _ refl refl
+
+pub returns-then-rows-eq1-clause-inside : goal.returns-then-rows-eq1-clause-inside
+returns-then-rows-eq1-clause-inside c = part-at 0 c.number-n.result (omega arith) refl
 
 pub slice_bounds-rows-end : goal.slice_bounds-rows-end
 slice_bounds-rows-end c =
@@ -55,5 +59,5 @@ loop-rows-preserved c =
           c.if-rows-eq1.false).1,
     )
 
-pub returns : goal.returns
-returns c = λ f sp. token-none (first-none (c.loop-rows.invariant.1 f sp) (none-left _ c.loop-rows-test.ensures))
+pub returns-clause-token : goal.returns-clause-token
+returns-clause-token c = λ f sp. token-none (first-none (c.loop-rows.invariant.1 f sp) (none-left _ c.loop-rows-test.ensures))

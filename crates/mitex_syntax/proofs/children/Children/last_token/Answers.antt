@@ -4,15 +4,16 @@ use mathlib.Core.List.{List}
 use Prim.Native.Nat.{ℕ, ◌≤◌, ◌<◌, ◌-◌}
 use native.Mathlib.Omega.{arith}
 use lib.ListN.{length, get_or, take, drop, length-take, length-drop}
-use lib.Seq.{length-take-le}
+use lib.Seq.{length-take-le, take-length}
 use Rattle.text.specs.Writing.{cap}
 use Rattle.text.proofs.Writing.{part-rest}
+use Rattle.text.proofs.Slices.{part-at, part-of-part}
 use Rattle.mitex_syntax.specs.Tree.{Forest}
 use Rattle.mitex_syntax.specs.Rows.{num_of, Spans}
 use Rattle.mitex_syntax.specs.Spells.{Begins, SomeForest}
 use Rattle.mitex_syntax.specs.Places.{LastHop}
 use Rattle.mitex_syntax.specs.declared.Span.{Span}
-use Rattle.mitex_syntax.proofs.Tokens.{Lasts, LastSteps, last-spans, last-next, last-inside, last_found, last-bare, last_none, token-none}
+use Rattle.mitex_syntax.proofs.Tokens.{Lasts, LastSteps, last-spans, last-next, last-inside, last_found, last-bare, last-start, last_none, token-none}
 use Rattle.mitex_syntax.proofs.children.Children.last_token.Goals as goal
 use Rattle.mitex_syntax.proofs.children.Children.last_token.Goals.{else-rows-eq8-via-then-rows-eq8+else-rows-eq1, else-rows-eq8-via-else-rows-eq8}
 
@@ -38,6 +39,12 @@ lasts-rest :
     {f : Forest} (l r : List ℕ) (s : Span) → Lasts f (drop s.rows l) (drop s.text r)
     → Lasts f (take (length l - s.rows) (drop s.rows l)) (take (length r - s.text) (drop s.text r))
 lasts-rest {f} l r s w = subst₂ (Lasts f) (sym (part-rest l s.rows)) (sym (part-rest r s.text)) w
+
+pub loop-rows-init : goal.loop-rows-init
+loop-rows-init c =
+    let pre = c.args.self.some in
+    let text = c.args.self.text.now in
+    (pre.few, pre.short, λ f sp. last-start f _ _ sp, part-at 0 (length text) (omega arith) (sym (take-length text)))
 
 pub hop-s-requires : goal.hop-s-requires
 hop-s-requires c =
@@ -74,6 +81,10 @@ loop-rows-preserved c =
       rest_few c.loop-rows.text.now c.hop-s.result.text inv.1,
       λ f sp. lasts-rest c.loop-rows.rows.now c.loop-rows.text.now c.hop-s.result
           (last-next (inv.2 f sp) (omega (arith, c.loop-rows-test.true)) inv.0 inv.1 c.hop-s.result c.hop-s.ensures (omega (arith, c.loop-rows-test.true))).lasts,
+      part-of-part
+          (part-at c.hop-s.result.text (length c.loop-rows.text.now - c.hop-s.result.text)
+          (steps c.args.self.some inv.0 inv.1 inv.2 (omega (arith, c.loop-rows-test.true)) c.hop-s.ensures).stop refl)
+          inv.3,
     )
 
 pub slice_bounds-result-end : goal.slice_bounds-result-end
@@ -82,14 +93,17 @@ slice_bounds-result-end c =
     sym (length-take-le _ c.loop-rows.text.now
     (text-here c.args.self.some inv.0 inv.1 inv.2 c.if-rows-eq8.true c.number.ensures.0 c.if-rows-eq1.true))
 
-pub returns-then-rows-eq1 : goal.returns-then-rows-eq1
-returns-then-rows-eq1 c =
+pub returns-then-rows-eq1-clause-token : goal.returns-then-rows-eq1-clause-token
+returns-then-rows-eq1-clause-token c =
     let inv = c.loop-rows.invariant in
     let q = c.if-rows-eq8.true in
     λ f sp. last_found (inv.2 f sp) (omega arith) inv.0 inv.1 q _ c.number.ensures.0 c.if-rows-eq1.true _ refl refl
 
-pub returns : goal.returns
-returns c =
+pub returns-then-rows-eq1-clause-inside : goal.returns-then-rows-eq1-clause-inside
+returns-then-rows-eq1-clause-inside c = part-of-part (part-at 0 c.number.result (omega arith) refl) c.loop-rows.invariant.3
+
+pub returns-clause-token : goal.returns-clause-token
+returns-clause-token c =
     let inv = c.loop-rows.invariant in
     elim c.else-rows-eq8.branch [
       | else-rows-eq8-via-then-rows-eq8+else-rows-eq1 w ↦

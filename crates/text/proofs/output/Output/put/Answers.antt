@@ -14,4 +14,5 @@ returns c =
             c.min-from.ensures c.min-inside.ensures (omega arith) c.copy_from_slice.ensures.after;
       };
       lent = refl;
+      kept = omega arith;
     }

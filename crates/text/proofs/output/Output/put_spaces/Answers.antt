@@ -14,4 +14,5 @@ returns c =
             c.min-from.ensures c.min-inside.ensures (omega arith) (c.fill.ensures.after (λ y e. e));
       };
       lent = refl;
+      kept = omega arith;
     }

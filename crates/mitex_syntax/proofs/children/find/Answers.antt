@@ -11,7 +11,7 @@ use Rattle.mitex_syntax.specs.Places.Placed.{missing, there}
 use Rattle.mitex_syntax.proofs.Trees.{ChildPart, child-part, spans}
 use Rattle.mitex_syntax.proofs.Places.{spot-in}
 use Rattle.mitex_syntax.proofs.Seeking.{Seeks, seek-element, seek_found, seek-next, seek-none}
-use Rattle.mitex_syntax.proofs.children.Children.find.Goals as goal
+use Rattle.mitex_syntax.proofs.children.find.Goals as goal
 
 -- in a turn of the loop there is an element: the child that `span_at` measures
 kid :

@@ -6,12 +6,12 @@ use Rattle.mitex_syntax.specs.Tree.{Forest}
 use Rattle.mitex_syntax.specs.Spells.{Begins}
 use Rattle.mitex_syntax.specs.Places.{is_wanted}
 use Rattle.mitex_syntax.proofs.Seeking.{Seeks}
-use Rattle.mitex_syntax.proofs.children.Children.find.Given as goal
+use Rattle.mitex_syntax.proofs.children.find.Given as goal
 
 abbrev pub invariant-loop-i : goal.invariant-loop-i
 invariant-loop-i l =
-    (l.i ≤ length l.self.rows.now) × (l.j ≤ length l.self.text.now)
-    × ((f : Forest) → Begins f (drop l.initial.i l.self.rows.now) (drop l.initial.j l.self.text.now) → Seeks (is_wanted l.wanted) f l.self.rows.now l.self.text.now l.initial.i l.i l.j)
+    (l.i ≤ length l.rows) × (l.j ≤ length l.text)
+    × ((f : Forest) → Begins f (drop l.initial.i l.rows) (drop l.initial.j l.text) → Seeks (is_wanted l.wanted) f l.rows l.text l.initial.i l.i l.j)
 
 abbrev pub decreases-loop-i : goal.decreases-loop-i
-decreases-loop-i l = length l.self.rows.now - l.i
+decreases-loop-i l = length l.rows - l.i
