@@ -172,8 +172,8 @@ fn deliver(
         return;
     }
     let end = ROW_SIZE * d.blocks;
-    out.copy_from_slice(&draft[..at]);
-    ledger[..end].copy_from_slice(&draft_rows[..end]);
+    text::copy_bytes(out, &draft[..at]);
+    text::copy_bytes(&mut ledger[..end], &draft_rows[..end]);
 }
 
 // The blocks of a document, drafted and then delivered: the text, and a row for each.

@@ -171,7 +171,7 @@ fn fill_label(out: &mut [u8], converter: Converter, len: usize)
     ensures { out.new ≡ take len converter.label ++ replicate (label_most - len) 0 }
 {
     let label = converter.label;
-    out[..len].copy_from_slice(&label[..len]);
+    text::copy_bytes(&mut out[..len], &label[..len]);
     out[len..].fill(0);
 }
 

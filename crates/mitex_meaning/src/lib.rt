@@ -290,7 +290,7 @@ impl Converter {
         ensures { result ≡ with_label s.now self }
     {
         let mut label = self.label;
-        label[..s.len()].copy_from_slice(s);
+        text::copy_bytes(&mut label[..s.len()], s);
         Converter {
             label,
             label_len: s.len(),

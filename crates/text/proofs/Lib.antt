@@ -5,4 +5,3 @@ pub mod Writing
 pub mod Decimal
 pub mod Outputs
 pub mod Slices
-pub mod Moving

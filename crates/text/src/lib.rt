@@ -138,36 +138,20 @@ pub fn clear(out: &mut [u8])
     out.fill(0);
 }
 
-// `n` bytes moved down from `old` to `new`, the lowest first.
-fn move_down(out: &mut [u8], old: usize, new: usize, n: usize)
-    requires { (new ≤ old) × (old + n ≤ length out.old) }
-    ensures { out.new ≡ sets out.old new (take n (drop old out.old)) }
+// The bytes of `s` over as many others. It goes byte by byte, since for `copy_from_slice` the archive for C would need `memmove` from outside.
+pub fn copy_bytes(to: &mut [u8], s: &[u8])
+    requires { length to.old ≡ length s.now }
+    ensures { to.new ≡ s.now }
 {
-    for i in 0..n {
-        out[new + i] = out[old + i];
+    for i in 0..s.len() {
+        to[i] = s[i];
     }
 }
 
-// `n` bytes moved up from `old` to `new`, the highest first.
-fn move_up(out: &mut [u8], old: usize, new: usize, n: usize)
-    requires { (old ≤ new) × (new + n ≤ length out.old) }
-    ensures { out.new ≡ sets out.old new (take n (drop old out.old)) }
-{
-    let mut i = n;
-    while 0 < i {
-        i -= 1;
-        out[new + i] = out[old + i];
-    }
-}
-
-// `n` bytes moved from `old` to `new`; the two parts may overlap. Not by `copy_within`: for that the archive would need `memmove` from outside.
+// `n` bytes moved from `old` to `new`; the two parts may overlap.
 pub fn move_bytes(out: &mut [u8], old: usize, new: usize, n: usize)
     requires { (old + n ≤ length out.old) × (new + n ≤ length out.old) }
     ensures { out.new ≡ sets out.old new (take n (drop old out.old)) }
 {
-    if new < old {
-        move_down(out, old, new, n);
-    } else {
-        move_up(out, old, new, n);
-    }
+    out.copy_within(old..old + n, new);
 }

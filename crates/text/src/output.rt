@@ -3,7 +3,7 @@
 ghost use Rattle.std.specs.Prelude.{◌≡◌, ◌+◌, ◌≤◌, min, length};
 ghost use Rattle.text.specs.Writing.{cap};
 
-use super::low_byte;
+use super::{copy_bytes, low_byte};
 
 const CAP: usize = 4294967296;
 
@@ -35,7 +35,7 @@ impl Output<'_> {
     {
         let from = self.at.min(self.buffer.len());
         let inside = s.len().min(self.buffer.len() - from);
-        self.buffer[from..from + inside].copy_from_slice(&s[..inside]);
+        copy_bytes(&mut self.buffer[from..from + inside], &s[..inside]);
         self.at = forth(self.at, s.len());
     }
 

@@ -236,7 +236,7 @@ fn put_bytes(out: &mut [u8], at: usize, s: &[u8])
     requires { at + length s.now ≤ length out.old }
     ensures { out.new ≡ sets out.old at s.now }
 {
-    out[at..at + s.len()].copy_from_slice(s);
+    text::copy_bytes(&mut out[at..at + s.len()], s);
 }
 
 // A row's number, its highest byte first.

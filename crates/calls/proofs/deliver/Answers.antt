@@ -3,4 +3,4 @@ use Rattle.calls.proofs.Delivering.{delivered}
 use Rattle.calls.proofs.deliver.Goals as goal
 
 pub returns : goal.returns
-returns c = λ w. delivered w c.if-draft-at.false c.copy_from_slice.ensures.after c.copy_from_slice-2.ensures.after
+returns c = λ w. delivered w c.if-draft-at.false c.copy_bytes.ensures c.copy_bytes-2.ensures

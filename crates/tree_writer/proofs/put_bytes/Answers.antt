@@ -9,5 +9,5 @@ use Rattle.tree_writer.proofs.put_bytes.Goals as goal
 pub returns : goal.returns
 returns c =
     let args = c.args in
-    ap (put_mid args.at (args.at + length args.s.now - args.at) args.out.now) c.copy_from_slice.ensures.after
+    ap (put_mid args.at (args.at + length args.s.now - args.at) args.out.now) c.copy_bytes.ensures
     ∙ put-part args.out.now args.s.now args.at c.requires

@@ -10,8 +10,8 @@ returns c =
       wrote = record {
         next = c.forth-self.ensures;
         over =
-            stored-inside c.args.s.now self.buffer.now c.copy_from_slice.new.self self.at c.min-from.result c.min-inside.result _
-            c.min-from.ensures c.min-inside.ensures (omega arith) c.copy_from_slice.ensures.after;
+            stored-inside c.args.s.now self.buffer.now c.copy_bytes.new.to self.at c.min-from.result c.min-inside.result _
+            c.min-from.ensures c.min-inside.ensures (omega arith) c.copy_bytes.ensures;
       };
       lent = refl;
       kept = omega arith;
